@@ -1,0 +1,3 @@
+-- What the contracts of `bitmap` cite.
+pub mod Mask
+pub mod Collisions

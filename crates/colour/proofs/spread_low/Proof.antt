@@ -1,0 +1,15 @@
+use borrow.Author.Needs.{needs}
+use Prim.Native.Nat.{_*_, _%_}
+use lib.Bits.{bitAnd, bitOr}
+use Rattle.laws.proofs.Sweep.{same}
+use Rattle.colour.proofs.spread_low.Statement.{statement}
+use Rattle.colour.proofs.spread_low.Tie as tie
+use Rattle.colour.proofs.spread_low.Reads as reads
+use Rattle.colour.proofs.spread_low.Lts as lts
+
+-- src/lib.rt:7:1
+returns : tie.Need-returns
+returns c = same 256 (λ x. bitOr (bitAnd x 15) (bitAnd (x * 16 % 256) 240)) (λ x. 17 * (x % 16)) tt (c .args .x) (c .fits .x .fits)
+
+pub spread-low-spec : {M : Type 1} → statement M
+spread-low-spec = tie.close (tie.spec returns)

@@ -1,0 +1,2 @@
+-- What the contracts of `colour` cite.
+pub mod Colour

@@ -1,0 +1,47 @@
+// Colours: one from two palette bytes, and the 32 of the whole palette.
+ghost use mathlib.Core.Path.{_≡_};
+ghost use Prim.Native.Nat.{_*_, _/_, _%_, _<_};
+ghost use Rattle.colour.specs.Colour.{colour, coloursOf};
+
+// The low four bits of a palette byte, spread over a byte.
+fn spread_low(x: u8) -> u8
+    ensures { λ r. ⌜ r ≡ 17 * (x % 16) ⌝ }
+{
+    (x & 0xF) | ((x << 4) & 0xF0)
+}
+
+// Its high four bits, spread over a byte.
+fn spread_high(x: u8) -> u8
+    ensures { λ r. ⌜ r ≡ 17 * (x / 16) ⌝ }
+{
+    ((x >> 4) & 0xF) | (x & 0xF0)
+}
+
+fn wide(x: u8) -> u32
+    ensures { λ r. ⌜ (r ≡ x) × (r < 256) ⌝ }
+{
+    x as u32
+}
+
+// The colour of the palette bytes `rg` and `b`: red in the lowest byte, then green, blue, and 255.
+pub fn rgb(rg: u8, b: u8) -> u32
+    ensures { λ r. ⌜ r ≡ colour rg b ⌝ }
+{
+    wide(spread_low(rg))
+        + 256 * wide(spread_high(rg))
+        + 65536 * wide(spread_low(b))
+        + 16777216 * 255
+}
+
+// The 32 colours of a palette: what the cache holds once it is rebuilt.
+pub fn palette_recompute(cram: [u8; 64]) -> [u32; 32]
+    ensures { λ r. ⌜ r ≡ coloursOf cram ⌝ }
+{
+    let mut color_cache = [0u32; 32];
+    let mut color: usize = 0;
+    while color < 32 {
+        color_cache[color] = rgb(cram[2 * color], cram[2 * color + 1]);
+        color += 1;
+    }
+    color_cache
+}

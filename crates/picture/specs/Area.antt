@@ -1,0 +1,51 @@
+-- The two areas: their sizes, and the row of each that a line draws.
+-- Assumes nothing.
+use mathlib.Core.Bool.{Bool, cond}
+use mathlib.Core.List.{List}
+use Prim.Native.Nat.{ℕ, _+_, _*_, _/_, _%_}
+use Rattle.laws.specs.Lists.{at}
+use Rattle.laws.specs.Paint.{byteOfColour}
+use Rattle.laws.specs.Table.{table}
+use Rattle.picture.specs.View.{View, visible, effective}
+use Rattle.picture.specs.Picture.{Row, picture}
+use Rattle.picture.specs.declared.RenderArea.{RenderArea}
+use Rattle.picture.specs.declared.RenderArea.the-variants.{VisibleOnly, EffectiveArea}
+
+-- "visible frame .. (160 x 144 x 4); effective frame .. (256 x 224 x 4)"; "row counter-24 for counter 24 to 167", "row counter for 0 to 223"
+abbrev pub columns : RenderArea → ℕ
+columns VisibleOnly = 160
+columns EffectiveArea = 256
+
+abbrev pub rows : RenderArea → ℕ
+rows VisibleOnly = 144
+rows EffectiveArea = 224
+
+abbrev pub firstLine : RenderArea → ℕ
+firstLine VisibleOnly = 24
+firstLine EffectiveArea = 0
+
+-- "row step at least 640 or 1,024", "visible frame at least 92,160 bytes", "effective frame at least 229,376"
+abbrev pub rowSize : RenderArea → ℕ
+rowSize VisibleOnly = 640
+rowSize EffectiveArea = 1024
+
+abbrev pub frameSize : RenderArea → ℕ
+frameSize VisibleOnly = 92160
+frameSize EffectiveArea = 229376
+
+-- the view that row y of an area has, by the registers g and the latched scroll
+abbrev pub viewOf : RenderArea → (ℕ → ℕ) → ℕ → ℕ → View
+viewOf VisibleOnly g scroll y = visible g scroll y
+viewOf EffectiveArea g scroll y = effective g y
+
+-- the picture of row y, by the registers, the latched scroll and video memory
+unfoldable pub pictureOf : RenderArea → List ℕ → ℕ → List ℕ → ℕ → Row
+pictureOf a reg scroll vram y = picture (at vram) (at reg) (viewOf a (at reg) scroll y)
+
+-- the bytes of a picture: the four bytes of its colour at each column
+unfoldable pub rowBytes : List ℕ → ℕ → Row → List ℕ
+rowBytes colours width p = table (width * 4) (λ k. byteOfColour (at colours (p .colour (k / 4))) (k % 4))
+
+-- status bits 5 and 6, as the row sets them
+abbrev pub statusBits : Row → ℕ
+statusBits p = cond (p .hit) 32 0 + cond (p .ninth) 64 0

@@ -1,0 +1,18 @@
+// The rules of the picture are in specs/. Here is what the code and the rules share.
+
+// What a step draws: the part that the screen shows, or all that the chip makes.
+pub enum RenderArea {
+    VisibleOnly,
+    EffectiveArea,
+}
+
+// Where a sprite stands on a row: its column c shows tile pixel start + c, below end, at screen column x + c. Column c is tested for priority at
+// bit prio + c of the priority mask, and marked at bit mark + c of the sprite mask, both around the circle. An unseen one draws nothing.
+pub struct Stand {
+    pub seen: bool,
+    pub x: usize,
+    pub start: usize,
+    pub end: usize,
+    pub prio: usize,
+    pub mark: usize,
+}
