@@ -1,0 +1,2 @@
+-- What the contracts of `raster` cite.
+pub mod Raster

@@ -1,0 +1,75 @@
+// The raster: the line counter with its jump, the latched scroll, and the count of lines to the next line interrupt.
+ghost use mathlib.Core.Path.{_≡_};
+ghost use Rattle.laws.specs.Lists.{at};
+ghost use Rattle.raster.specs.Raster.{advanced, lineCount, lineInterrupt, counted};
+
+pub struct Raster {
+    pub v_counter: u8,
+    pub v_counter_jumped: bool,
+    pub line_interrupt_counter: u8,
+    pub vertical_scroll: u8,
+}
+
+// The line count that line 0 starts with: register 10 less 1, and 0 stays 0.
+fn line_interrupt_load_start(r10: u8) -> u8
+    ensures { λ r. ⌜ r ≡ lineCount r10 ⌝ }
+{
+    if 0 < r10 { r10 - 1 } else { 0 }
+}
+
+impl Raster {
+    // Point 1 of a step: the counter goes up, and line 0 and the jump line do what they do.
+    pub fn advance(self, reg: [u8; 11]) -> Raster
+        ensures { λ r. ⌜ r ≡ advanced (at reg) self ⌝ }
+    {
+        let v_counter = std::num::wrapping_add_u8(self.v_counter, 1);
+        if v_counter == 0 {
+            return Raster {
+                v_counter: v_counter,
+                v_counter_jumped: false,
+                line_interrupt_counter: line_interrupt_load_start(reg[10]),
+                vertical_scroll: reg[9],
+            };
+        }
+        if v_counter == 0xDA {
+            if !self.v_counter_jumped {
+                return Raster {
+                    v_counter: 0xD5,
+                    v_counter_jumped: true,
+                    line_interrupt_counter: self.line_interrupt_counter,
+                    vertical_scroll: self.vertical_scroll,
+                };
+            }
+        }
+        Raster {
+            v_counter: v_counter,
+            v_counter_jumped: self.v_counter_jumped,
+            line_interrupt_counter: self.line_interrupt_counter,
+            vertical_scroll: self.vertical_scroll,
+        }
+    }
+
+    // Point 4, its line part: line interrupts are on and the count is 0.
+    pub fn line_interrupt_is_up(self, reg: [u8; 11]) -> bool
+        ensures { λ r. ⌜ r ≡ lineInterrupt (at reg) self ⌝ }
+    {
+        (reg[0] / 16 % 2 == 1) & (self.line_interrupt_counter == 0)
+    }
+
+    // Point 5: the count starts again below the picture and at 0, and else goes down by one.
+    pub fn line_interrupt_update(self, reg: [u8; 11]) -> Raster
+        ensures { λ r. ⌜ r ≡ counted (at reg) self ⌝ }
+    {
+        let mut raster = self;
+        if 192 < self.v_counter {
+            raster.line_interrupt_counter = reg[10];
+            return raster;
+        }
+        if self.line_interrupt_counter == 0 {
+            raster.line_interrupt_counter = reg[10];
+            return raster;
+        }
+        raster.line_interrupt_counter = self.line_interrupt_counter - 1;
+        raster
+    }
+}
