@@ -1,9 +1,9 @@
 -- The laws of one byte's bits: of the number that bits make, and of `|`, `<<` and `>>`, bit by bit.
 -- Assumes nothing.
 use mathlib.Core.Path.{_≡_, refl, sym, ap, ap₂, _∙_, fun-ext}
-use mathlib.Core.Bool.{Bool, true, false, _||_, _&&_}
-use Prim.Native.Nat.{ℕ, zero, suc, _+_, _*_, _/_, _%_, _^_, _≤_, _<_, min, max}
-use native.Mathlib.Nat.{div-one, div-eq-of-lt, lt-of-lt-of-le, pow-suc, mul-assoc, add-comm, not-suc-le-zero}
+use mathlib.Core.Bool.{Bool, true, false, cond, _||_, _&&_}
+use Prim.Native.Nat.{ℕ, zero, suc, _+_, _*_, _/_, _%_, _-_, _^_, _≤_, _<_, min, max}
+use native.Mathlib.Nat.{div-one, div-eq-of-lt, lt-of-lt-of-le, pow-suc, mul-assoc, add-comm, add-zero, add-suc, not-suc-le-zero}
 use native.Mathlib.Numerals.{one-add, add-one}
 use native.Mathlib.Omega.{arith}
 use lib.Arith.{lt-one}
@@ -185,3 +185,22 @@ byte-is b g hb e = sym (number-bit 8 b hb) ∙ number-ext 8 (bit b) g (λ j h. s
 pub bit-byteOf : (f : ℕ → Bool) (j : ℕ) → j < 8 → bit (byteOf f) j ≡ f j
 unfolding byteOf
 bit-byteOf f j h = bit-number 8 f j h
+
+-- ---- a byte that a loop marks bit by bit
+marked-next : (f : ℕ → Bool) (i b : ℕ) (t : Bool) → i < 8 → b ≡ number i f → f i ≡ t → cond t (bitOr b (1 * 2 ^ i % 256)) b ≡ number (i + 1) f
+marked-next f i b true h e q = rw (e, add-one) (byte-mark i f h q)
+marked-next f i b false h e q = rw (e, add-one) (number-skip i f q)
+
+-- one bit more: what a turn of the loop shows
+pub number-step :
+    (f : ℕ → Bool) (i : ℕ) {b b′ : ℕ} {t : Bool} → i < 8 → b ≡ number i f → t ≡ f i → b′ ≡ cond t (bitOr b (1 * 2 ^ i % 256)) b → b′ ≡ number (i + 1) f
+number-step f i {b} {b′} {t} h e q p = p ∙ marked-next f i b t h e (sym q)
+
+number-by : (f : ℕ → Bool) (n d : ℕ) → ((k : ℕ) → n ≤ k → f k ≡ false) → number n f ≡ number (n + d) f
+number-by f n zero h = rw add-zero
+number-by f n (suc d) h = rw add-suc (number-by f n d h ∙ number-skip (n + d) f (h (n + d) (omega arith)))
+
+-- no bits from n on: n bits are the byte
+pub number-all : (f : ℕ → Bool) (n : ℕ) → n ≤ 8 → ((k : ℕ) → n ≤ k → f k ≡ false) → number n f ≡ byteOf f
+unfolding byteOf
+number-all f n l h = let e : n + (8 - n) ≡ 8 = omega arith in rw e at (number-by f n (8 - n) h)

@@ -1,19 +1,21 @@
 -- Pixels put into a row: what each byte is after it, and what stays.
 -- Assumes nothing.
 use mathlib.Core.Path.{_≡_, refl, sym, ap, _∙_}
-use mathlib.Core.List.{List}
+use mathlib.Core.List.{List, _++_}
 use mathlib.Core.Bool.{Bool, true, false, cond, _&&_, and-false}
 use Prim.Native.Nat.{ℕ, zero, suc, _+_, _-_, _*_, _/_, _%_, _^_, _<_, _≤_}
 use mathlib.Core.Logic.{⊎-elim}
 use native.Mathlib.Nat.{eq-or-lt-of-le, le-of-suc-le-suc, add-zero, zero-add, add-suc, add-assoc}
 use native.Mathlib.Numerals.{add-one}
 use native.Mathlib.Omega.{arith}
-use lib.ListN.{length, getD, set, length-set}
-use lib.Seq.{getD-set-same, getD-set-other, ext-getD}
+use lib.ListN.{length, getD, set, drop, length-set, length-append, length-drop, List·getD-append}
+use lib.Seq.{getD-set-same, getD-set-other, getD-append-add, getD-drop, ext-getD}
 use lib.Dec.{eqb, ltb, leb}
 use native.Mathlib.Decide.{ℕ-discrete, decLt}
 use borrow.Author.Tests.{eq-eqb, ne-eqb, eqb-true, eqb-false, ltb-true, ltb-false, lt-ltb, le-ltb, le-leb, lt-leb}
 use Rattle.laws.specs.Paint.{put, painted, byteOfColour, over, putIf, overlaid, overlay}
+use Rattle.laws.specs.Table.{table}
+use Rattle.laws.proofs.Tables.{length-table, getD-table}
 use Rattle.laws.proofs.Tests.{same-cond}
 
 pub painted-more : (row : List ℕ) (x n : ℕ) (f : ℕ → ℕ) → painted row x (n + 1) f ≡ put (painted row x n f) (x + n) (f n)
@@ -203,3 +205,35 @@ overlay-at g x (suc n) s f p =
                 ]
           ])
     ]
+
+-- ---- nothing shown from column n on: n columns are all eight
+overlaid-by : (row : List ℕ) (x : ℕ) (s : ℕ → Bool) (f : ℕ → ℕ) (n d : ℕ) → ((k : ℕ) → n ≤ k → s k ≡ false) → overlaid row x n s f ≡ overlaid row x (n + d) s f
+unfolding overlaid
+overlaid-by row x s f n zero h = rw add-zero
+overlaid-by row x s f n (suc d) h = rw (add-suc, h (n + d) (omega arith)) (overlaid-by row x s f n d h)
+
+pub overlaid-all : (row : List ℕ) (x : ℕ) (s : ℕ → Bool) (f : ℕ → ℕ) (n : ℕ) → n ≤ 8 → ((k : ℕ) → n ≤ k → s k ≡ false) → overlaid row x n s f ≡ overlaid row x 8 s f
+overlaid-all row x s f n l h = let e : n + (8 - n) ≡ 8 = omega arith in rw e at (overlaid-by row x s f n (8 - n) h)
+
+-- ---- a row painted from its start is a table of bytes, and what was behind it
+module _ (row : List ℕ) (w : ℕ) (f : ℕ → ℕ) (room : w * 4 ≤ length row) where
+  abbrev bytes : ℕ → ℕ
+  bytes k = byteOfColour (f (k / 4)) (k % 4)
+
+  all-at : (k : ℕ) (t : Bool) → ltb k (w * 4) ≡ t → getD (painted row 0 w f) k 0 ≡ getD (table (w * 4) bytes ++ drop (w * 4) row) k 0
+  all-at k true q =
+      let l : k < w * 4 = ltb-true k (w * 4) q in
+      let l′ : k < length (table (w * 4) bytes) = rw length-table l in
+      painted-byte row w f k l room ∙ sym (getD-table (w * 4) bytes k l) ∙ sym (List·getD-append (table (w * 4) bytes) (drop (w * 4) row) 0 k l′)
+  all-at k false q =
+      let l : w * 4 ≤ k = ltb-false k (w * 4) q in
+      let o : 0 * 4 ≤ k → k < (0 + w) * 4 → ⊥ = λ a b. omega arith in
+      let e : length (table (w * 4) bytes) + (k - w * 4) ≡ k = rw length-table (omega arith) in
+      let d : w * 4 + (k - w * 4) ≡ k = omega arith in
+      painted-other row 0 w f k o
+      ∙ sym ((rw e at (getD-append-add (table (w * 4) bytes) (drop (w * 4) row) (k - w * 4) 0)) ∙ (rw d at (getD-drop (w * 4) row (k - w * 4) 0)))
+
+  pub painted-all : painted row 0 w f ≡ table (w * 4) (λ k. byteOfColour (f (k / 4)) (k % 4)) ++ drop (w * 4) row
+  painted-all =
+      let e : length row ≡ length (table (w * 4) bytes ++ drop (w * 4) row) = rw (length-append, length-table, length-drop) (omega arith) in
+      ext-getD 0 (painted row 0 w f) (table (w * 4) bytes ++ drop (w * 4) row) (length-painted row 0 w f ∙ e) (λ k h. all-at k (ltb k (w * 4)) refl)

@@ -1,0 +1,2 @@
+-- The laws of a tile's line.
+pub mod Marks

@@ -1,0 +1,23 @@
+use borrow.Author.Needs.{needs}
+use mathlib.Core.Path.{refl}
+use Rattle.laws.specs.Bits.{bit}
+use Rattle.tile.proofs.is_set.Statement.{statement}
+use Rattle.tile.proofs.is_set.Tie as tie
+use Rattle.tile.proofs.is_set.Reads as reads
+use Rattle.tile.proofs.is_set.Lts as lts
+
+-- src/lib.rt:44:14
+cast-result : tie.Need-cast-result
+cast-result c = search needs
+
+-- src/lib.rt:44:6
+shr-result : tie.Need-shr-result
+shr-result c = search needs
+
+-- src/lib.rt:40:1
+returns : tie.Need-returns
+unfolding bit
+returns c = refl
+
+pub is-set-spec : {M : Type 1} → statement M
+is-set-spec = tie.close (tie.spec cast-result shr-result returns)

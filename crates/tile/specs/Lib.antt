@@ -1,0 +1,2 @@
+-- What the contracts of `tile` cite.
+pub mod Line
