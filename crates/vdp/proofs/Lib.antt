@@ -1,0 +1,4 @@
+-- The laws of the ports.
+pub mod Exact
+pub mod Behind
+pub mod Invariant

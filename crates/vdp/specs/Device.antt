@@ -1,0 +1,72 @@
+-- The device record: fresh, and with one field changed.
+-- Assumes nothing.
+use Prim.Native.Nat.{ℕ}
+use mathlib.Core.List.{List, [], _∷_}
+use mathlib.Core.Bool.{Bool, true, false}
+use lib.ListN.{replicate}
+use Rattle.raster.specs.declared.Raster.{Raster}
+use Rattle.vdp.specs.declared.VdpState.{VdpState}
+use Rattle.vdp.specs.declared.WriteDest.{WriteDest}
+use Rattle.vdp.specs.declared.WriteDest.the-variants as Chosen
+use Rattle.vdp.specs.declared.Latch.{Latch}
+use Rattle.vdp.specs.declared.Latch.the-variants.{Empty, Held}
+
+-- the record of these fields, in the order of the Rust's `VdpState`
+abbrev pub device : ℕ → List ℕ → Raster → ℕ → ℕ → WriteDest → List ℕ → Latch → Latch → Bool → List ℕ → VdpState
+device status reg raster addr buffer dest cram command half dirty cache =
+    record {
+      status = status;
+      reg = reg;
+      raster = raster;
+      addr = addr;
+      «vram_buffer» = buffer;
+      dest = dest;
+      cram = cram;
+      «cmd_byte1» = command;
+      «cram_byte1» = half;
+      «cram_dirty» = dirty;
+      «color_cache» = cache;
+    }
+
+-- "Fresh: registers 0,0,FF,FF,FF,FF,FF,0,0,0,1 (hex); cache zero and dirty; no memory chosen; latches empty; all else zero."
+abbrev pub fresh : VdpState
+fresh =
+    device 0 (0 ∷ 0 ∷ 0xFF ∷ 0xFF ∷ 0xFF ∷ 0xFF ∷ 0xFF ∷ 0 ∷ 0 ∷ 0 ∷ 1 ∷ [])
+    (record { «v_counter» = 0; «v_counter_jumped» = false; «line_interrupt_counter» = 0; «vertical_scroll» = 0 })
+    0 0 Chosen.None (replicate 64 0) Empty Empty true (replicate 32 0)
+
+-- ---- the same device with another command latch, and so on
+abbrev pub withCommand : VdpState → Latch → VdpState
+withCommand d l = device (d .status) (d .reg) (d .raster) (d .addr) (d .«vram_buffer») (d .dest) (d .cram) l (d .«cram_byte1») (d .«cram_dirty») (d .«color_cache»)
+
+-- "Command latch empty"
+abbrev pub unlatched : VdpState → VdpState
+unlatched d = withCommand d Empty
+
+abbrev pub withDest : VdpState → WriteDest → VdpState
+withDest d m = device (d .status) (d .reg) (d .raster) (d .addr) (d .«vram_buffer») m (d .cram) (d .«cmd_byte1») (d .«cram_byte1») (d .«cram_dirty») (d .«color_cache»)
+
+abbrev pub withPaletteByte : VdpState → Latch → VdpState
+withPaletteByte d l = device (d .status) (d .reg) (d .raster) (d .addr) (d .«vram_buffer») (d .dest) (d .cram) (d .«cmd_byte1») l (d .«cram_dirty») (d .«color_cache»)
+
+abbrev pub withAddr : VdpState → ℕ → VdpState
+withAddr d a = device (d .status) (d .reg) (d .raster) a (d .«vram_buffer») (d .dest) (d .cram) (d .«cmd_byte1») (d .«cram_byte1») (d .«cram_dirty») (d .«color_cache»)
+
+abbrev pub withBuffer : VdpState → ℕ → VdpState
+withBuffer d b = device (d .status) (d .reg) (d .raster) (d .addr) b (d .dest) (d .cram) (d .«cmd_byte1») (d .«cram_byte1») (d .«cram_dirty») (d .«color_cache»)
+
+abbrev pub withStatus : VdpState → ℕ → VdpState
+withStatus d s = device s (d .reg) (d .raster) (d .addr) (d .«vram_buffer») (d .dest) (d .cram) (d .«cmd_byte1») (d .«cram_byte1») (d .«cram_dirty») (d .«color_cache»)
+
+abbrev pub withReg : VdpState → List ℕ → VdpState
+withReg d g = device (d .status) g (d .raster) (d .addr) (d .«vram_buffer») (d .dest) (d .cram) (d .«cmd_byte1») (d .«cram_byte1») (d .«cram_dirty») (d .«color_cache»)
+
+abbrev pub withRaster : VdpState → Raster → VdpState
+withRaster d x = device (d .status) (d .reg) x (d .addr) (d .«vram_buffer») (d .dest) (d .cram) (d .«cmd_byte1») (d .«cram_byte1») (d .«cram_dirty») (d .«color_cache»)
+
+-- the palette, and whether the cache is behind it; the cache, and that it is not
+abbrev pub withPalette : VdpState → List ℕ → Bool → VdpState
+withPalette d p behind = device (d .status) (d .reg) (d .raster) (d .addr) (d .«vram_buffer») (d .dest) p (d .«cmd_byte1») (d .«cram_byte1») behind (d .«color_cache»)
+
+abbrev pub withCache : VdpState → List ℕ → VdpState
+withCache d c = device (d .status) (d .reg) (d .raster) (d .addr) (d .«vram_buffer») (d .dest) (d .cram) (d .«cmd_byte1») (d .«cram_byte1») false c

@@ -1,0 +1,136 @@
+-- Document 01, "The record and the ports": what a port call answers and leaves.
+-- Assumes nothing.
+use Prim.Native.Nat.{ℕ, _+_, _-_, _*_, _/_, _%_}
+use mathlib.Core.Path.{_≡_}
+use mathlib.Core.List.{List, [], _∷_}
+use mathlib.Core.Bool.{Bool, true, false, cond, not, _||_}
+use lib.ListN.{length, set}
+use lib.Dec.{ltb, leb, eqb}
+use Rattle.laws.specs.Lists.{at}
+use Rattle.vdp.specs.declared.VdpState.{VdpState}
+use Rattle.vdp.specs.declared.Written.{Written}
+use Rattle.vdp.specs.declared.ReadBack.{ReadBack}
+use Rattle.vdp.specs.declared.WriteDest.{WriteDest}
+use Rattle.vdp.specs.declared.WriteDest.the-variants.{None, Vram, Cram}
+use Rattle.vdp.specs.declared.Latch.{Latch}
+use Rattle.vdp.specs.declared.Latch.the-variants.{Empty, Held}
+use Rattle.vdp.specs.declared.Refusal.{Refusal}
+use Rattle.vdp.specs.declared.Refusal.the-variants.{Accepted, UnknownPort, HorizontalCounter, HighRegister, NothingChosen, PaletteRead, NoPaletteByte, OutsideMemory, VramLength}
+use Rattle.vdp.specs.Device.{withCommand, unlatched, withDest, withPaletteByte, withAddr, withBuffer, withStatus, withReg, withPalette}
+use Rattle.vdp.specs.Refusals.{whole, isPort}
+
+-- What a write leaves: its answer, with the device in it, and video memory.
+pub record After : Type 0 where
+  pub answer : Written
+  pub vram : List ℕ
+
+abbrev pub answered : Refusal → VdpState → Written
+answered r d = record { refusal = r; vdp = d }
+
+-- "A refused read gives byte 0"
+abbrev pub refusedRead : Refusal → VdpState → ReadBack
+refusedRead r d = record { refusal = r; byte = 0; vdp = d }
+
+abbrev pub given : ℕ → VdpState → ReadBack
+given b d = record { refusal = Accepted; byte = b; vdp = d }
+
+-- ---- "Command byte (BF)"
+-- "address (d + 256v) mod 16,384"
+abbrev pub videoAddress : ℕ → ℕ → ℕ
+videoAddress d v = (d + 256 * v) % 16384
+
+-- "read buffer loaded from it, address up one mod 16,384"
+abbrev pub loaded : VdpState → List ℕ → ℕ → VdpState
+loaded s m a = withAddr (withBuffer s (at m a)) ((a + 1) % 16384)
+
+-- "with first byte d and second v, the top bits of v choose": 00, 01, 10, 11
+abbrev pub secondByte : VdpState → List ℕ → ℕ → ℕ → Written
+secondByte s m d v =
+    cond (eqb (v / 64) 0) (answered Accepted (loaded (withDest s Vram) m (videoAddress d v)))
+    (cond (eqb (v / 64) 1) (answered Accepted (withAddr (withDest s Vram) (videoAddress d v)))
+    (cond (eqb (v / 64) 2)
+    (cond (ltb 10 (v % 128)) (answered HighRegister s) (answered Accepted (withReg s (set (s .reg) (v % 128) d))))
+    (answered Accepted (withAddr (withDest s Cram) (d % 64)))))
+
+-- "with no byte latched, this byte is latched and nothing else happens. Otherwise the latch is emptied"
+abbrev pub commandBy : Latch → VdpState → List ℕ → ℕ → Written
+commandBy Empty s m v = answered Accepted (withCommand s (Held v))
+commandBy (Held d) s m v = secondByte (unlatched s) m d v
+
+abbrev pub commandWrite : VdpState → List ℕ → ℕ → Written
+commandWrite s m v = commandBy (s .«cmd_byte1») s m v
+
+-- ---- "Data write (BE) empties the command latch": the device s has it empty already
+-- "Palette, even: latch the byte"; "Address up one mod 64."
+abbrev pub evenPalette : VdpState → ℕ → Written
+evenPalette s v = answered Accepted (withAddr (withPaletteByte s (Held v)) ((s .addr + 1) % 64))
+
+-- "odd: store latched byte below and value mod 16 here, dirty if either changed; the palette latch stays"
+abbrev pub changed : ℕ → ℕ → Bool
+changed a b = not (eqb a b)
+
+abbrev pub stored : VdpState → ℕ → ℕ → ℕ → VdpState
+stored s a low high =
+    withPalette s (set (set (s .cram) (a - 1) low) a high)
+    (s .«cram_dirty» || changed (at (s .cram) (a - 1)) low || changed (at (s .cram) a) high)
+
+abbrev pub oddPalette : Latch → VdpState → ℕ → Written
+oddPalette Empty s v = answered NoPaletteByte s
+oddPalette (Held low) s v = answered Accepted (withAddr (stored s (s .addr) low (v % 16)) ((s .addr + 1) % 64))
+
+abbrev pub paletteWrite : VdpState → ℕ → Written
+paletteWrite s v =
+    cond (ltb (s .addr) 64) (cond (eqb (s .addr % 2) 0) (evenPalette s v) (oddPalette (s .«cram_byte1») s v))
+    (answered OutsideMemory s)
+
+-- "Video memory: store, read buffer takes the byte, address up one mod 16,384."
+abbrev pub vramWrite : VdpState → List ℕ → ℕ → After
+vramWrite s m v =
+    cond (ltb (s .addr) 16384)
+    (record { answer = answered Accepted (withAddr (withBuffer s v) ((s .addr + 1) % 16384)); vram = set m (s .addr) v })
+    (record { answer = answered OutsideMemory s; vram = m })
+
+abbrev pub dataBy : WriteDest → VdpState → List ℕ → ℕ → After
+dataBy None s m v = record { answer = answered NothingChosen s; vram = m }
+dataBy Vram s m v = vramWrite s m v
+dataBy Cram s m v = record { answer = paletteWrite s v; vram = m }
+
+abbrev pub dataWrite : VdpState → List ℕ → ℕ → After
+dataWrite s m v = dataBy (s .dest) (unlatched s) m v
+
+-- ---- "Data read empties the command latch, gives the read buffer, reloads it at the address, address up one mod 16,384."
+abbrev pub readBy : WriteDest → VdpState → List ℕ → ReadBack
+readBy None s m = refusedRead NothingChosen s
+readBy Cram s m = refusedRead PaletteRead s
+readBy Vram s m =
+    cond (ltb (s .addr) 16384) (given (s .«vram_buffer») (loaded s m (s .addr))) (refusedRead OutsideMemory s)
+
+abbrev pub dataRead : VdpState → List ℕ → ReadBack
+dataRead s m = readBy (s .dest) (unlatched s) m
+
+-- "Status read (BF): gives status, clears it, empties the command latch."
+abbrev pub statusRead : VdpState → ReadBack
+statusRead s = given (s .status) (withStatus (unlatched s) 0)
+
+-- ---- the port calls
+unfoldable pub portWrite : VdpState → List ℕ → ℕ → ℕ → After
+portWrite s m p v =
+    cond (whole m)
+    (cond (isPort 0xBF p) (record { answer = commandWrite s m v; vram = m })
+    (cond (isPort 0xBE p) (dataWrite s m v) (record { answer = answered UnknownPort s; vram = m })))
+    (record { answer = answered VramLength s; vram = m })
+
+-- "Read of 7E gives the line counter and touches nothing."
+unfoldable pub portRead : VdpState → List ℕ → ℕ → ReadBack
+portRead s m p =
+    cond (whole m)
+    (cond (isPort 0x7E p) (given (s .raster .«v_counter») s)
+    (cond (isPort 0x7F p) (refusedRead HorizontalCounter s)
+    (cond (isPort 0xBF p) (statusRead s)
+    (cond (isPort 0xBE p) (dataRead s m) (refusedRead UnknownPort s)))))
+    (refusedRead VramLength s)
+
+-- What a port write promises: its answer r, and what video memory holds after it, m′.
+pub record WriteLeaves (s : VdpState) (m : List ℕ) (p v : ℕ) (r : Written) (m′ : List ℕ) : Type 0 where
+  pub answer : r ≡ portWrite s m p v .answer
+  pub memory : m′ ≡ portWrite s m p v .vram

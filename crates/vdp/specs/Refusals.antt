@@ -1,0 +1,107 @@
+-- Document 01, "Numbers that refuse": the number of each refusal, what it leaves behind, and when each port call gives it.
+-- Assumes nothing.
+use Prim.Native.Nat.{ℕ, _%_}
+use mathlib.Core.List.{List, [], _∷_}
+use mathlib.Core.Bool.{Bool, true, false, cond, not, _||_, _&&_}
+use lib.ListN.{length}
+use lib.Dec.{leb, ltb, eqb}
+use Rattle.vdp.specs.declared.VdpState.{VdpState}
+use Rattle.vdp.specs.declared.WriteDest.{WriteDest}
+use Rattle.vdp.specs.declared.WriteDest.the-variants.{None, Vram, Cram}
+use Rattle.vdp.specs.declared.Latch.{Latch}
+use Rattle.vdp.specs.declared.Latch.the-variants.{Empty, Held}
+use Rattle.vdp.specs.declared.Refusal.{Refusal}
+use Rattle.vdp.specs.declared.Refusal.the-variants.{Accepted, UnknownPort, HorizontalCounter, HighRegister, NothingChosen, PaletteRead, NoPaletteByte, OutsideMemory, VramLength, PixelLength, BlockMalformed, UnknownArea}
+use Rattle.vdp.specs.Device.{unlatched}
+
+-- the column "No.": "Accepted is 0."
+abbrev pub refusalNumber : Refusal → ℕ
+refusalNumber Accepted = 0
+refusalNumber UnknownPort = 1
+refusalNumber HorizontalCounter = 2
+refusalNumber HighRegister = 3
+refusalNumber NothingChosen = 4
+refusalNumber PaletteRead = 5
+refusalNumber NoPaletteByte = 6
+refusalNumber OutsideMemory = 7
+refusalNumber VramLength = 8
+refusalNumber PixelLength = 9
+refusalNumber BlockMalformed = 10
+refusalNumber UnknownArea = 11
+
+-- the column "Left behind", of the device s: "all unchanged", or "command latch empty", which "means nothing else changes"
+abbrev pub leftBehind : Refusal → VdpState → VdpState
+leftBehind HighRegister s = unlatched s
+leftBehind NothingChosen s = unlatched s
+leftBehind PaletteRead s = unlatched s
+leftBehind NoPaletteByte s = unlatched s
+leftBehind OutsideMemory s = unlatched s
+leftBehind Accepted s = s
+leftBehind UnknownPort s = s
+leftBehind HorizontalCounter s = s
+leftBehind VramLength s = s
+leftBehind PixelLength s = s
+leftBehind BlockMalformed s = s
+leftBehind UnknownArea s = s
+
+-- the column "When": a condition and the refusal that it gives
+pub record Line : Type 0 where
+  pub holds : Bool
+  pub refusal : Refusal
+
+abbrev pub line : Bool → Refusal → Line
+line b r = record { holds = b; refusal = r }
+
+-- "Each is given exactly when its condition holds and no earlier one does."
+abbrev pub first : List Line → Refusal
+first [] = Accepted
+first (l ∷ ls) = cond (l .holds) (l .refusal) (first ls)
+
+-- ---- the words of the conditions
+abbrev pub isEmpty : Latch → Bool
+isEmpty Empty = true
+isEmpty (Held b) = false
+
+abbrev pub isNone : WriteDest → Bool
+isNone None = true
+isNone Vram = false
+isNone Cram = false
+
+abbrev pub isPalette : WriteDest → Bool
+isPalette None = false
+isPalette Vram = false
+isPalette Cram = true
+
+-- the size of the memory that is chosen; with none chosen refusal 4 comes before
+abbrev pub size : WriteDest → ℕ
+size None = 16384
+size Vram = 16384
+size Cram = 64
+
+abbrev pub whole : List ℕ → Bool
+whole vram = eqb (length vram) 16384
+
+-- "Only the port's low byte counts."
+abbrev pub isPort : ℕ → ℕ → Bool
+isPort n port = eqb (port % 256) n
+
+-- ---- "Order: .. 8 ..; then 1, 2, 3; for data 4, 5, 7, 6."
+abbrev pub writeLines : VdpState → List ℕ → ℕ → ℕ → List Line
+writeLines s vram p v =
+    line (not (whole vram)) VramLength
+    ∷ line (not (isPort 0xBF p || isPort 0xBE p)) UnknownPort
+    ∷ line (isPort 0xBF p && not (isEmpty (s .«cmd_byte1»)) && leb 0x8B v && leb v 0xBF) HighRegister
+    ∷ line (isPort 0xBE p && isNone (s .dest)) NothingChosen
+    ∷ line (isPort 0xBE p && not (ltb (s .addr) (size (s .dest)))) OutsideMemory
+    ∷ line (isPort 0xBE p && isPalette (s .dest) && not (eqb (s .addr % 2) 0) && isEmpty (s .«cram_byte1»)) NoPaletteByte
+    ∷ []
+
+abbrev pub readLines : VdpState → List ℕ → ℕ → List Line
+readLines s vram p =
+    line (not (whole vram)) VramLength
+    ∷ line (not (isPort 0x7E p || isPort 0x7F p || isPort 0xBF p || isPort 0xBE p)) UnknownPort
+    ∷ line (isPort 0x7F p) HorizontalCounter
+    ∷ line (isPort 0xBE p && isNone (s .dest)) NothingChosen
+    ∷ line (isPort 0xBE p && isPalette (s .dest)) PaletteRead
+    ∷ line (isPort 0xBE p && not (ltb (s .addr) (size (s .dest)))) OutsideMemory
+    ∷ []

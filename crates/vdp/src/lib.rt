@@ -1,0 +1,408 @@
+// The device record and its port calls. Video memory is lent by the caller.
+ghost use mathlib.Core.Path.{_≡_};
+ghost use Prim.Native.Nat.{ℕ, _+_, _-_, _*_, _%_, _/_, _<_, _≤_};
+ghost use lib.ListN.{length};
+ghost use Rattle.vdp.specs.Device.{fresh, withCommand, withDest, withPaletteByte};
+ghost use Rattle.vdp.specs.Ports.{commandWrite, paletteWrite, dataWrite, dataRead, statusRead, WriteLeaves, portRead};
+use raster::Raster;
+
+// The memory that the data port reads and writes.
+pub enum WriteDest {
+    None,
+    Vram,
+    Cram,
+}
+
+// A byte that waits for the one after it.
+pub enum Latch {
+    Empty,
+    Held(u8),
+}
+
+// Why a call is refused, or that it is not.
+pub enum Refusal {
+    Accepted,
+    UnknownPort,
+    HorizontalCounter,
+    HighRegister,
+    NothingChosen,
+    PaletteRead,
+    NoPaletteByte,
+    OutsideMemory,
+    VramLength,
+    PixelLength,
+    BlockMalformed,
+    UnknownArea,
+}
+
+// The device: eleven registers, 64 palette bytes and 32 cached colours in one record, with the small fields.
+pub struct VdpState {
+    pub status: u8,
+    pub reg: [u8; 11],
+    pub raster: Raster,
+    pub addr: u16,
+    pub vram_buffer: u8,
+    pub dest: WriteDest,
+    pub cram: [u8; 64],
+    pub cmd_byte1: Latch,
+    pub cram_byte1: Latch,
+    pub cram_dirty: bool,
+    pub color_cache: [u32; 32],
+}
+
+// What a port write leaves.
+pub struct Written {
+    pub refusal: Refusal,
+    pub vdp: VdpState,
+}
+
+// What a port read gives and leaves.
+pub struct ReadBack {
+    pub refusal: Refusal,
+    pub byte: u8,
+    pub vdp: VdpState,
+}
+
+impl VdpState {
+    // A fresh device.
+    pub fn new() -> Self
+        ensures { λ r. ⌜ r ≡ fresh ⌝ }
+    {
+        VdpState {
+            status: 0,
+            reg: [0, 0, 0xFF, 0xFF, 0xFF, 0xFF, 0xFF, 0, 0, 0, 1],
+            raster: Raster {
+                v_counter: 0,
+                v_counter_jumped: false,
+                line_interrupt_counter: 0,
+                vertical_scroll: 0,
+            },
+            addr: 0,
+            vram_buffer: 0,
+            dest: WriteDest::None,
+            cram: [0; 64],
+            cmd_byte1: Latch::Empty,
+            cram_byte1: Latch::Empty,
+            cram_dirty: true,
+            color_cache: [0; 32],
+        }
+    }
+
+    // The same device with another command latch.
+    fn with_command(self, latch: Latch) -> Self
+        ensures { λ r. ⌜ r ≡ withCommand self latch ⌝ }
+    {
+        let reg = self.reg;
+        let raster = self.raster;
+        let dest = self.dest;
+        let cram = self.cram;
+        let cram_byte1 = self.cram_byte1;
+        let color_cache = self.color_cache;
+        VdpState {
+            status: self.status,
+            reg: reg,
+            raster: raster,
+            addr: self.addr,
+            vram_buffer: self.vram_buffer,
+            dest: dest,
+            cram: cram,
+            cmd_byte1: latch,
+            cram_byte1: cram_byte1,
+            cram_dirty: self.cram_dirty,
+            color_cache: color_cache,
+        }
+    }
+
+    // The same device with another memory chosen.
+    fn with_dest(self, dest: WriteDest) -> Self
+        ensures { λ r. ⌜ r ≡ withDest self dest ⌝ }
+    {
+        let reg = self.reg;
+        let raster = self.raster;
+        let cram = self.cram;
+        let cmd_byte1 = self.cmd_byte1;
+        let cram_byte1 = self.cram_byte1;
+        let color_cache = self.color_cache;
+        VdpState {
+            status: self.status,
+            reg: reg,
+            raster: raster,
+            addr: self.addr,
+            vram_buffer: self.vram_buffer,
+            dest: dest,
+            cram: cram,
+            cmd_byte1: cmd_byte1,
+            cram_byte1: cram_byte1,
+            cram_dirty: self.cram_dirty,
+            color_cache: color_cache,
+        }
+    }
+
+    // The same device with another palette latch.
+    fn with_palette_byte(self, latch: Latch) -> Self
+        ensures { λ r. ⌜ r ≡ withPaletteByte self latch ⌝ }
+    {
+        let reg = self.reg;
+        let raster = self.raster;
+        let dest = self.dest;
+        let cram = self.cram;
+        let cmd_byte1 = self.cmd_byte1;
+        let color_cache = self.color_cache;
+        VdpState {
+            status: self.status,
+            reg: reg,
+            raster: raster,
+            addr: self.addr,
+            vram_buffer: self.vram_buffer,
+            dest: dest,
+            cram: cram,
+            cmd_byte1: cmd_byte1,
+            cram_byte1: latch,
+            cram_dirty: self.cram_dirty,
+            color_cache: color_cache,
+        }
+    }
+
+    // A command byte. With no byte latched, this one is latched and nothing else happens.
+    fn write_cmd(self, vram: &[u8], val: u8) -> Written
+        requires { ⌜ length (now vram) ≡ 16384 ⌝ }
+        ensures { λ r. ⌜ r ≡ commandWrite self (now (vram .entry)) val ⌝ }
+    {
+        let cmd_byte1 = self.cmd_byte1;
+        let Latch::Held(data) = cmd_byte1 else {
+            return Written {
+                refusal: Refusal::Accepted,
+                vdp: self.with_command(Latch::Held(val)),
+            };
+        };
+        let mut vdp = self.with_command(Latch::Empty);
+        let addr = ((data as u16) + 256 * (val as u16)) % 16384;
+        match val / 64 {
+            0 => {
+                let at = addr as usize;
+                let mut video = vdp.with_dest(WriteDest::Vram);
+                video.vram_buffer = vram[at];
+                video.addr = (addr + 1) % 16384;
+                Written {
+                    refusal: Refusal::Accepted,
+                    vdp: video,
+                }
+            }
+            1 => {
+                let mut video = vdp.with_dest(WriteDest::Vram);
+                video.addr = addr;
+                Written {
+                    refusal: Refusal::Accepted,
+                    vdp: video,
+                }
+            }
+            2 => {
+                let reg = (val % 128) as usize;
+                if 10 < reg {
+                    return Written {
+                        refusal: Refusal::HighRegister,
+                        vdp: vdp,
+                    };
+                }
+                vdp.reg[reg] = data;
+                Written {
+                    refusal: Refusal::Accepted,
+                    vdp: vdp,
+                }
+            }
+            _ => {
+                let mut palette = vdp.with_dest(WriteDest::Cram);
+                palette.addr = (data % 64) as u16;
+                Written {
+                    refusal: Refusal::Accepted,
+                    vdp: palette,
+                }
+            }
+        }
+    }
+
+    // A byte for the palette: the first of two is latched, the second stores both.
+    fn write_palette(self, val: u8) -> Written
+        ensures { λ r. ⌜ r ≡ paletteWrite self val ⌝ }
+    {
+        let addr = self.addr;
+        if 64 <= addr {
+            return Written {
+                refusal: Refusal::OutsideMemory,
+                vdp: self,
+            };
+        }
+        if addr % 2 == 0 {
+            let mut first = self.with_palette_byte(Latch::Held(val));
+            first.addr = (addr + 1) % 64;
+            return Written {
+                refusal: Refusal::Accepted,
+                vdp: first,
+            };
+        }
+        let cram_byte1 = self.cram_byte1;
+        let Latch::Held(low) = cram_byte1 else {
+            return Written {
+                refusal: Refusal::NoPaletteByte,
+                vdp: self,
+            };
+        };
+        let high = val % 16;
+        let here = addr as usize;
+        let below = here - 1;
+        let mut vdp = self;
+        let was_low = vdp.cram[below];
+        let was_high = vdp.cram[here];
+        vdp.cram_dirty = vdp.cram_dirty | (was_low != low) | (was_high != high);
+        vdp.cram[below] = low;
+        vdp.cram[here] = high;
+        vdp.addr = (addr + 1) % 64;
+        Written {
+            refusal: Refusal::Accepted,
+            vdp: vdp,
+        }
+    }
+
+    // A data byte, for the memory that is chosen.
+    fn write_ram(self, vram: &mut [u8], val: u8) -> Written
+        requires { ⌜ length (now vram) ≡ 16384 ⌝ }
+        ensures { λ r. ⌜ r ≡ dataWrite self (now (vram .entry)) val .answer ⌝ }
+        ensures { λ r. ⌜ now (vram .exit) ≡ dataWrite self (now (vram .entry)) val .vram ⌝ }
+    {
+        let mut vdp = self.with_command(Latch::Empty);
+        let dest = self.dest;
+        match dest {
+            WriteDest::None => Written {
+                refusal: Refusal::NothingChosen,
+                vdp: vdp,
+            },
+            WriteDest::Vram => {
+                let addr = self.addr;
+                if 16384 <= addr {
+                    return Written {
+                        refusal: Refusal::OutsideMemory,
+                        vdp: vdp,
+                    };
+                }
+                let at = addr as usize;
+                vram[at] = val;
+                vdp.vram_buffer = val;
+                vdp.addr = (addr + 1) % 16384;
+                Written {
+                    refusal: Refusal::Accepted,
+                    vdp: vdp,
+                }
+            }
+            WriteDest::Cram => vdp.write_palette(val),
+        }
+    }
+
+    // The read buffer, and the next byte into it.
+    fn read_ram(self, vram: &[u8]) -> ReadBack
+        requires { ⌜ length (now vram) ≡ 16384 ⌝ }
+        ensures { λ r. ⌜ r ≡ dataRead self (now (vram .entry)) ⌝ }
+    {
+        let mut vdp = self.with_command(Latch::Empty);
+        let dest = self.dest;
+        match dest {
+            WriteDest::None => ReadBack {
+                refusal: Refusal::NothingChosen,
+                byte: 0,
+                vdp: vdp,
+            },
+            WriteDest::Cram => ReadBack {
+                refusal: Refusal::PaletteRead,
+                byte: 0,
+                vdp: vdp,
+            },
+            WriteDest::Vram => {
+                let addr = self.addr;
+                if 16384 <= addr {
+                    return ReadBack {
+                        refusal: Refusal::OutsideMemory,
+                        byte: 0,
+                        vdp: vdp,
+                    };
+                }
+                let byte = self.vram_buffer;
+                let at = addr as usize;
+                vdp.vram_buffer = vram[at];
+                vdp.addr = (addr + 1) % 16384;
+                ReadBack {
+                    refusal: Refusal::Accepted,
+                    byte: byte,
+                    vdp: vdp,
+                }
+            }
+        }
+    }
+
+    // The status, which the read clears.
+    fn read_status(self) -> ReadBack
+        ensures { λ r. ⌜ r ≡ statusRead self ⌝ }
+    {
+        let byte = self.status;
+        let mut vdp = self.with_command(Latch::Empty);
+        vdp.status = 0;
+        ReadBack {
+            refusal: Refusal::Accepted,
+            byte: byte,
+            vdp: vdp,
+        }
+    }
+
+    // A port write.
+    pub fn out(self, vram: &mut [u8], addr: u16, val: u8) -> Written
+        ensures { λ r. ⌜ WriteLeaves self (now (vram .entry)) addr val r (now (vram .exit)) ⌝ }
+    {
+        if vram.len() != 16384 {
+            return Written {
+                refusal: Refusal::VramLength,
+                vdp: self,
+            };
+        }
+        match addr % 256 {
+            0xBF => self.write_cmd(vram, val),
+            0xBE => self.write_ram(vram, val),
+            _ => Written {
+                refusal: Refusal::UnknownPort,
+                vdp: self,
+            },
+        }
+    }
+
+    // A port read.
+    pub fn input(self, vram: &[u8], addr: u16) -> ReadBack
+        ensures { λ r. ⌜ r ≡ portRead self (now (vram .entry)) addr ⌝ }
+    {
+        if vram.len() != 16384 {
+            return ReadBack {
+                refusal: Refusal::VramLength,
+                byte: 0,
+                vdp: self,
+            };
+        }
+        match addr % 256 {
+            0x7E => {
+                let raster = self.raster;
+                ReadBack {
+                    refusal: Refusal::Accepted,
+                    byte: raster.v_counter,
+                    vdp: self,
+                }
+            }
+            0x7F => ReadBack {
+                refusal: Refusal::HorizontalCounter,
+                byte: 0,
+                vdp: self,
+            },
+            0xBF => self.read_status(),
+            0xBE => self.read_ram(vram),
+            _ => ReadBack {
+                refusal: Refusal::UnknownPort,
+                byte: 0,
+                vdp: self,
+            },
+        }
+    }
+}
