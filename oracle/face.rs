@@ -1,0 +1,44 @@
+//! The C face of the library (include/vdp.h): its declarations, and a safe call over slices for each.
+
+mod raw {
+    extern "C" {
+        pub fn vdp_new(state: *mut u8, state_len: usize) -> u32;
+        pub fn vdp_out(state: *mut u8, state_len: usize, vram: *mut u8, vram_len: usize, port: u16, value: u8) -> u32;
+        pub fn vdp_input(state: *mut u8, state_len: usize, vram: *const u8, vram_len: usize, port: u16) -> u32;
+        pub fn vdp_step(
+            state: *mut u8, state_len: usize, vram: *const u8, vram_len: usize, frame: *mut u8, frame_len: usize, area: u8,
+        ) -> u32;
+        pub fn vdp_row_step(
+            state: *mut u8, state_len: usize, vram: *const u8, vram_len: usize, row: *mut u8, row_len: usize, area: u8,
+        ) -> u32;
+        pub fn vdp_dump_tileset(
+            state: *const u8, state_len: usize, vram: *const u8, vram_len: usize, pixels: *mut u8, pixels_len: usize,
+        ) -> u32;
+    }
+}
+
+// Each call is sound: a slice is a pointer and a length over live bytes, and `&mut` slices do not overlap.
+
+pub fn vdp_new(state: &mut [u8]) -> u32 {
+    unsafe { raw::vdp_new(state.as_mut_ptr(), state.len()) }
+}
+
+pub fn vdp_out(state: &mut [u8], vram: &mut [u8], port: u16, value: u8) -> u32 {
+    unsafe { raw::vdp_out(state.as_mut_ptr(), state.len(), vram.as_mut_ptr(), vram.len(), port, value) }
+}
+
+pub fn vdp_input(state: &mut [u8], vram: &[u8], port: u16) -> u32 {
+    unsafe { raw::vdp_input(state.as_mut_ptr(), state.len(), vram.as_ptr(), vram.len(), port) }
+}
+
+pub fn vdp_step(state: &mut [u8], vram: &[u8], frame: &mut [u8], area: u8) -> u32 {
+    unsafe { raw::vdp_step(state.as_mut_ptr(), state.len(), vram.as_ptr(), vram.len(), frame.as_mut_ptr(), frame.len(), area) }
+}
+
+pub fn vdp_row_step(state: &mut [u8], vram: &[u8], row: &mut [u8], area: u8) -> u32 {
+    unsafe { raw::vdp_row_step(state.as_mut_ptr(), state.len(), vram.as_ptr(), vram.len(), row.as_mut_ptr(), row.len(), area) }
+}
+
+pub fn vdp_dump_tileset(state: &[u8], vram: &[u8], pixels: &mut [u8]) -> u32 {
+    unsafe { raw::vdp_dump_tileset(state.as_ptr(), state.len(), vram.as_ptr(), vram.len(), pixels.as_mut_ptr(), pixels.len()) }
+}

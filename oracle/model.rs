@@ -1,0 +1,683 @@
+//! The rules of the video chip (the scope document, "document 01") written out a second time in plain Rust: straight from its sentences, pixel by
+//! pixel, with no thought of speed. Total: every call ends, for any bytes and lengths. It says what the library must do
+//! where the published Rust panics or departs; where they agree, the comparison holds all three beside each other.
+
+pub const BLOCK_SIZE: usize = 219;
+pub const VIDEO_SIZE: usize = 16_384;
+pub const SHEET_SIZE: usize = 131_072;
+
+/// Steps of the two areas: 0 visible, 1 effective.
+#[derive(Clone, Copy, PartialEq, Debug)]
+pub enum Area {
+    Visible,
+    Effective,
+}
+
+impl Area {
+    pub fn from_number(n: u8) -> Option<Area> {
+        match n {
+            0 => Some(Area::Visible),
+            1 => Some(Area::Effective),
+            _ => None,
+        }
+    }
+    pub fn width(self) -> usize {
+        match self {
+            Area::Visible => 160,
+            Area::Effective => 256,
+        }
+    }
+    pub fn height(self) -> usize {
+        match self {
+            Area::Visible => 144,
+            Area::Effective => 224,
+        }
+    }
+    /// Bytes of one row.
+    pub fn row_size(self) -> usize {
+        self.width() * 4
+    }
+    /// Bytes of a frame.
+    pub fn frame_size(self) -> usize {
+        self.row_size() * self.height()
+    }
+    /// The line that row 0 shows.
+    fn first_line(self) -> usize {
+        match self {
+            Area::Visible => 24,
+            Area::Effective => 0,
+        }
+    }
+    /// The row that a step draws once it has set the counter.
+    pub fn row_at(self, counter: u8) -> Option<usize> {
+        let line = counter as usize;
+        let first = self.first_line();
+        if line >= first && line < first + self.height() {
+            Some(line - first)
+        } else {
+            None
+        }
+    }
+}
+
+#[derive(Clone, Copy, PartialEq, Debug)]
+pub enum Chosen {
+    Nothing,
+    Video,
+    Palette,
+}
+
+/// The device but its video memory.
+#[derive(Clone, Debug)]
+pub struct Device {
+    pub status: u8,
+    pub registers: [u8; 11],
+    pub counter: u8,
+    pub jumped: bool,
+    pub line_count: u8,
+    pub address: u16,
+    pub read_buffer: u8,
+    pub chosen: Chosen,
+    pub command_latch: Option<u8>,
+    pub palette_latch: Option<u8>,
+    pub vertical_scroll: u8,
+    pub dirty: bool,
+    pub palette: [u8; 64],
+    pub cache: [[u8; 4]; 32],
+}
+
+/// Display reports, by their numbers.
+pub const NO_DISPLAY: u32 = 0;
+pub const SCREEN_DONE: u32 = 1;
+pub const SCREEN_DONE_NO_REFRESH: u32 = 2;
+
+/// What an accepted step answers.
+pub struct Stepped {
+    pub interrupt: bool,
+    pub report: u32,
+    pub row: Option<usize>,
+}
+
+/// Where a step meets one of the known departures of the published Rust; no part of the rules.
+#[derive(Clone, Default, Debug)]
+pub struct Notes {
+    /// A counted sprite on the line has X 41 to 48 under the early clock, in the visible area: the Rust asserts.
+    pub asserts: bool,
+    /// Columns x + c - 256 of pixels that fall past the right edge of the effective area: the Rust draws them in the next row.
+    pub stray: Vec<usize>,
+    /// A sprite pixel of any fate stood past that edge.
+    pub past_edge: bool,
+}
+
+impl Device {
+    pub fn fresh() -> Device {
+        Device {
+            status: 0,
+            registers: [0, 0, 0xFF, 0xFF, 0xFF, 0xFF, 0xFF, 0, 0, 0, 1],
+            counter: 0,
+            jumped: false,
+            line_count: 0,
+            address: 0,
+            read_buffer: 0,
+            chosen: Chosen::Nothing,
+            command_latch: None,
+            palette_latch: None,
+            vertical_scroll: 0,
+            dirty: true,
+            palette: [0; 64],
+            cache: [[0; 4]; 32],
+        }
+    }
+
+    /// Port write; answers the refusal, 0 if accepted.
+    pub fn write_port(&mut self, video: &mut [u8], port: u16, value: u8) -> u32 {
+        if video.len() != VIDEO_SIZE {
+            return 8;
+        }
+        match port % 256 {
+            0xBF => self.command(video, value),
+            0xBE => self.write_data(video, value),
+            _ => 1,
+        }
+    }
+
+    fn command(&mut self, video: &[u8], value: u8) -> u32 {
+        let first = match self.command_latch {
+            None => {
+                self.command_latch = Some(value);
+                return 0;
+            }
+            Some(first) => first,
+        };
+        self.command_latch = None;
+        let address = (first as u32 + 256 * value as u32) % VIDEO_SIZE as u32;
+        match value / 64 {
+            0 => {
+                self.chosen = Chosen::Video;
+                self.read_buffer = video[address as usize];
+                self.address = ((address + 1) % VIDEO_SIZE as u32) as u16;
+                0
+            }
+            1 => {
+                self.chosen = Chosen::Video;
+                self.address = address as u16;
+                0
+            }
+            2 => {
+                let number = (value % 128) as usize;
+                if number > 10 {
+                    return 3;
+                }
+                self.registers[number] = first;
+                0
+            }
+            _ => {
+                self.chosen = Chosen::Palette;
+                self.address = (first % 64) as u16;
+                0
+            }
+        }
+    }
+
+    fn write_data(&mut self, video: &mut [u8], value: u8) -> u32 {
+        self.command_latch = None;
+        let at = self.address as usize;
+        match self.chosen {
+            Chosen::Nothing => 4,
+            Chosen::Video => {
+                if at >= VIDEO_SIZE {
+                    return 7;
+                }
+                video[at] = value;
+                self.read_buffer = value;
+                self.address = ((at + 1) % VIDEO_SIZE) as u16;
+                0
+            }
+            Chosen::Palette => {
+                if at >= 64 {
+                    return 7;
+                }
+                if at % 2 == 0 {
+                    self.palette_latch = Some(value);
+                } else {
+                    let latched = match self.palette_latch {
+                        None => return 6,
+                        Some(byte) => byte,
+                    };
+                    if self.palette[at - 1] != latched || self.palette[at] != value % 16 {
+                        self.dirty = true;
+                    }
+                    self.palette[at - 1] = latched;
+                    self.palette[at] = value % 16;
+                }
+                self.address = ((at + 1) % 64) as u16;
+                0
+            }
+        }
+    }
+
+    /// Port read; answers the refusal and the byte.
+    pub fn read_port(&mut self, video: &[u8], port: u16) -> (u32, u8) {
+        if video.len() != VIDEO_SIZE {
+            return (8, 0);
+        }
+        match port % 256 {
+            0x7E => (0, self.counter),
+            0x7F => (2, 0),
+            0xBE => {
+                self.command_latch = None;
+                match self.chosen {
+                    Chosen::Nothing => (4, 0),
+                    Chosen::Palette => (5, 0),
+                    Chosen::Video => {
+                        let at = self.address as usize;
+                        if at >= VIDEO_SIZE {
+                            return (7, 0);
+                        }
+                        let byte = self.read_buffer;
+                        self.read_buffer = video[at];
+                        self.address = ((at + 1) % VIDEO_SIZE) as u16;
+                        (0, byte)
+                    }
+                }
+            }
+            0xBF => {
+                let byte = self.status;
+                self.status = 0;
+                self.command_latch = None;
+                (0, byte)
+            }
+            _ => (1, 0),
+        }
+    }
+
+    /// The counting part of a step, before the row.
+    fn count_up(&mut self) {
+        self.counter = ((self.counter as u32 + 1) % 256) as u8;
+        if self.counter == 0 {
+            self.vertical_scroll = self.registers[9];
+            self.jumped = false;
+            self.line_count = if self.registers[10] == 0 { 0 } else { self.registers[10] - 1 };
+        }
+        if self.counter == 0xDA && !self.jumped {
+            self.jumped = true;
+            self.counter = 0xD5;
+        }
+    }
+
+    /// The reporting part of a step, after the row.
+    fn report(&mut self) -> (bool, u32) {
+        let mut report = NO_DISPLAY;
+        if self.counter == 0xC1 {
+            self.status |= 0x80;
+            report = if bit(self.registers[1], 6) { SCREEN_DONE } else { SCREEN_DONE_NO_REFRESH };
+        }
+        let frame_interrupt = bit(self.status, 7) && bit(self.registers[1], 5);
+        let line_interrupt = bit(self.registers[0], 4) && self.line_count == 0;
+        if self.counter > 192 || self.line_count == 0 {
+            self.line_count = self.registers[10];
+        } else {
+            self.line_count -= 1;
+        }
+        (frame_interrupt || line_interrupt, report)
+    }
+
+    /// The row step: the row, if there is one, goes to the start of the row buffer. `Err` is the refusal.
+    pub fn row_step(&mut self, video: &[u8], row: &mut [u8], area: Area, notes: &mut Notes) -> Result<Stepped, u32> {
+        if video.len() != VIDEO_SIZE {
+            return Err(8);
+        }
+        if row.len() < area.row_size() {
+            return Err(9);
+        }
+        self.count_up();
+        let drawn = area.row_at(self.counter);
+        if let Some(number) = drawn {
+            if self.dirty {
+                self.cache = colours(&self.palette);
+                self.dirty = false;
+            }
+            let picture = self.picture(video, area, number, notes);
+            self.status = picture.status;
+            for x in 0..area.width() {
+                row[4 * x..4 * x + 4].copy_from_slice(&self.cache[picture.colour[x] as usize]);
+            }
+        }
+        let (interrupt, report) = self.report();
+        Ok(Stepped { interrupt, report, row: drawn })
+    }
+
+    /// The frame step: the row goes to its place in the frame.
+    pub fn frame_step(&mut self, video: &[u8], frame: &mut [u8], area: Area, notes: &mut Notes) -> Result<Stepped, u32> {
+        if video.len() != VIDEO_SIZE {
+            return Err(8);
+        }
+        if frame.len() < area.frame_size() {
+            return Err(9);
+        }
+        let mut row = [0; 1024];
+        let stepped = self.row_step(video, &mut row, area, notes)?;
+        if let Some(number) = stepped.row {
+            let at = number * area.row_size();
+            frame[at..at + area.row_size()].copy_from_slice(&row[..area.row_size()]);
+        }
+        Ok(stepped)
+    }
+
+    /// The colour numbers of one row, and the status after it.
+    fn picture(&self, video: &[u8], area: Area, row: usize, notes: &mut Notes) -> Picture {
+        let mut picture = Picture { colour: [0; 256], status: self.status };
+        let mut priority = [false; 256];
+        self.background(video, area, row, &mut picture, &mut priority);
+        self.sprites(video, area, row, &mut picture, &priority, notes);
+        picture
+    }
+
+    fn background(&self, video: &[u8], area: Area, row: usize, picture: &mut Picture, priority: &mut [bool; 256]) {
+        let map = |x: usize| match area {
+            Area::Visible => (x + 304 - self.registers[8] as usize) % 256,
+            Area::Effective => x,
+        };
+        let map_y = match area {
+            Area::Visible => (row + 24 + self.vertical_scroll as usize) % 224,
+            Area::Effective => row,
+        };
+        // Pixels cut off the first tile by the scroll.
+        let cut = map(0) % 8;
+        for x in 0..area.width() {
+            let map_x = map(x);
+            let names = (self.registers[2] & 0x0E) as usize * 1024;
+            let entry = names + 2 * (32 * (map_y / 8) + map_x / 8);
+            let flags = video[entry + 1];
+            let tile = video[entry] as usize + if bit(flags, 0) { 256 } else { 0 };
+            let across = if bit(flags, 1) { 7 - map_x % 8 } else { map_x % 8 };
+            let down = if bit(flags, 2) { 7 - map_y % 8 } else { map_y % 8 };
+            let code = tile_code(video, 32 * tile, down, across);
+            picture.colour[x] = if bit(flags, 3) { 16 + code } else { code };
+            if bit(flags, 4) && code != 0 {
+                let in_first = x < 8 - cut;
+                let place = if in_first { (x + 256 - cut) % 256 } else { x };
+                priority[place] = true;
+            }
+        }
+    }
+
+    fn sprites(&self, video: &[u8], area: Area, row: usize, picture: &mut Picture, priority: &[bool; 256], notes: &mut Notes) {
+        let table = (self.registers[5] & 0x7E) as usize * 128;
+        let tall = bit(self.registers[1], 1);
+        let height = if tall { 16 } else { 8 };
+        let patterns = if bit(self.registers[6], 2) { 8192 } else { 0 };
+        let line = row + area.first_line();
+        let mut mask = [false; 256];
+        let mut on_line = 0;
+        for n in 0..64 {
+            let y = video[table + n];
+            if y == 0xD0 {
+                break;
+            }
+            let top = (y as usize + 1) % 256;
+            if !(top <= line && line < top + height) {
+                continue;
+            }
+            on_line += 1;
+            if on_line == 9 {
+                picture.status |= 0x40;
+                break;
+            }
+            let x_byte = video[table + 128 + 2 * n] as usize;
+            let named = video[table + 128 + 2 * n + 1] as usize;
+            let down = line - top;
+            let tile = match (tall, down < 8) {
+                (false, _) => named,
+                (true, true) => named - named % 2,
+                (true, false) => named - named % 2 + 1,
+            };
+            let code_at = |pixel: usize| tile_code(video, patterns + 32 * tile, down % 8, pixel);
+            let stand = self.stand(area, x_byte);
+            let early_clock = bit(self.registers[0], 3);
+            if area == Area::Visible && early_clock && (41..=48).contains(&x_byte) {
+                notes.asserts = true;
+            }
+            let mut marks = Vec::new();
+            for pixel in stand.start..stand.end {
+                if code_at(pixel) == 0 {
+                    continue;
+                }
+                if !stand.seen {
+                    let place = (x_byte + pixel) % 256;
+                    if mask[place] {
+                        picture.status |= 0x20;
+                    }
+                    marks.push(place);
+                    continue;
+                }
+                let column = pixel - stand.start;
+                let shown = stand.x + column;
+                if shown > 255 {
+                    notes.past_edge = true;
+                }
+                if priority[(stand.x + 256 - stand.start + column) % 256] {
+                    continue;
+                }
+                let place = (x_byte + column) % 256;
+                if mask[place] {
+                    picture.status |= 0x20;
+                } else if shown > 255 {
+                    notes.stray.push(shown - 256);
+                } else {
+                    picture.colour[shown] = 16 + code_at(pixel);
+                }
+                marks.push(place);
+            }
+            for place in marks {
+                mask[place] = true;
+            }
+        }
+    }
+
+    /// Where a sprite with this X stands.
+    fn stand(&self, area: Area, x_byte: usize) -> Stand {
+        let early = if bit(self.registers[0], 3) { 8 } else { 0 };
+        match area {
+            Area::Visible => {
+                let left = 48 + early;
+                let x = x_byte.saturating_sub(left);
+                Stand {
+                    seen: !(x_byte <= 40 || x_byte >= 208),
+                    x,
+                    start: left.saturating_sub(x_byte),
+                    end: if x > 160 { 8 } else { (160 - x).min(8) },
+                }
+            }
+            Area::Effective => Stand { seen: true, x: (x_byte + 256 - early) % 256, start: 0, end: 8 },
+        }
+    }
+
+    /// The tile dump, with the cached colours as they stand; answers the refusal.
+    pub fn dump(&self, video: &[u8], sheet: &mut [u8]) -> u32 {
+        if video.len() != VIDEO_SIZE {
+            return 8;
+        }
+        if sheet.len() != SHEET_SIZE {
+            return 9;
+        }
+        for c in 0..512 {
+            let as_sprite = c >= 256;
+            let (column, row) = if as_sprite && bit(self.registers[1], 1) {
+                ((c % 32) / 2, 2 * (c / 32) + c % 2)
+            } else {
+                (c % 16, c / 16)
+            };
+            let patterns = if as_sprite && bit(self.registers[6], 2) { 8192 } else { 0 };
+            for down in 0..8 {
+                for across in 0..8 {
+                    let code = tile_code(video, patterns + 32 * (c % 256), down, across);
+                    if as_sprite && code == 0 {
+                        continue;
+                    }
+                    let colour = if as_sprite { 16 + code } else { code };
+                    let at = 4 * (128 * (8 * row + down) + 8 * column + across);
+                    sheet[at..at + 4].copy_from_slice(&self.cache[colour as usize]);
+                }
+            }
+        }
+        0
+    }
+
+    /// The state block of this device.
+    pub fn encode(&self) -> [u8; BLOCK_SIZE] {
+        let mut block = [0; BLOCK_SIZE];
+        block[0] = 0x56;
+        block[1] = 0x53;
+        block[2] = self.status;
+        block[3..14].copy_from_slice(&self.registers);
+        block[14] = self.counter;
+        block[15] = self.jumped as u8;
+        block[16] = self.line_count;
+        block[17] = (self.address % 256) as u8;
+        block[18] = (self.address / 256) as u8;
+        block[19] = self.read_buffer;
+        block[20] = match self.chosen {
+            Chosen::Nothing => 0,
+            Chosen::Video => 1,
+            Chosen::Palette => 2,
+        };
+        block[21] = self.command_latch.is_some() as u8;
+        block[22] = self.command_latch.unwrap_or(0);
+        block[23] = self.palette_latch.is_some() as u8;
+        block[24] = self.palette_latch.unwrap_or(0);
+        block[25] = self.vertical_scroll;
+        block[26] = self.dirty as u8;
+        block[27..91].copy_from_slice(&self.palette);
+        for i in 0..32 {
+            block[91 + 4 * i..95 + 4 * i].copy_from_slice(&self.cache[i]);
+        }
+        block
+    }
+
+    /// The device of a state block, if it is well formed.
+    pub fn decode(block: &[u8]) -> Option<Device> {
+        if !well_formed(block) {
+            return None;
+        }
+        let mut device = Device::fresh();
+        device.status = block[2];
+        device.registers.copy_from_slice(&block[3..14]);
+        device.counter = block[14];
+        device.jumped = block[15] == 1;
+        device.line_count = block[16];
+        device.address = block[17] as u16 + 256 * block[18] as u16;
+        device.read_buffer = block[19];
+        device.chosen = match block[20] {
+            0 => Chosen::Nothing,
+            1 => Chosen::Video,
+            _ => Chosen::Palette,
+        };
+        device.command_latch = if block[21] == 1 { Some(block[22]) } else { None };
+        device.palette_latch = if block[23] == 1 { Some(block[24]) } else { None };
+        device.vertical_scroll = block[25];
+        device.dirty = block[26] == 1;
+        device.palette.copy_from_slice(&block[27..91]);
+        for i in 0..32 {
+            device.cache[i].copy_from_slice(&block[91 + 4 * i..95 + 4 * i]);
+        }
+        Some(device)
+    }
+}
+
+struct Picture {
+    colour: [u8; 256],
+    status: u8,
+}
+
+struct Stand {
+    seen: bool,
+    x: usize,
+    start: usize,
+    end: usize,
+}
+
+fn bit(byte: u8, k: u32) -> bool {
+    byte / 2u8.pow(k) % 2 == 1
+}
+
+/// The code 0 to 15 of one pixel of the tile at this address: a bit of each of four bytes, the leftmost pixel at bit 7.
+fn tile_code(video: &[u8], tile: usize, down: usize, across: usize) -> u8 {
+    let mut code = 0;
+    for plane in 0..4 {
+        if video[tile + 4 * down + plane] >> (7 - across) & 1 == 1 {
+            code += 1 << plane;
+        }
+    }
+    code
+}
+
+/// The 32 colours of a palette.
+pub fn colours(palette: &[u8; 64]) -> [[u8; 4]; 32] {
+    let mut all = [[0; 4]; 32];
+    for i in 0..32 {
+        let (a, b) = (palette[2 * i], palette[2 * i + 1]);
+        all[i] = [17 * (a % 16), 17 * (a / 16), 17 * (b % 16), 255];
+    }
+    all
+}
+
+pub fn well_formed(block: &[u8]) -> bool {
+    block.len() == BLOCK_SIZE
+        && block[0] == 0x56
+        && block[1] == 0x53
+        && block[15] <= 1
+        && block[20] <= 2
+        && block[21] <= 1
+        && block[23] <= 1
+        && block[26] <= 1
+        && (block[21] == 1 || block[22] == 0)
+        && (block[23] == 1 || block[24] == 0)
+}
+
+/// The bytes of a row as a part of the frame; empty if there is no such row or the frame is too short.
+pub fn row_view(frame: &[u8], area: Area, row: usize) -> &[u8] {
+    if row >= area.height() || frame.len() < area.frame_size() {
+        return &frame[0..0];
+    }
+    &frame[row * area.row_size()..(row + 1) * area.row_size()]
+}
+
+/// The answer word of a step.
+fn step_word(answer: Result<Stepped, u32>) -> u32 {
+    match answer {
+        Err(refusal) => refusal,
+        Ok(stepped) => {
+            let row = match stepped.row {
+                None => 0,
+                Some(number) => (number as u32) << 16 | 1 << 24,
+            };
+            (stepped.interrupt as u32) << 8 | stepped.report << 9 | row
+        }
+    }
+}
+
+// The calls of the C face, over the block.
+
+pub fn vdp_new(state: &mut [u8]) -> u32 {
+    if state.len() != BLOCK_SIZE {
+        return 10;
+    }
+    state.copy_from_slice(&Device::fresh().encode());
+    0
+}
+
+pub fn vdp_out(state: &mut [u8], video: &mut [u8], port: u16, value: u8) -> u32 {
+    let mut device = match Device::decode(state) {
+        None => return 10,
+        Some(device) => device,
+    };
+    let refusal = device.write_port(video, port, value);
+    state.copy_from_slice(&device.encode());
+    refusal
+}
+
+pub fn vdp_input(state: &mut [u8], video: &[u8], port: u16) -> u32 {
+    let mut device = match Device::decode(state) {
+        None => return 10,
+        Some(device) => device,
+    };
+    let (refusal, byte) = device.read_port(video, port);
+    state.copy_from_slice(&device.encode());
+    refusal | (byte as u32) << 8
+}
+
+pub fn vdp_step(state: &mut [u8], video: &[u8], frame: &mut [u8], area: u8, notes: &mut Notes) -> u32 {
+    let mut device = match Device::decode(state) {
+        None => return 10,
+        Some(device) => device,
+    };
+    let area = match Area::from_number(area) {
+        None => return 11,
+        Some(area) => area,
+    };
+    let answer = device.frame_step(video, frame, area, notes);
+    state.copy_from_slice(&device.encode());
+    step_word(answer)
+}
+
+pub fn vdp_row_step(state: &mut [u8], video: &[u8], row: &mut [u8], area: u8, notes: &mut Notes) -> u32 {
+    let mut device = match Device::decode(state) {
+        None => return 10,
+        Some(device) => device,
+    };
+    let area = match Area::from_number(area) {
+        None => return 11,
+        Some(area) => area,
+    };
+    let answer = device.row_step(video, row, area, notes);
+    state.copy_from_slice(&device.encode());
+    step_word(answer)
+}
+
+pub fn vdp_dump_tileset(state: &[u8], video: &[u8], sheet: &mut [u8]) -> u32 {
+    match Device::decode(state) {
+        None => 10,
+        Some(device) => device.dump(video, sheet),
+    }
+}

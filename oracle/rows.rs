@@ -1,0 +1,89 @@
+//! Rows made to meet every rule of the picture: each X with and without the early clock, both heights, both pattern bases,
+//! every scroll modulo 8, with sprites that overlap and priority tiles under them.
+
+use crate::model::{self, Area, Device, BLOCK_SIZE, VIDEO_SIZE};
+use crate::random::Random;
+use crate::shrink::{self, Start};
+use crate::world::{Call, Ours, World};
+use crate::Counts;
+
+/// Draws all the rows; answers the number of differences (it stops at the first).
+pub fn run(seed: u64, side: Ours) -> u64 {
+    let mut random = Random::new(seed);
+    let mut world = World::new(side, seed);
+    let mut counts = Counts::default();
+    let total = 2 * 256 * 2 * 2 * 2 * 8;
+    for area in [Area::Visible, Area::Effective] {
+        for x in 0..=255u8 {
+            for shape in 0..64 {
+                let (early, tall, high, scroll) = (shape & 1, shape >> 1 & 1, shape >> 2 & 1, shape >> 3);
+                let (block, video) = scene(&mut random, area, x, [early, tall, high, scroll]);
+                world.start(&block, &video);
+                let call = Call::row_step(area, 0);
+                match world.call(&call) {
+                    Ok(met) => counts.add(&call, &met),
+                    Err(text) => {
+                        println!("difference: {}", text);
+                        shrink::report(side, Start { block: block.to_vec(), video }, vec![call]);
+                        println!("compare: rows, seed {}, 1 difference", seed);
+                        return 1;
+                    }
+                }
+                counts.progress(total);
+            }
+        }
+    }
+    counts.print();
+    println!("compare: {} rows, seed {}, 0 differences", counts.calls, seed);
+    0
+}
+
+/// A device about to draw a row with a first sprite at X and others that touch it.
+fn scene(random: &mut Random, area: Area, x: u8, [early, tall, high, scroll]: [u8; 4]) -> ([u8; BLOCK_SIZE], Vec<u8>) {
+    let mut device = Device::fresh();
+    let line = match area {
+        Area::Visible => 24 + random.below(144),
+        Area::Effective => random.below(224),
+    } as u8;
+    device.counter = line.wrapping_sub(1);
+    device.jumped = true;
+    device.registers[0] = early << 3;
+    device.registers[1] = tall << 1 | 0x40;
+    device.registers[2] = random.byte();
+    device.registers[5] = random.byte();
+    device.registers[6] = high << 2;
+    device.registers[8] = (random.byte() & 0xF8) + scroll;
+    device.registers[9] = random.byte();
+    device.vertical_scroll = random.byte();
+    random.fill(&mut device.palette);
+    device.cache = model::colours(&device.palette);
+    device.dirty = random.chance(1, 2);
+    let mut video = vec![0; VIDEO_SIZE];
+    random.fill(&mut video);
+    for tile in 0..512 {
+        if random.chance(1, 3) {
+            let byte = random.one_of(&[0x00, 0xFF]);
+            video[32 * tile..32 * tile + 32].fill(byte);
+        }
+    }
+    let names = (device.registers[2] & 0x0E) as usize * 1024;
+    let priority = random.one_of(&[0x00, 0x10]);
+    for entry in 0..28 * 32 {
+        video[names + 2 * entry + 1] = video[names + 2 * entry + 1] & 0x0F | priority & random.byte();
+    }
+    // the sprites: on the line from the top or the bottom on, a few pixels from the first, or anywhere
+    let table = (device.registers[5] & 0x7E) as usize * 128;
+    let height = if tall == 1 { 16 } else { 8 };
+    let on_line = 1 + random.below(10);
+    for n in 0..64 {
+        let down = if n < on_line { random.below(height) as u8 } else { height as u8 + 1 };
+        video[table + n] = line.wrapping_sub(1 + down);
+        let near = x.wrapping_add(random.below(17) as u8).wrapping_sub(8);
+        video[table + 128 + 2 * n] = match n {
+            0 => x,
+            _ if random.chance(2, 3) => near,
+            _ => random.byte(),
+        };
+    }
+    (device.encode(), video)
+}

@@ -1,0 +1,62 @@
+//! The C face made of the model, as a shared library: stands in for libvdp.a where a program over the C face is tried
+//! and the proved library is not at hand (and, damaged on purpose, shows that the programs notice).
+
+pub mod model;
+
+use model::Notes;
+
+/// The bytes that a caller lends.
+unsafe fn lent<'a>(at: *const u8, len: usize) -> &'a [u8] {
+    if len == 0 {
+        &[]
+    } else {
+        std::slice::from_raw_parts(at, len)
+    }
+}
+
+/// The bytes that a caller lends to be changed.
+unsafe fn lent_mut<'a>(at: *mut u8, len: usize) -> &'a mut [u8] {
+    if len == 0 {
+        &mut []
+    } else {
+        std::slice::from_raw_parts_mut(at, len)
+    }
+}
+
+#[no_mangle]
+pub unsafe extern "C" fn vdp_new(state: *mut u8, state_len: usize) -> u32 {
+    model::vdp_new(lent_mut(state, state_len))
+}
+
+#[no_mangle]
+pub unsafe extern "C" fn vdp_out(state: *mut u8, state_len: usize, vram: *mut u8, vram_len: usize, port: u16, value: u8) -> u32 {
+    model::vdp_out(lent_mut(state, state_len), lent_mut(vram, vram_len), port, value)
+}
+
+#[no_mangle]
+pub unsafe extern "C" fn vdp_input(state: *mut u8, state_len: usize, vram: *const u8, vram_len: usize, port: u16) -> u32 {
+    model::vdp_input(lent_mut(state, state_len), lent(vram, vram_len), port)
+}
+
+#[no_mangle]
+pub unsafe extern "C" fn vdp_step(
+    state: *mut u8, state_len: usize, vram: *const u8, vram_len: usize, frame: *mut u8, frame_len: usize, area: u8,
+) -> u32 {
+    let mut notes = Notes::default();
+    model::vdp_step(lent_mut(state, state_len), lent(vram, vram_len), lent_mut(frame, frame_len), area, &mut notes)
+}
+
+#[no_mangle]
+pub unsafe extern "C" fn vdp_row_step(
+    state: *mut u8, state_len: usize, vram: *const u8, vram_len: usize, row: *mut u8, row_len: usize, area: u8,
+) -> u32 {
+    let mut notes = Notes::default();
+    model::vdp_row_step(lent_mut(state, state_len), lent(vram, vram_len), lent_mut(row, row_len), area, &mut notes)
+}
+
+#[no_mangle]
+pub unsafe extern "C" fn vdp_dump_tileset(
+    state: *const u8, state_len: usize, vram: *const u8, vram_len: usize, pixels: *mut u8, pixels_len: usize,
+) -> u32 {
+    model::vdp_dump_tileset(lent(state, state_len), lent(vram, vram_len), lent_mut(pixels, pixels_len))
+}

@@ -1,0 +1,524 @@
+//! One device three times over, beside each other: ours, the model, and the published Rust, with the buffers that each is lent.
+//! `call` makes the same call on all and says where they differ.
+
+use crate::face;
+use crate::gears::{self, DisplayRefresh, RenderArea, Vdp, VdpInt};
+use crate::io::Device;
+use crate::model::{self, Area, Notes, BLOCK_SIZE, SHEET_SIZE, VIDEO_SIZE};
+use crate::random::Random;
+use std::cell::Cell;
+use std::panic::{catch_unwind, AssertUnwindSafe};
+
+/// Bytes before and after each lent part that must never change; odd, so that nothing is aligned by luck.
+const GUARD: usize = 67;
+/// A lent part may be longer than it need be by this much.
+pub const EXTRA: usize = 2048;
+
+#[derive(Clone, Copy, PartialEq, Debug)]
+pub enum Kind {
+    New,
+    Out,
+    Input,
+    Step,
+    RowStep,
+    Dump,
+}
+
+/// A call with all that it is given.
+#[derive(Clone, Debug)]
+pub struct Call {
+    pub kind: Kind,
+    pub port: u16,
+    /// The byte to write, or the area.
+    pub value: u8,
+    pub state_len: usize,
+    pub video_len: usize,
+    /// The length of the frame, row or sheet.
+    pub pixels_len: usize,
+    /// A byte of the block that is set just before the call.
+    pub poke: Option<(usize, u8)>,
+}
+
+impl Call {
+    /// A call with right lengths, and no pixels.
+    pub fn plain(kind: Kind, port: u16, value: u8) -> Call {
+        Call { kind, port, value, state_len: BLOCK_SIZE, video_len: VIDEO_SIZE, pixels_len: 0, poke: None }
+    }
+    pub fn out(port: u16, value: u8) -> Call {
+        Call::plain(Kind::Out, port, value)
+    }
+    pub fn input(port: u16) -> Call {
+        Call::plain(Kind::Input, port, 0)
+    }
+    pub fn step(area: Area, extra: usize) -> Call {
+        Call { pixels_len: area.frame_size() + extra, ..Call::plain(Kind::Step, 0, area as u8) }
+    }
+    pub fn row_step(area: Area, extra: usize) -> Call {
+        Call { pixels_len: area.row_size() + extra, ..Call::plain(Kind::RowStep, 0, area as u8) }
+    }
+    pub fn dump() -> Call {
+        Call { pixels_len: SHEET_SIZE, ..Call::plain(Kind::Dump, 0, 0) }
+    }
+    /// The kind and area by name, for the counts.
+    pub fn name(&self) -> &'static str {
+        match (self.kind, self.value) {
+            (Kind::New, _) => "new",
+            (Kind::Out, _) => "port writes",
+            (Kind::Input, _) => "port reads",
+            (Kind::Step, 0) => "visible steps",
+            (Kind::Step, 1) => "effective steps",
+            (Kind::RowStep, 0) => "visible row steps",
+            (Kind::RowStep, 1) => "effective row steps",
+            (Kind::Dump, _) => "dumps",
+            _ => "steps of no area",
+        }
+    }
+}
+
+/// A lent part of any length up to its room, between guards.
+#[derive(Clone)]
+struct Buffer {
+    bytes: Vec<u8>,
+}
+
+impl Buffer {
+    fn new(room: usize, random: &mut Random) -> Buffer {
+        let mut bytes = vec![0; GUARD + room + GUARD];
+        random.fill(&mut bytes);
+        Buffer { bytes }
+    }
+    fn part(&self, len: usize) -> &[u8] {
+        &self.bytes[GUARD..GUARD + len]
+    }
+    fn part_mut(&mut self, len: usize) -> &mut [u8] {
+        &mut self.bytes[GUARD..GUARD + len]
+    }
+}
+
+/// What one side owns and lends.
+#[derive(Clone)]
+struct Memory {
+    state: Buffer,
+    video: Buffer,
+    visible: Buffer,
+    effective: Buffer,
+    row: Buffer,
+    sheet: Buffer,
+}
+
+impl Memory {
+    fn new(random: &mut Random) -> Memory {
+        Memory {
+            state: Buffer::new(BLOCK_SIZE + 64, random),
+            video: Buffer::new(VIDEO_SIZE + 128, random),
+            visible: Buffer::new(Area::Visible.frame_size() + EXTRA, random),
+            effective: Buffer::new(Area::Effective.frame_size() + EXTRA, random),
+            row: Buffer::new(1024 + EXTRA, random),
+            sheet: Buffer::new(SHEET_SIZE + 128, random),
+        }
+    }
+    fn block(&self) -> &[u8] {
+        self.state.part(BLOCK_SIZE)
+    }
+    /// The frame that a step of this area draws into.
+    fn frame(&self, area: u8) -> &Buffer {
+        if area == 1 {
+            &self.effective
+        } else {
+            &self.visible
+        }
+    }
+    fn frame_mut(&mut self, area: u8) -> &mut Buffer {
+        if area == 1 {
+            &mut self.effective
+        } else {
+            &mut self.visible
+        }
+    }
+}
+
+/// Which side is held beside the Rust and the model.
+#[derive(Clone, Copy, PartialEq)]
+pub enum Ours {
+    Library,
+    Model,
+}
+
+fn perform_model(m: &mut Memory, c: &Call, notes: &mut Notes) -> u32 {
+    let n = c.pixels_len;
+    match c.kind {
+        Kind::New => model::vdp_new(m.state.part_mut(c.state_len)),
+        Kind::Out => model::vdp_out(m.state.part_mut(c.state_len), m.video.part_mut(c.video_len), c.port, c.value),
+        Kind::Input => model::vdp_input(m.state.part_mut(c.state_len), m.video.part(c.video_len), c.port),
+        Kind::Step => {
+            let frame = if c.value == 1 { &mut m.effective } else { &mut m.visible };
+            model::vdp_step(m.state.part_mut(c.state_len), m.video.part(c.video_len), frame.part_mut(n), c.value, notes)
+        }
+        Kind::RowStep => {
+            model::vdp_row_step(m.state.part_mut(c.state_len), m.video.part(c.video_len), m.row.part_mut(n), c.value, notes)
+        }
+        Kind::Dump => model::vdp_dump_tileset(m.state.part(c.state_len), m.video.part(c.video_len), m.sheet.part_mut(n)),
+    }
+}
+
+fn perform_library(m: &mut Memory, c: &Call) -> u32 {
+    let n = c.pixels_len;
+    match c.kind {
+        Kind::New => face::vdp_new(m.state.part_mut(c.state_len)),
+        Kind::Out => face::vdp_out(m.state.part_mut(c.state_len), m.video.part_mut(c.video_len), c.port, c.value),
+        Kind::Input => face::vdp_input(m.state.part_mut(c.state_len), m.video.part(c.video_len), c.port),
+        Kind::Step => {
+            let frame = if c.value == 1 { &mut m.effective } else { &mut m.visible };
+            face::vdp_step(m.state.part_mut(c.state_len), m.video.part(c.video_len), frame.part_mut(n), c.value)
+        }
+        Kind::RowStep => face::vdp_row_step(m.state.part_mut(c.state_len), m.video.part(c.video_len), m.row.part_mut(n), c.value),
+        Kind::Dump => face::vdp_dump_tileset(m.state.part(c.state_len), m.video.part(c.video_len), m.sheet.part_mut(n)),
+    }
+}
+
+thread_local! {
+    /// Set while the published Rust runs: its panics are answers, and are not printed.
+    static QUIET: Cell<bool> = Cell::new(false);
+}
+
+/// Keeps the panics of the published Rust off the screen; all others are printed as usual.
+pub fn quiet_panics() {
+    let usual = std::panic::take_hook();
+    std::panic::set_hook(Box::new(move |info| {
+        if !QUIET.with(|q| q.get()) {
+            usual(info)
+        }
+    }));
+}
+
+/// Runs the published Rust; `Err` is the text of its panic.
+fn caught<R>(run: impl FnOnce() -> R) -> Result<R, String> {
+    QUIET.with(|q| q.set(true));
+    let done = catch_unwind(AssertUnwindSafe(run));
+    QUIET.with(|q| q.set(false));
+    done.map_err(|why| match why.downcast_ref::<String>() {
+        Some(text) => text.clone(),
+        None => why.downcast_ref::<&str>().unwrap_or(&"a panic with no text").to_string(),
+    })
+}
+
+/// The refusal that stands for an error text of the Rust.
+fn error_number(text: &str) -> Option<u32> {
+    let starts = [("unknown VDP", 1), ("No VDP write dest", 4), ("Reading from Color RAM", 5), ("VDP access to", 7)];
+    starts.iter().find(|(start, _)| text.starts_with(start)).map(|(_, number)| *number)
+}
+
+/// The refusal that stands for a panic text of the Rust in a port call.
+fn panic_number(text: &str, address_is_16384: bool) -> Option<u32> {
+    if text.starts_with("Unimplemented H COUNTER") {
+        Some(2)
+    } else if text.starts_with("Unexpected high VDP register") {
+        Some(3)
+    } else if text.contains("on a `None` value") {
+        Some(6)
+    } else if text.starts_with("index out of bounds") && address_is_16384 {
+        Some(7)
+    } else {
+        None
+    }
+}
+
+/// What was met, for the counts.
+#[derive(Default)]
+pub struct Met {
+    pub word: u32,
+    /// The call was also held beside the Rust.
+    pub beside_rust: bool,
+    pub departure: Option<&'static str>,
+}
+
+pub const EARLY_CLOCK: &str = "early clock, X 41 to 48 (Rust asserts)";
+pub const PAST_EDGE: &str = "effective, past the right edge (Rust draws in the next row)";
+pub const SHORT: &str = "short buffer (Rust panics at an index, or not at all)";
+pub const ADDRESS_VIDEO: &str = "video address 16384 (Rust panics at an index)";
+pub const ADDRESS_PALETTE: &str = "palette address 64 (Rust accepts the write)";
+pub const DEPARTURES: [&str; 5] = [EARLY_CLOCK, PAST_EDGE, SHORT, ADDRESS_VIDEO, ADDRESS_PALETTE];
+
+pub struct World {
+    side: Ours,
+    ours: Memory,
+    model: Memory,
+    rust: Vdp,
+    /// The Rust's frames; its part is lent 32 bytes longer in the effective area, so that what it draws past the frame has room.
+    rust_frames: Memory,
+    /// Where the Rust draws the row that a row step is compared with.
+    rust_scratch: Vec<u8>,
+}
+
+impl World {
+    /// A fresh device, with buffers of any bytes that the seed gives and zeroed video memory.
+    pub fn new(side: Ours, seed: u64) -> World {
+        let mut random = Random::new(seed ^ 0x5EED);
+        let memory = Memory::new(&mut random);
+        let mut world = World {
+            side,
+            ours: memory.clone(),
+            model: memory.clone(),
+            rust: Vdp::new(),
+            rust_frames: memory,
+            rust_scratch: vec![0; Area::Effective.frame_size() + 64],
+        };
+        let fresh = model::Device::fresh().encode();
+        world.start(&fresh, &[0; VIDEO_SIZE]);
+        world
+    }
+
+    /// Puts all three into this state.
+    pub fn start(&mut self, block: &[u8], video: &[u8]) {
+        for memory in [&mut self.ours, &mut self.model] {
+            memory.state.part_mut(BLOCK_SIZE).copy_from_slice(block);
+            memory.video.part_mut(VIDEO_SIZE).copy_from_slice(video);
+        }
+        gears::load(&self.rust, block, video);
+    }
+
+    pub fn block(&self) -> &[u8] {
+        self.model.block()
+    }
+    pub fn video(&self) -> &[u8] {
+        self.model.video.part(VIDEO_SIZE)
+    }
+
+    /// Loads the Rust with the model's state: after a departure, or a byte set by hand.
+    fn reload(&mut self) {
+        gears::load(&self.rust, self.model.block(), self.model.video.part(VIDEO_SIZE));
+    }
+
+    /// Makes the call on all sides; `Err` tells how they differ.
+    pub fn call(&mut self, c: &Call) -> Result<Met, String> {
+        let mut undo = None;
+        if let Some((at, byte)) = c.poke {
+            let old = self.model.block()[at];
+            self.model.state.part_mut(BLOCK_SIZE)[at] = byte;
+            self.ours.state.part_mut(BLOCK_SIZE)[at] = byte;
+            if model::well_formed(self.model.block()) {
+                self.reload();
+            } else {
+                undo = Some((at, old));
+            }
+        }
+        let before = model::Device::decode(self.model.block());
+
+        let mut notes = Notes::default();
+        let word = perform_model(&mut self.model, c, &mut notes);
+        let mut our_notes = Notes::default();
+        let our_word = match self.side {
+            Ours::Library => perform_library(&mut self.ours, c),
+            Ours::Model => perform_model(&mut self.ours, c, &mut our_notes),
+        };
+
+        if our_word != word {
+            return Err(format!("answer: ours {:08X}, model {:08X}", our_word, word));
+        }
+        same("state block", "model", &self.ours.state.bytes, &self.model.state.bytes, GUARD)?;
+        same("video memory", "model", &self.ours.video.bytes, &self.model.video.bytes, GUARD)?;
+        match c.kind {
+            Kind::Step => same("frame", "model", &self.ours.frame(c.value).bytes, &self.model.frame(c.value).bytes, GUARD)?,
+            Kind::RowStep => same("row buffer", "model", &self.ours.row.bytes, &self.model.row.bytes, GUARD)?,
+            Kind::Dump => same("sheet", "model", &self.ours.sheet.bytes, &self.model.sheet.bytes, GUARD)?,
+            _ => {}
+        }
+
+        let mut met = Met { word, ..Met::default() };
+        if word % 256 == 9 {
+            met.departure = Some(SHORT);
+        }
+        // Refusals 8 to 11 have no counterpart in the Rust: what it has can be neither damaged nor of another length.
+        if word % 256 < 8 {
+            if let Some(before) = &before {
+                met.beside_rust = true;
+                met.departure = self.beside_rust(c, before, word, &notes)?;
+            } else if c.kind == Kind::New {
+                met.beside_rust = true;
+                self.beside_new()?;
+            }
+        }
+        if let Some((at, byte)) = undo {
+            if c.kind != Kind::New || word != 0 {
+                self.model.state.part_mut(BLOCK_SIZE)[at] = byte;
+                self.ours.state.part_mut(BLOCK_SIZE)[at] = byte;
+            }
+        }
+        Ok(met)
+    }
+
+    /// A fresh device of the Rust beside ours, then put in the place of the one before.
+    fn beside_new(&mut self) -> Result<(), String> {
+        let mut block = [0; BLOCK_SIZE];
+        gears::read(&Vdp::default(), &mut block);
+        same("state block", "Rust", self.ours.block(), &block, 0)?;
+        self.reload();
+        Ok(())
+    }
+
+    /// The same call on the Rust; answers the departure that was met, if any.
+    fn beside_rust(&mut self, c: &Call, before: &model::Device, word: u32, notes: &Notes) -> Result<Option<&'static str>, String> {
+        let mut departure = None;
+        let at_16384 = before.chosen == model::Chosen::Video && before.address == 16384;
+        let mut rust_word = 0;
+        match c.kind {
+            Kind::New => {
+                self.beside_new()?;
+                return Ok(None);
+            }
+            Kind::Out | Kind::Input => {
+                rust_word = rust_port_word(&self.rust, c, at_16384)?;
+                let data = c.port % 256 == 0xBE;
+                if data && at_16384 {
+                    departure = Some(ADDRESS_VIDEO);
+                }
+                if data && c.kind == Kind::Out && before.chosen == model::Chosen::Palette && before.address == 64 {
+                    // The Rust latches the byte and goes on to address 1; nothing else of the state may differ.
+                    let mut block = [0; BLOCK_SIZE];
+                    gears::read(&self.rust, &mut block);
+                    let mut expected = before.clone();
+                    expected.command_latch = None;
+                    expected.palette_latch = Some(c.value);
+                    expected.address = 1;
+                    same("state block after the accepted write at 64", "Rust", &expected.encode(), &block, 0)?;
+                    self.reload();
+                    return Ok(Some(ADDRESS_PALETTE));
+                }
+            }
+            Kind::Dump => {
+                let rust = &self.rust;
+                let sheet = self.rust_frames.sheet.part_mut(c.pixels_len);
+                caught(|| rust.dump_tileset(sheet)).map_err(|text| format!("the Rust panicked in a dump: {}", text))?;
+                same("sheet", "Rust", &self.ours.sheet.bytes, &self.rust_frames.sheet.bytes, GUARD)?;
+            }
+            Kind::Step | Kind::RowStep => {
+                let area = Area::from_number(c.value).expect("an accepted step has an area");
+                let rust = &self.rust;
+                let room = if area == Area::Effective { 32 } else { 0 };
+                let said = if c.kind == Kind::Step {
+                    let frame = self.rust_frames.frame_mut(c.value).part_mut(c.pixels_len + room);
+                    caught(|| rust.step(frame, rust_area(area)))
+                } else {
+                    let frame = &mut self.rust_scratch[..area.frame_size() + room];
+                    caught(|| rust.step(frame, rust_area(area)))
+                };
+                match said {
+                    Err(text) => {
+                        if !(notes.asserts && text.contains("x_start < CHAR_SIZE")) {
+                            return Err(format!("the Rust panicked in a step: {}", text));
+                        }
+                        // The Rust has no answer: go on from the model's state and frame.
+                        self.reload();
+                        if c.kind == Kind::Step {
+                            let row = (word >> 16 & 0xFF) as usize * area.row_size();
+                            let good = &self.model.frame(c.value).part(c.pixels_len)[row..row + area.row_size()];
+                            let frame = self.rust_frames.frame_mut(c.value).part_mut(c.pixels_len);
+                            frame[row..row + area.row_size()].copy_from_slice(good);
+                            same("frame", "Rust", &self.ours.frame(c.value).bytes, &self.rust_frames.frame(c.value).bytes, GUARD)?;
+                        }
+                        return Ok(Some(EARLY_CLOCK));
+                    }
+                    Ok(answer) => {
+                        if notes.asserts {
+                            return Err("the Rust was to assert (early clock, X 41 to 48), and did not".to_string());
+                        }
+                        rust_word = rust_step_word(&self.rust, &answer, area);
+                    }
+                }
+                let row = (word >> 16 & 0xFF) as usize;
+                if word >> 24 == 1 {
+                    if notes.past_edge {
+                        departure = Some(PAST_EDGE);
+                    }
+                    if c.kind == Kind::Step {
+                        // Only the stray pixels are left out: they are put back.
+                        for column in &notes.stray {
+                            let at = GUARD + (row + 1) * area.row_size() + 4 * column;
+                            let good = &self.model.frame(c.value).bytes[at..at + 4];
+                            self.rust_frames.frame_mut(c.value).bytes[at..at + 4].copy_from_slice(good);
+                        }
+                    } else {
+                        let rust_row = model::row_view(&self.rust_scratch, area, row);
+                        same("row buffer", "Rust", self.ours.row.part(area.row_size()), rust_row, 0)?;
+                    }
+                }
+                if c.kind == Kind::Step {
+                    same("frame", "Rust", &self.ours.frame(c.value).bytes, &self.rust_frames.frame(c.value).bytes, GUARD)?;
+                }
+            }
+        }
+        if rust_word != word {
+            return Err(format!("answer: ours {:08X}, Rust {:08X}", word, rust_word));
+        }
+        let mut block = [0; BLOCK_SIZE];
+        gears::read(&self.rust, &mut block);
+        same("state block", "Rust", self.ours.block(), &block, 0)?;
+        if !gears::video_is(&self.rust, self.ours.video.part(VIDEO_SIZE)) {
+            return Err("video memory differs from the Rust's".to_string());
+        }
+        Ok(departure)
+    }
+}
+
+/// A port call of the Rust as an answer word; `Err` where its error or panic stands for no refusal.
+pub fn rust_port_word(rust: &Vdp, c: &Call, at_16384: bool) -> Result<u32, String> {
+    let said = caught(|| match c.kind {
+        Kind::Out => rust.out(c.port, c.value, 0).map(|_| 0),
+        _ => rust.input(c.port, 0),
+    });
+    let number = match &said {
+        Ok(Ok(byte)) => Some((*byte as u32) << 8),
+        Ok(Err(text)) => error_number(text),
+        Err(text) => panic_number(text, at_16384),
+    };
+    number.ok_or_else(|| format!("the Rust's answer has no number: {:?}", said))
+}
+
+/// What a step of the Rust gave as an answer word; it tells no row, so that follows from its counter.
+pub fn rust_step_word(rust: &Vdp, answer: &(VdpInt, DisplayRefresh), area: Area) -> u32 {
+    let mut block = [0; BLOCK_SIZE];
+    gears::read(rust, &mut block);
+    let interrupt = match answer.0 {
+        VdpInt::NoInterrupt => 0,
+        VdpInt::InterruptGenerated => 1,
+    };
+    let report = match answer.1 {
+        DisplayRefresh::NoDisplay => 0,
+        DisplayRefresh::ScreenDone => 1,
+        DisplayRefresh::ScreenDoneNoRefresh => 2,
+    };
+    let row = area.row_at(block[14]).map_or(0, |row| 1 << 24 | (row as u32) << 16);
+    interrupt << 8 | report << 9 | row
+}
+
+/// The Rust's name of an area.
+pub fn rust_area(area: Area) -> RenderArea {
+    match area {
+        Area::Visible => RenderArea::VisibleOnly,
+        Area::Effective => RenderArea::EffectiveArea,
+    }
+}
+
+/// Tells where two buffers differ, if they do; places are told from the start of the lent part, `lead` bytes in.
+fn same(what: &str, whose: &str, ours: &[u8], other: &[u8], lead: usize) -> Result<(), String> {
+    if ours == other {
+        return Ok(());
+    }
+    let differ: Vec<usize> = (0..ours.len().min(other.len())).filter(|&i| ours[i] != other[i]).collect();
+    let first = differ.first().copied().unwrap_or(0);
+    let last = differ.last().copied().unwrap_or(0);
+    let show = |bytes: &[u8]| -> String {
+        let shown = &bytes[first..bytes.len().min(first + 8)];
+        shown.iter().map(|byte| format!(" {:02X}", byte)).collect()
+    };
+    Err(format!(
+        "{}: {} bytes differ, first at {}, last at {}; from the first on: ours{}, {}{}",
+        what,
+        differ.len(),
+        first as isize - lead as isize,
+        last as isize - lead as isize,
+        show(ours),
+        whose,
+        show(other)
+    ))
+}
