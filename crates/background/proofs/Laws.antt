@@ -1,0 +1,127 @@
+-- The laws of a row of background: the columns of one tile, their marks, and where runs of pixels start.
+-- Assumes nothing.
+use mathlib.Core.Path.{_≡_, sym, ap, _∙_}
+use mathlib.Core.Logic.{_⊎_, inr, ⊎-elim}
+use mathlib.Core.List.{List}
+use mathlib.Core.Bool.{Bool, true, false, cond, _&&_, _||_, and-false, or-false}
+use Prim.Native.Nat.{ℕ, _+_, _-_, _*_, _/_, _%_, _<_, _≤_}
+use native.Mathlib.Nat.{add-assoc}
+use native.Mathlib.Decide.{decLt, ℕ-discrete}
+use native.Mathlib.Omega.{arith}
+use lib.Pow.{field, mod-mod-pow}
+use lib.Dec.{eqb, ltb}
+use borrow.Author.Tests.{lt-ltb, le-ltb, ne-eqb}
+use Rattle.laws.specs.Bits.{bit, digit, number, any}
+use Rattle.laws.specs.Circle.{past}
+use Rattle.laws.specs.Lists.{at}
+use Rattle.laws.proofs.Any.{any-cong, any-split, any-place, bit-of}
+use Rattle.bitmap.specs.Mask.{withByte, bytesOf}
+use Rattle.bitmap.proofs.Circle.{bytesOf-ext, withByte-bytesOf}
+use Rattle.picture.specs.Tile.{tileLine, entryAt, entryCode, entryColour, entryFront, mapColour, mapFront}
+use Rattle.picture.specs.View.{cutMark}
+use Rattle.tile.specs.Line.{lineCode, lineColour, lineSolid}
+use Rattle.background.specs.Background.{backColour, backFront, prioTo, placeAt, Whole}
+
+-- ---- columns of one tile
+same-column : (t i : ℕ) → t % 8 + i < 8 → (t + i) % 256 / 8 ≡ t % 256 / 8
+same-column t i h =
+    let e : (t + i) / 8 ≡ t / 8 = omega arith in
+    field (t + i) 5 3 ∙ ap (λ k. k % 32) e ∙ sym (field t 5 3)
+
+same-rest : (t i : ℕ) → t % 8 + i < 8 → (t + i) % 256 % 8 ≡ t % 256 % 8 + i
+same-rest t i h =
+    let e : (t + i) % 8 ≡ t % 8 + i = omega arith in
+    mod-mod-pow (t + i) 5 3 ∙ e ∙ ap (λ k. k + i) (sym (mod-mod-pow t 5 3))
+
+module _ (vram : List ℕ) (names sx y x i : ℕ) (h : (sx + x) % 8 + i < 8) where
+  abbrev pub lo : ℕ
+  lo = at vram (names + 2 * (32 * (y / 8) + (sx + x) % 256 / 8))
+
+  abbrev pub hi : ℕ
+  hi = at vram (names + 2 * (32 * (y / 8) + (sx + x) % 256 / 8) + 1)
+
+  pub back-colour : backColour vram names sx y (x + i) ≡ 16 * digit (bit hi 3) + lineCode vram (tileLine lo hi y) (bit hi 1) ((sx + x) % 256 % 8) i
+  unfolding backColour mapColour entryColour entryCode entryAt
+  back-colour = rw (← add-assoc sx x i, same-column (sx + x) i h, same-rest (sx + x) i h)
+
+  pub back-front : backFront vram names sx y (x + i) ≡ (bit hi 4 && lineSolid vram (tileLine lo hi y) (bit hi 1) ((sx + x) % 256 % 8) i)
+  unfolding backFront mapFront entryFront entryCode entryAt
+  back-front = rw (← add-assoc sx x i, same-column (sx + x) i h, same-rest (sx + x) i h)
+
+  -- the same, from what the code has of the tile
+  pub back-shade : (colours : List ℕ) {pal addr : ℕ} {flip t : Bool} → flip ≡ bit hi 1 → t ≡ bit hi 3 → pal ≡ 16 * digit t → addr ≡ tileLine lo hi y
+      → lineColour colours pal vram addr flip ((sx + x) % 256 % 8) i ≡ at colours (backColour vram names sx y (x + i))
+  back-shade colours f t p a = ap (λ (k : ℕ). at colours k) (rw (p, t, a, f) (sym back-colour))
+
+  pub back-in-front : {addr : ℕ} {flip t : Bool} → flip ≡ bit hi 1 → t ≡ bit hi 4 → addr ≡ tileLine lo hi y
+      → backFront vram names sx y (x + i) ≡ (t && lineSolid vram addr flip ((sx + x) % 256 % 8) i)
+  back-in-front f t a = rw (t, a, f) back-front
+
+-- ---- the marks of one tile
+module _ (vram : List ℕ) (names sx y cut x n : ℕ) (small : n ≤ 8) (w : Whole cut x n) (solid : ℕ → Bool) where
+  more : (t : Bool) → ((j : ℕ) → j < n → backFront vram names sx y (x + j) ≡ (t && solid j)) → (i : ℕ) → i < 256
+      → prioTo vram names sx y cut (x + n) i ≡ (prioTo vram names sx y cut x i || (ltb (past i (placeAt cut x)) n && (t && solid (past i (placeAt cut x)))))
+  unfolding prioTo
+  more t f i l =
+      any-split x n (λ p. eqb (cutMark cut p) i && backFront vram names sx y p)
+      ∙ ap (λ (b : Bool). any x (λ p. eqb (cutMark cut p) i && backFront vram names sx y p) || b)
+      (any-cong n (λ j. eqb (cutMark cut (x + j)) i && backFront vram names sx y (x + j)) (λ j. eqb ((placeAt cut x + j) % 256) i && (t && solid j))
+      (λ j h. rw (w j h, f j h))
+      ∙ any-place n (placeAt cut x) i (λ j. t && solid j) (omega arith) l)
+
+  pub tile-marks : (t : Bool) {mask mask′ : List ℕ} {bits : ℕ} → ((j : ℕ) → j < n → backFront vram names sx y (x + j) ≡ (t && solid j)) → mask ≡ bytesOf (prioTo vram names sx y cut x)
+      → bits ≡ number n solid → mask′ ≡ cond t (withByte mask (placeAt cut x) bits) mask → mask′ ≡ bytesOf (prioTo vram names sx y cut (x + n))
+  tile-marks true f e b p =
+      p ∙ rw (e, b, withByte-bytesOf (prioTo vram names sx y cut x) (placeAt cut x) (number n solid))
+      (bytesOf-ext (λ i. prioTo vram names sx y cut x i || bit (number n solid) (past i (placeAt cut x))) (prioTo vram names sx y cut (x + n))
+      (λ i l. rw (bit-of n solid (past i (placeAt cut x))) (sym (more true f i l))))
+  tile-marks false f e b p =
+      p ∙ e ∙ bytesOf-ext (prioTo vram names sx y cut x) (prioTo vram names sx y cut (x + n))
+      (λ i l. sym (more false f i l ∙ rw (and-false (ltb (past i (placeAt cut x)) n)) (or-false (prioTo vram names sx y cut x i))))
+
+-- ---- where a run of pixels starts: at the row's start, or, in the row, at a tile's first pixel
+abbrev pub Starts : ℕ → ℕ → ℕ → Type 0
+Starts sx width x = (x ≡ 0) ⊎ (x < width → (8 ≤ sx % 8 + x) × ((sx + x) % 8 ≡ 0))
+
+-- a mark of a row that is not cut, and of a tile that is not the first, is at its pixel
+uncut : (k : ℕ) → k < 256 → cutMark 0 k ≡ k
+unfolding cutMark
+uncut k h =
+    elim (decLt k 8) [
+      | yes l ↦ rw (lt-ltb k 8 l) (omega arith)
+      | no l ↦ let m : 8 ≤ k = omega arith in rw (le-ltb k 8 m)
+    ]
+
+beyond : (cut k : ℕ) → 8 - cut ≤ k → cutMark cut k ≡ k
+unfolding cutMark
+beyond cut k h = rw (le-ltb k (8 - cut) h)
+
+first : (cut j : ℕ) → cut ≤ 8 → j < 8 - cut → cutMark cut (0 + j) ≡ ((256 - cut) % 256 + j) % 256
+unfolding cutMark
+first cut j c h = let l : 0 + j < 8 - cut = omega arith in rw (lt-ltb (0 + j) (8 - cut) l) (omega arith)
+
+small-mod : (k : ℕ) → k < 256 → k ≡ k % 256
+small-mod k h = omega arith
+
+pub whole : (sx width cut x n : ℕ) → (cut ≡ 0) ⊎ (cut ≡ sx % 8) → Starts sx width x → x < width → (sx + x) % 8 + n ≤ 8 → x + n ≤ 256 → Whole cut x n
+whole sx width cut x n d s l f r j h =
+    elim (ℕ-discrete x 0) [
+      | yes z ↦
+          let c8 : cut ≤ 8 = ⊎-elim (λ q. omega arith) (λ q. omega arith) d in
+          let lj : j < 8 - cut = ⊎-elim (λ q. omega arith) (λ q. omega arith) d in
+          rw (z) (first cut j c8 lj)
+      | no nz ↦
+          let b : x + j < 256 = omega arith in
+          rw (ne-eqb x 0 nz)
+          (⊎-elim (λ q. rw q (uncut (x + j) b))
+          (λ q.
+          let v = ⊎-elim {C = (8 ≤ sx % 8 + x) × ((sx + x) % 8 ≡ 0)} (λ z. absurd (nz z)) (λ u. u l) s in
+          let a : 8 - cut ≤ x + j = omega arith in
+          beyond cut (x + j) a)
+          d ∙ small-mod (x + j) b)
+    ]
+
+pub starts-next : (sx width x n : ℕ) → Starts sx width x → x < width → x + n ≤ width → (x + n < width → (sx + x) % 8 + n ≡ 8) → Starts sx width (x + n)
+starts-next sx width x n s l r e =
+    inr (λ h. let q = e h in
+    ⊎-elim (λ z. (omega arith, omega arith)) (λ u. let v = u l in (omega arith, omega arith)) s)

@@ -1,0 +1,42 @@
+-- A row of background, by the map's column sx that its pixel 0 shows, the map's line y, and how far to the left its first tile marks.
+-- Assumes nothing.
+use mathlib.Core.Path.{_≡_}
+use mathlib.Core.List.{List}
+use mathlib.Core.Bool.{Bool, cond, _&&_}
+use Prim.Native.Nat.{ℕ, _+_, _-_, _%_, _≤_, _<_}
+use lib.ListN.{length}
+use lib.Dec.{eqb}
+use Rattle.laws.specs.Bits.{any}
+use Rattle.laws.specs.Lists.{at}
+use Rattle.picture.specs.Tile.{mapColour, mapFront}
+use Rattle.picture.specs.View.{cutMark}
+
+-- the colour number of pixel x, and whether it stands in front of sprites
+unfoldable pub backColour : List ℕ → ℕ → ℕ → ℕ → ℕ → ℕ
+backColour vram names sx y x = mapColour (at vram) names ((sx + x) % 256) y
+
+unfoldable pub backFront : List ℕ → ℕ → ℕ → ℕ → ℕ → Bool
+backFront vram names sx y x = mapFront (at vram) names ((sx + x) % 256) y
+
+-- the cached colour of pixel x, where f gives its number
+abbrev pub shade : List ℕ → (ℕ → ℕ) → ℕ → ℕ
+shade colours f x = at colours (f x)
+
+-- bit i of the priority mask after the pixels below n
+unfoldable pub prioTo : List ℕ → ℕ → ℕ → ℕ → ℕ → ℕ → ℕ → Bool
+prioTo vram names sx y cut n i = any n (λ x. eqb (cutMark cut x) i && backFront vram names sx y x)
+
+-- what the drawing asks of its arguments
+pub record Room (vram : List ℕ) (names sx y : ℕ) : Type 0 where
+  pub memory : length vram ≡ 16384
+  pub names-low : names ≤ 14336
+  pub column : sx < 256
+  pub line : y < 224
+
+-- where the pixels of one tile, from x on, mark
+abbrev pub placeAt : ℕ → ℕ → ℕ
+placeAt cut x = cond (eqb x 0) ((256 - cut) % 256) x
+
+-- the pixels x to below x + n mark the bits from there on, around the circle
+abbrev pub Whole : ℕ → ℕ → ℕ → Type 0
+Whole cut x n = (j : ℕ) → j < n → cutMark cut (x + j) ≡ (placeAt cut x + j) % 256

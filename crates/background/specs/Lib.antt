@@ -1,0 +1,2 @@
+-- What the contracts of `background` cite.
+pub mod Background

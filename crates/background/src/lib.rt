@@ -1,0 +1,122 @@
+// The background of a row, tile by tile, with the priority mask that its tiles mark.
+ghost use mathlib.Core.Path.{_≡_};
+ghost use mathlib.Core.Bool.{cond};
+ghost use mathlib.Core.Logic.{_⊎_};
+ghost use Prim.Native.Nat.{_+_, _*_, _%_, _<_, _≤_};
+ghost use lib.ListN.{length};
+ghost use Rattle.laws.specs.Lists.{at};
+ghost use Rattle.laws.specs.Paint.{painted};
+ghost use Rattle.bitmap.specs.Mask.{withByte, bytesOf};
+ghost use Rattle.picture.specs.Tile.{turned, namesAt, tileLine};
+ghost use Rattle.background.specs.Background.{Room, backColour, shade, prioTo, placeAt, Whole};
+use bitmap::Bitmap;
+
+// Where the tile entries start.
+pub fn names_at(reg: [u8; 11]) -> usize
+    ensures { λ r. ⌜ r ≡ namesAt (at reg) ⌝ }
+    ensures { λ r. ⌜ r ≤ 14336 ⌝ }
+{
+    tile::wide(reg[2] & 0x0E) * 1024
+}
+
+// Pixel or line k of a tile, the other way round where it is flipped.
+fn turn(flip: bool, k: usize) -> usize
+    requires { ⌜ k < 8 ⌝ }
+    ensures { λ r. ⌜ r ≡ turned flip k ⌝ }
+    ensures { λ r. ⌜ r < 8 ⌝ }
+{
+    if flip { 7 - k } else { k }
+}
+
+// Where line y of the tile with these entry bytes stands.
+fn line_at(lo: u8, hi: u8, y: usize) -> usize
+    ensures { λ r. ⌜ r ≡ tileLine lo hi y ⌝ }
+    ensures { λ r. ⌜ r + 4 ≤ 16384 ⌝ }
+{
+    let character = tile::wide(lo) + tile::weight(tile::is_set(hi, 0), 256);
+    32 * character + 4 * turn(tile::is_set(hi, 2), y % 8)
+}
+
+// The mask with the marks of a tile, if it has priority.
+fn with_marks(prio: Bitmap, on: bool, place: usize, bits: u8) -> Bitmap
+    ensures { λ r. ⌜ r .bits ≡ cond on (withByte (prio .bits) place bits) (prio .bits) ⌝ }
+{
+    if on { prio.set(place, bits) } else { prio }
+}
+
+// Where the pixels of one tile, from x on, mark: the row's first tile `cut` places to the left of them, around the circle.
+fn place_of(cut: u8, x: usize) -> usize
+    requires { ⌜ cut ≤ 8 ⌝ }
+    ensures { λ r. ⌜ r ≡ placeAt cut x ⌝ }
+{
+    if x == 0 {
+        tile::wide(std::num::wrapping_sub_u8(0, cut))
+    } else {
+        x
+    }
+}
+
+// n pixels from x on, which all lie in one tile; answers the priority mask with their marks.
+fn render_tile(
+    row: &mut [u8],
+    vram: &[u8],
+    colours: &[u32; 32],
+    names: usize,
+    sx: usize,
+    y: usize,
+    x: usize,
+    n: usize,
+    cut: u8,
+    prio: Bitmap,
+) -> Bitmap
+    requires { ⌜ Room (now vram) names sx y ⌝ }
+    requires { ⌜ ((sx + x) % 8 + n ≤ 8) × ((x + n) * 4 ≤ length (now row)) × (x < 256) ⌝ }
+    requires { ⌜ (n ≤ 8) × (cut ≤ 8) × Whole cut x n ⌝ }
+    ensures { λ r. ⌜ now (row .exit) ≡ painted (now (row .entry)) x n (λ i. shade (now (colours .entry)) (backColour (now (vram .entry)) names sx y) (x + i)) ⌝ }
+    ensures { λ r. ⌜ (prio .bits ≡ bytesOf (prioTo (now (vram .entry)) names sx y cut x) → r .bits ≡ bytesOf (prioTo (now (vram .entry)) names sx y cut (x + n))) ⌝ }
+{
+    let mx = (sx + x) % 256;
+    let e = names + 2 * (32 * (y / 8) + mx / 8);
+    let lo = vram[e];
+    let hi = vram[e + 1];
+    let addr = line_at(lo, hi, y);
+    let bits = tile::character_line(
+        row,
+        vram,
+        colours,
+        addr,
+        tile::is_set(hi, 1),
+        tile::weight(tile::is_set(hi, 3), 16),
+        x,
+        mx % 8,
+        n,
+    );
+    with_marks(prio, tile::is_set(hi, 4), place_of(cut, x), bits)
+}
+
+// The background of a whole row: its pixel 0 shows the map's pixel (sx, y), and its first tile marks `cut` places to the left. Answers the
+// priority mask.
+pub fn render_background_line(
+    row: &mut [u8],
+    vram: &[u8],
+    colours: &[u32; 32],
+    names: usize,
+    sx: usize,
+    y: usize,
+    width: usize,
+    cut: u8,
+) -> Bitmap
+    requires { ⌜ Room (now vram) names sx y ⌝ }
+    requires { ⌜ (width ≤ 256) × (width * 4 ≤ length (now row)) × ((cut ≡ 0) ⊎ (cut ≡ sx % 8)) ⌝ }
+    ensures { λ r. ⌜ now (row .exit) ≡ painted (now (row .entry)) 0 width (shade (now (colours .entry)) (backColour (now (vram .entry)) names sx y)) ⌝ }
+    ensures { λ r. ⌜ r .bits ≡ bytesOf (prioTo (now (vram .entry)) names sx y cut width) ⌝ }
+{
+    let mut prio = Bitmap::new();
+    let mut x: usize = 0;
+    while x < width {
+        let n = tile::smaller(8 - (sx + x) % 8, width - x);
+        prio = render_tile(row, vram, colours, names, sx, y, x, n, cut, prio);
+        x += n;
+    }
+    prio
+}
