@@ -1,0 +1,53 @@
+-- Document 01, "Added faces": what a step leaves in a row buffer and in a frame, and the view of a frame's row.
+-- Assumes nothing.
+use mathlib.Core.Path.{_≡_}
+use mathlib.Core.Bool.{Bool, cond, _&&_}
+use mathlib.Core.List.{List, [], _++_}
+use Prim.Native.Nat.{ℕ}
+use lib.Dec.{ltb, leb}
+use lib.ListN.{length, drop}
+use Rattle.laws.specs.Lists.{rowOf, withRow}
+use Rattle.picture.specs.declared.RenderArea.{RenderArea}
+use Rattle.picture.specs.Area.{columns, rows, rowSize, frameSize, rowBytes}
+use Rattle.vdp.specs.declared.VdpState.{VdpState}
+use Rattle.vdp.specs.Refusals.{whole}
+use Rattle.step.specs.declared.DrawnRow.{DrawnRow}
+use Rattle.step.specs.declared.DrawnRow.the-variants.{NoRow, Drawn}
+use Rattle.step.specs.declared.Stepped.{Stepped}
+use Rattle.step.specs.Step.{lineOf, advance, rowOn, coloursNow, rowPicture, rowStep, frameStep}
+
+-- the bytes of row y, as a step draws it on the device d with its counter up
+unfoldable pub drawnBytes : RenderArea → List ℕ → VdpState → ℕ → List ℕ
+drawnBytes a vram d y = rowBytes (coloursNow d) (columns a) (rowPicture a vram d y)
+
+-- "the row goes to bytes 0.. of a row buffer .. (with no row drawn, the buffer is unchanged)"; "Bytes past these never change."
+unfoldable pub rowWith : DrawnRow → RenderArea → List ℕ → VdpState → List ℕ → List ℕ
+rowWith NoRow a vram d buffer = buffer
+rowWith (Drawn y) a vram d buffer = drawnBytes a vram d y ++ drop (rowSize a) buffer
+
+-- the same of a frame: row y is put in
+unfoldable pub frameWith : DrawnRow → RenderArea → List ℕ → VdpState → List ℕ → List ℕ
+frameWith NoRow a vram d frame = frame
+frameWith (Drawn y) a vram d frame = withRow (rowSize a) y (drawnBytes a vram d y) frame
+
+-- the buffer and the frame that a step leaves, refused or not
+unfoldable pub rowAfter : RenderArea → List ℕ → VdpState → List ℕ → List ℕ
+rowAfter a vram d buffer =
+    cond (whole vram && leb (rowSize a) (length buffer)) (rowWith (rowOn a (lineOf (advance d))) a vram (advance d) buffer) buffer
+
+unfoldable pub frameAfter : RenderArea → List ℕ → VdpState → List ℕ → List ℕ
+frameAfter a vram d frame =
+    cond (whole vram && leb (frameSize a) (length frame)) (frameWith (rowOn a (lineOf (advance d))) a vram (advance d) frame) frame
+
+-- What the row step promises of its answer r and of the buffer after it, and the frame step of the frame.
+pub record RowStepLeaves (a : RenderArea) (vram : List ℕ) (d : VdpState) (buffer : List ℕ) (r : Stepped) (buffer′ : List ℕ) : Type 0 where
+  pub answer : r ≡ rowStep a vram (length buffer) d
+  pub bytes : buffer′ ≡ rowAfter a vram d buffer
+
+pub record FrameStepLeaves (a : RenderArea) (vram : List ℕ) (d : VdpState) (frame : List ℕ) (r : Stepped) (frame′ : List ℕ) : Type 0 where
+  pub answer : r ≡ frameStep a vram (length frame) d
+  pub bytes : frame′ ≡ frameAfter a vram d frame
+
+-- "an empty part if the row is not below 144 or 224, or the frame is shorter than its area's size"
+unfoldable pub rowView : List ℕ → RenderArea → ℕ → List ℕ
+rowView frame a y = cond (ltb y (rows a)) (cond (leb (frameSize a) (length frame)) (rowOf (rowSize a) y frame) []) []

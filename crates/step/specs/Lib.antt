@@ -1,0 +1,4 @@
+-- What the contracts of `step` cite.
+pub mod Step
+pub mod Frame
+pub mod Examples
