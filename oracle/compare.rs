@@ -12,18 +12,16 @@ mod gears;
 mod io {
     include!(concat!(env!("GEARS"), "/io.rs"));
 }
-mod model;
-mod random;
 mod rows;
-mod sessions;
 mod shrink;
 mod vectors;
 mod world;
 
-use random::Random;
+use rules::call::Call;
+use rules::random::Random;
 use std::collections::BTreeMap;
 use std::time::{Duration, Instant};
-use world::{Call, Met, Ours, World};
+use world::{Met, Ours, World};
 
 /// What was met in a run.
 #[derive(Default)]
@@ -137,7 +135,7 @@ type Difference = (shrink::Start, Vec<Call>, String);
 fn fresh_session(world: &mut World, counts: &mut Counts, calls: u64, seed: u64) -> Option<Difference> {
     let start = shrink::Start::fresh();
     world.start(&start.block, &start.video);
-    let mut session = sessions::Session::new(seed);
+    let mut session = rules::sessions::Session::new(seed);
     let mut done = Vec::new();
     for _ in 0..calls {
         let call = session.next(world.block());
@@ -152,13 +150,13 @@ fn fresh_session(world: &mut World, counts: &mut Counts, calls: u64, seed: u64) 
 
 /// A few calls from a state made by hand.
 fn hand_session(world: &mut World, counts: &mut Counts, left: u64, random: &mut Random) -> Option<Difference> {
-    let (block, video) = sessions::made_by_hand(random);
+    let (block, video) = rules::sessions::made_by_hand(random);
     world.start(&block, &video);
     let mut done = Vec::new();
     for _ in 0..left.min(1 + random.below(6) as u64) {
-        let mut call = sessions::any_call(random);
+        let mut call = rules::sessions::any_call(random);
         if random.chance(1, 25) {
-            sessions::spoil(random, &mut call);
+            rules::sessions::spoil(random, &mut call);
         }
         done.push(call.clone());
         match world.call(&call) {

@@ -1,10 +1,11 @@
 //! Rows made to meet every rule of the picture: each X with and without the early clock, both heights, both pattern bases,
 //! every scroll modulo 8, with sprites that overlap and priority tiles under them.
 
-use crate::model::{self, Area, Device, BLOCK_SIZE, VIDEO_SIZE};
-use crate::random::Random;
+use rules::model::{self, Area, Device, BLOCK_SIZE, VIDEO_SIZE};
+use rules::random::Random;
 use crate::shrink::{self, Start};
-use crate::world::{Call, Ours, World};
+use rules::call::Call;
+use crate::world::{Ours, World};
 use crate::Counts;
 
 /// Draws all the rows; answers the number of differences (it stops at the first).

@@ -2,7 +2,7 @@
 
 use crate::model::{self, Area, BLOCK_SIZE, SHEET_SIZE, VIDEO_SIZE};
 use crate::random::Random;
-use crate::world::{Call, Kind, EXTRA};
+use crate::call::{Call, Kind, EXTRA};
 use std::collections::VecDeque;
 
 /// Counters just before and at the places where a step does something else.

@@ -1,7 +1,8 @@
 //! From a session that differs to the smallest input that still does.
 
-use crate::model::{Device, BLOCK_SIZE, VIDEO_SIZE};
-use crate::world::{Call, Kind, Ours, World};
+use rules::model::{Device, BLOCK_SIZE, VIDEO_SIZE};
+use rules::call::{Call, Kind};
+use crate::world::{Ours, World};
 
 /// The state that a session starts from.
 #[derive(Clone)]
@@ -74,7 +75,8 @@ pub fn report(side: Ours, start: Start, calls: Vec<Call>) {
     }
     // Bytes of the block to those of a fresh one, else to 0.
     let fresh = Start::fresh();
-    for at in 0..BLOCK_SIZE {
+    // Twice, since a latch's flag can go only after its byte.
+    for at in (0..BLOCK_SIZE).chain(0..BLOCK_SIZE) {
         for byte in [fresh.block[at], 0] {
             if start.block[at] != byte {
                 let mut simpler = start.clone();

@@ -1,9 +1,7 @@
 //! The C face made of the model, as a shared library: stands in for libvdp.a where a program over the C face is tried
 //! and the proved library is not at hand (and, damaged on purpose, shows that the programs notice).
 
-pub mod model;
-
-use model::Notes;
+use rules::model::{self, Notes};
 
 /// The bytes that a caller lends.
 unsafe fn lent<'a>(at: *const u8, len: usize) -> &'a [u8] {

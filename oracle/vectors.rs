@@ -1,9 +1,11 @@
-//! The fixed list of the Rust's answers that `replay` holds; VECTORS.md has its form.
+//! The fixed list of the Rust's answers that `replay` holds: records of 16 bytes, little-endian:
+//! call (W, R, S), port or area, value, 0, answer word (4), checksum of the block (4), checksum of the drawn row (4). VECTORS.md says it in full.
 
 use crate::gears::{self, Vdp};
-use crate::model::{self, Area, Notes, BLOCK_SIZE, VIDEO_SIZE};
-use crate::sessions::Session;
-use crate::world::{self, Call, Kind};
+use rules::model::{self, Area, Notes, BLOCK_SIZE, VIDEO_SIZE};
+use rules::sessions::Session;
+use rules::call::{Call, Kind};
+use crate::world;
 use std::io::Write;
 
 /// The sum of i + 1 times byte i: it tells apart any two rows or blocks with two bytes swapped.

@@ -1,0 +1,56 @@
+#!/bin/sh
+# build.sh WHAT..: builds programs of this folder into build/oracle/. WHAT is one or more of
+#   compare   build/oracle/compare, for x86-64, with build/libvdp.a and the published Rust (GEARS)
+#   traces    build/oracle/traces, for this machine; needs neither of the two
+#   here      build/oracle/here/compare, for this machine, with HERE_LIB (an object or archive of the library for it);
+#             where HERE_LIB is not set, with a stand-in made of the model
+# GEARS names the folder that holds the published vdp.rs and io.rs.
+set -eu
+cd "$(dirname "$0")/.."
+. tools/cross.sh
+: "${GEARS:=../shared/docs/src/src}"
+if [ -d "$GEARS" ]; then GEARS=$(cd "$GEARS" && pwd); fi
+export GEARS
+out=build/oracle
+# Optimised and unchecked, as the oracle must be.
+flags="--edition 2021 -O -C overflow-checks=off -C debug-assertions=off"
+
+# The published Rust must be there.
+need_gears() {
+    [ -f "$GEARS/vdp.rs" ] && [ -f "$GEARS/io.rs" ] || {
+        echo "build.sh: no vdp.rs and io.rs in $GEARS: set GEARS to the src folder of the repository anisse/gears at commit 0d576c35e2" >&2
+        exit 1
+    }
+}
+
+for what in "$@"; do
+    case $what in
+    compare)
+        need_gears
+        mkdir -p $out/x86
+        $RUSTC $flags --crate-type rlib --crate-name rules oracle/rules.rs -o $out/x86/librules.rlib
+        $RUSTC $flags --extern rules=$out/x86/librules.rlib -L native=build -l static=vdp oracle/compare.rs -o $out/compare
+        ;;
+    traces)
+        mkdir -p $out/here
+        $RUSTC_HERE $flags --crate-type rlib --crate-name rules oracle/rules.rs -o $out/here/librules.rlib
+        $RUSTC_HERE $flags --extern rules=$out/here/librules.rlib oracle/traces.rs -o $out/traces
+        ;;
+    here)
+        need_gears
+        mkdir -p $out/here
+        $RUSTC_HERE $flags --crate-type rlib --crate-name rules oracle/rules.rs -o $out/here/librules.rlib
+        if [ -n "${HERE_LIB:-}" ]; then
+            link="-C link-arg=$HERE_LIB"
+        else
+            $RUSTC_HERE $flags --crate-type cdylib --crate-name vdp --extern rules=$out/here/librules.rlib oracle/standin.rs -o $out/here/libvdp.so
+            link="-L native=$out/here -l dylib=vdp -C link-arg=-Wl,-rpath,$PWD/$out/here"
+        fi
+        $RUSTC_HERE $flags --extern rules=$out/here/librules.rlib $link oracle/compare.rs -o $out/here/compare
+        ;;
+    *)
+        echo "build.sh: unknown: $what" >&2
+        exit 2
+        ;;
+    esac
+done

@@ -1,0 +1,67 @@
+//! A call on the device with all that it is given.
+
+use crate::model::{Area, BLOCK_SIZE, SHEET_SIZE, VIDEO_SIZE};
+
+/// A lent part may be longer than it need be by this much.
+pub const EXTRA: usize = 2048;
+
+#[derive(Clone, Copy, PartialEq, Debug)]
+pub enum Kind {
+    New,
+    Out,
+    Input,
+    Step,
+    RowStep,
+    Dump,
+}
+
+/// A call with all that it is given.
+#[derive(Clone, Debug)]
+pub struct Call {
+    pub kind: Kind,
+    pub port: u16,
+    /// The byte to write, or the area.
+    pub value: u8,
+    pub state_len: usize,
+    pub video_len: usize,
+    /// The length of the frame, row or sheet.
+    pub pixels_len: usize,
+    /// A byte of the block that is set just before the call.
+    pub poke: Option<(usize, u8)>,
+}
+
+impl Call {
+    /// A call with right lengths, and no pixels.
+    pub fn plain(kind: Kind, port: u16, value: u8) -> Call {
+        Call { kind, port, value, state_len: BLOCK_SIZE, video_len: VIDEO_SIZE, pixels_len: 0, poke: None }
+    }
+    pub fn out(port: u16, value: u8) -> Call {
+        Call::plain(Kind::Out, port, value)
+    }
+    pub fn input(port: u16) -> Call {
+        Call::plain(Kind::Input, port, 0)
+    }
+    pub fn step(area: Area, extra: usize) -> Call {
+        Call { pixels_len: area.frame_size() + extra, ..Call::plain(Kind::Step, 0, area as u8) }
+    }
+    pub fn row_step(area: Area, extra: usize) -> Call {
+        Call { pixels_len: area.row_size() + extra, ..Call::plain(Kind::RowStep, 0, area as u8) }
+    }
+    pub fn dump() -> Call {
+        Call { pixels_len: SHEET_SIZE, ..Call::plain(Kind::Dump, 0, 0) }
+    }
+    /// The kind and area by name, for the counts.
+    pub fn name(&self) -> &'static str {
+        match (self.kind, self.value) {
+            (Kind::New, _) => "new",
+            (Kind::Out, _) => "port writes",
+            (Kind::Input, _) => "port reads",
+            (Kind::Step, 0) => "visible steps",
+            (Kind::Step, 1) => "effective steps",
+            (Kind::RowStep, 0) => "visible row steps",
+            (Kind::RowStep, 1) => "effective row steps",
+            (Kind::Dump, _) => "dumps",
+            _ => "steps of no area",
+        }
+    }
+}

@@ -1,0 +1,111 @@
+//! What the programs `trace` and `snapshot` write for an input, by the model.
+
+use crate::model::{Area, Device, Notes, VIDEO_SIZE};
+
+/// The longest input that the programs read.
+pub const LIMIT: usize = 65_535;
+
+/// One record of an input.
+pub enum Record {
+    Write { port: u8, value: u8 },
+    Read { port: u8 },
+    Step { area: Area },
+}
+
+impl Record {
+    /// The record at the start of these bytes and its length; nothing where it is cut or unknown.
+    pub fn first(bytes: &[u8]) -> Option<(Record, usize)> {
+        match *bytes {
+            [b'P', b'W', port, value, ..] => Some((Record::Write { port, value }, 4)),
+            [b'P', b'R', port, ..] => Some((Record::Read { port }, 3)),
+            [b'L', b'S', area, ..] => Area::from_number(area).map(|area| (Record::Step { area }, 3)),
+            _ => None,
+        }
+    }
+}
+
+/// A device that runs through an input.
+struct Run {
+    device: Device,
+    video: Vec<u8>,
+    row: [u8; 1024],
+    text: String,
+    records: usize,
+}
+
+impl Run {
+    fn new() -> Run {
+        Run { device: Device::fresh(), video: vec![0; VIDEO_SIZE], row: [0; 1024], text: String::new(), records: 0 }
+    }
+
+    /// One record; a visible step draws in the frame where there is one.
+    fn record(&mut self, record: Record, frame: Option<&mut [u8]>) {
+        let line = match record {
+            Record::Write { port, value } => {
+                format!("w {}\n", self.device.write_port(&mut self.video, port as u16, value))
+            }
+            Record::Read { port } => {
+                let (refusal, byte) = self.device.read_port(&self.video, port as u16);
+                format!("r {} {:02X}\n", refusal, byte)
+            }
+            Record::Step { area } => {
+                let mut notes = Notes::default();
+                let stepped = match (area, frame) {
+                    (Area::Visible, Some(frame)) => self.device.frame_step(&self.video, frame, area, &mut notes),
+                    _ => self.device.row_step(&self.video, &mut self.row, area, &mut notes),
+                };
+                match stepped {
+                    Ok(s) => format!("s 0 {:02X} {} {}\n", self.device.counter, s.interrupt as u8, s.report),
+                    Err(refusal) => format!("s {} {:02X} 0 0\n", refusal, self.device.counter),
+                }
+            }
+        };
+        self.text.push_str(&line);
+        self.records += 1;
+    }
+
+    /// The whole input; answers the offset of the first bad record, if there is one.
+    fn all(&mut self, input: &[u8], mut frame: Option<&mut [u8]>) -> Option<usize> {
+        let mut at = 0;
+        while at < input.len() {
+            match Record::first(&input[at..]) {
+                None => return Some(at),
+                Some((record, length)) => {
+                    self.record(record, frame.as_deref_mut());
+                    at += length;
+                }
+            }
+        }
+        None
+    }
+}
+
+/// The text that `trace` prints.
+pub fn trace_text(input: &[u8]) -> Vec<u8> {
+    if input.len() > LIMIT {
+        return b"long\n".to_vec();
+    }
+    let mut run = Run::new();
+    let last = match run.all(input, None) {
+        Some(at) => format!("bad {}\n", at),
+        None => format!("end {}\n", run.records),
+    };
+    run.text.push_str(&last);
+    run.text.into_bytes()
+}
+
+/// The bytes that `snapshot` writes: a PPM picture of the visible frame, or the one line of a bad or long input.
+pub fn snapshot_bytes(input: &[u8]) -> Vec<u8> {
+    if input.len() > LIMIT {
+        return b"long\n".to_vec();
+    }
+    let mut frame = vec![0; Area::Visible.frame_size()];
+    if let Some(at) = Run::new().all(input, Some(&mut frame)) {
+        return format!("bad {}\n", at).into_bytes();
+    }
+    let mut bytes = b"P6\n160 144\n255\n".to_vec();
+    for pixel in frame.chunks(4) {
+        bytes.extend_from_slice(&pixel[..3]);
+    }
+    bytes
+}
