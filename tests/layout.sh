@@ -1,0 +1,40 @@
+#!/usr/bin/env bash
+# layout.sh: the sources are in the toolchain's layout, every definition file says what it assumes, and no edit that must fail only broke a proof's shape.
+set -u
+cd "$(dirname "$0")/.."
+passed=0 failed=0
+
+# tell NAME STATUS: one line for each test.
+tell() {
+    if [ "$2" -eq 0 ]; then
+        printf 'ok: %s\n' "$1"
+        passed=$((passed + 1))
+    else
+        printf 'FAILED: %s\n' "$1"
+        failed=$((failed + 1))
+    fi
+}
+
+rt fmt --check
+tell "the sources are in the toolchain's layout" $?
+
+bare=$(grep -L '^-- .*Assumes nothing' $(find crates -path '*/specs/*.antt' ! -name Lib.antt))
+[ -z "$bare" ] || printf '%s\n' "$bare"
+[ -z "$bare" ]
+tell "every definition file says what it assumes" $?
+
+# An edit that only makes a proof unfit for the code shows nothing of the contract. (The suite `proofs` leaves the logs.)
+unfit=
+for log in target/must-fail/*/*/.log; do
+    [ -e "$log" ] || continue
+    first=$(grep -m 1 ': error: ' "$log")
+    case $first in
+    *'that can be named from here'* | *'has no field'* | *'expected type `tie.'* | '') unfit="$unfit $log" ;;
+    esac
+done
+[ -z "$unfit" ] || printf 'refused for its shape:%s\n' "$unfit"
+[ -z "$unfit" ]
+tell "every edit that must fail is refused for a fact" $?
+
+printf '%s passed, %s failed\n' "$passed" "$failed"
+[ "$failed" -eq 0 ]

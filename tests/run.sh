@@ -1,0 +1,50 @@
+#!/usr/bin/env bash
+# run.sh: every test there is, and their sum. Each suite is a command whose last line is 'N passed, M failed' (', K skipped' may follow).
+# The last line here is the sum of all; the exit status is 0 only where nothing failed and every suite said so itself.
+set -u
+cd "$(dirname "$0")/.."
+logs=build/test
+mkdir -p $logs
+passed=0 failed=0 skipped=0
+
+# suite NAME COMMAND..: runs it, shows what it prints, and adds its last line to the sum.
+suite() {
+    local name=$1 last status began
+    shift
+    printf '\n== %s\n' "$name"
+    began=$(date +%s)
+    "$@" 2>&1 </dev/null | tee "$logs/$name.log"
+    status=${PIPESTATUS[0]}
+    last=$(tail -n 1 "$logs/$name.log")
+    if [[ $last =~ ^([0-9]+)\ passed,\ ([0-9]+)\ failed(,\ ([0-9]+)\ skipped)?$ ]]; then
+        passed=$((passed + BASH_REMATCH[1]))
+        failed=$((failed + BASH_REMATCH[2]))
+        skipped=$((skipped + ${BASH_REMATCH[4]:-0}))
+        if [ "$status" -ne 0 ] && [ "${BASH_REMATCH[2]}" -eq 0 ]; then
+            printf '%s: exit status %s though no test failed\n' "$name" "$status"
+            failed=$((failed + 1))
+        fi
+    else
+        printf "%s: its last line is not 'N passed, M failed' (exit status %s)\n" "$name" "$status"
+        failed=$((failed + 1))
+    fi
+    printf '(%s: %s s)\n' "$name" $(($(date +%s) - began))
+}
+
+if ! sh tools/setup.sh; then
+    echo '0 passed, 1 failed'
+    exit 1
+fi
+
+suite proofs rt ci
+for s in tests/[a-z]*.sh; do
+    [ "$s" = tests/run.sh ] || suite "$(basename "$s" .sh)" bash "$s"
+done
+
+printf '\n'
+if [ "$skipped" -gt 0 ]; then
+    printf '%s passed, %s failed, %s skipped\n' "$passed" "$failed" "$skipped"
+else
+    printf '%s passed, %s failed\n' "$passed" "$failed"
+fi
+[ "$failed" -eq 0 ]
