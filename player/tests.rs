@@ -1,0 +1,247 @@
+//! The player's file under test: the published file's own public tests by what they check (`run_step`, `split_io`, `read_wrap`),
+//! the marked examples that show through the public names, and what is refused. Built by `rustc --test`.
+
+/// What the player's file needs of the player: its trait of a device.
+pub mod io {
+    pub trait Device {
+        fn out(&self, addr: u16, val: u8, cycle: u32) -> Result<(), String>;
+        fn input(&self, addr: u16, cycle: u32) -> Result<u8, String>;
+    }
+}
+pub mod vdp;
+
+#[cfg(test)]
+mod tests {
+    use crate::io::Device;
+    use crate::vdp::{DisplayRefresh, RenderArea, Vdp, VdpInt, GG_VISIBLE_PIXEL_HEIGHT, GG_VISIBLE_PIXEL_WIDTH};
+
+    const COMMAND: u16 = 0xBF;
+    const DATA: u16 = 0xBE;
+    const LINE: u16 = 0x7E;
+    const VISIBLE: usize = GG_VISIBLE_PIXEL_WIDTH * GG_VISIBLE_PIXEL_HEIGHT * 4;
+    const EFFECTIVE: usize = 256 * 224 * 4;
+
+    fn commands(vdp: &Vdp, bytes: &[u8]) {
+        for byte in bytes {
+            assert_eq!(vdp.out(COMMAND, *byte, 0), Ok(()));
+        }
+    }
+    fn writes(vdp: &Vdp, bytes: &[u8]) {
+        for byte in bytes {
+            assert_eq!(vdp.out(DATA, *byte, 0), Ok(()));
+        }
+    }
+    fn reads(vdp: &Vdp, bytes: &[u8]) {
+        for byte in bytes {
+            assert_eq!(vdp.input(DATA, 0), Ok(*byte));
+        }
+    }
+    fn steps(vdp: &Vdp, count: usize) {
+        let mut frame = vec![0; VISIBLE];
+        for _ in 0..count {
+            vdp.step(&mut frame, RenderArea::VisibleOnly);
+        }
+    }
+
+    #[test]
+    fn run_step() {
+        let vdp = Vdp::default();
+        vdp.step(&mut vec![0; EFFECTIVE], RenderArea::EffectiveArea);
+        assert_eq!(vdp.input(LINE, 0), Ok(1));
+    }
+
+    #[test]
+    fn split_io() {
+        // a write, read back from its address
+        let vdp = Vdp::default();
+        commands(&vdp, &[0x00, 0x40]);
+        writes(&vdp, &[0xAB]);
+        commands(&vdp, &[0x00, 0x00]);
+        reads(&vdp, &[0xAB]);
+
+        // a write where a read was set up: first the read buffer, then the memory
+        let vdp = Vdp::default();
+        commands(&vdp, &[0x00, 0x00]);
+        writes(&vdp, &[0x42]);
+        reads(&vdp, &[0x42, 0x00]);
+        commands(&vdp, &[0x00, 0x00]);
+        reads(&vdp, &[0x00, 0x42]);
+
+        // a read where a write was set up: the read buffer comes first
+        let vdp = Vdp::default();
+        commands(&vdp, &[0x00, 0x40]);
+        writes(&vdp, &[0xA1, 0xB2, 0xC3, 0xD4]);
+        commands(&vdp, &[0x00, 0x40]);
+        reads(&vdp, &[0xD4, 0xA1, 0xB2, 0xC3]);
+    }
+
+    #[test]
+    fn read_wrap() {
+        // reads go on from the last address to the first
+        let vdp = Vdp::default();
+        commands(&vdp, &[0xFE, 0x7F]);
+        writes(&vdp, &[0xA1, 0xB2]);
+        commands(&vdp, &[0x00, 0x40]);
+        writes(&vdp, &[0xC3, 0xD4]);
+        commands(&vdp, &[0xFE, 0x3F]);
+        reads(&vdp, &[0xA1, 0xB2, 0xC3, 0xD4]);
+
+        // and do not wrap at 1,024
+        let vdp = Vdp::default();
+        commands(&vdp, &[0xFE, 0x43]);
+        writes(&vdp, &[0xA1, 0xB2, 0xC3, 0xD4]);
+        commands(&vdp, &[0xFE, 0x03]);
+        reads(&vdp, &[0xA1, 0xB2, 0xC3, 0xD4]);
+    }
+
+    #[test]
+    fn marked_examples() {
+        // P2
+        let vdp = Vdp::new();
+        commands(&vdp, &[0x00, 0x00]);
+        writes(&vdp, &[0x42]);
+        reads(&vdp, &[0x42, 0x00]);
+        // P3
+        let vdp = Vdp::new();
+        commands(&vdp, &[0xFE, 0x7F]);
+        writes(&vdp, &[0xA1, 0xB2]);
+        commands(&vdp, &[0xFE, 0x3F]);
+        reads(&vdp, &[0xA1, 0xB2]);
+        // P5
+        let vdp = Vdp::new();
+        commands(&vdp, &[0x01, 0xC0]);
+        assert!(vdp.out(DATA, 0x77, 0).is_err());
+        // P6
+        let vdp = Vdp::new();
+        commands(&vdp, &[0x00, 0x8A, 0x00]);
+        assert!(vdp.out(COMMAND, 0x8B, 0).is_err());
+        // P7
+        for (count, line) in [(217, 0xD9), (218, 0xD5), (260, 0xFF), (261, 0x00)] {
+            let vdp = Vdp::new();
+            steps(&vdp, count);
+            assert_eq!(vdp.input(LINE, 0), Ok(line));
+        }
+    }
+
+    #[test]
+    fn a_colour_is_drawn() {
+        // P4: colour 3, here as the background of every row, is AA 55 33 FF
+        let vdp = Vdp::new();
+        commands(&vdp, &[0x00, 0x40]);
+        writes(&vdp, &[0xFF, 0xFF, 0x00, 0x00].repeat(8));
+        commands(&vdp, &[0x06, 0xC0]);
+        writes(&vdp, &[0x5A, 0xF3]);
+        let mut frame = vec![0; VISIBLE];
+        for _ in 0..261 {
+            vdp.step(&mut frame, RenderArea::VisibleOnly);
+        }
+        assert!(frame.chunks(4).all(|pixel| *pixel == [0xAA, 0x55, 0x33, 0xFF]));
+    }
+
+    #[test]
+    fn line_interrupts() {
+        // P12: on, register 10 at 3: from line 0 on, lines 2, 6, 10 come first
+        let vdp = Vdp::new();
+        commands(&vdp, &[0x10, 0x80, 0x03, 0x8A]);
+        steps(&vdp, 260);
+        let mut frame = vec![0; VISIBLE];
+        let mut lines = Vec::new();
+        for line in 0..12 {
+            if let (VdpInt::InterruptGenerated, _) = vdp.step(&mut frame, RenderArea::VisibleOnly) {
+                lines.push(line);
+            }
+        }
+        assert_eq!(lines, [2, 6, 10]);
+    }
+
+    #[test]
+    fn screen_end() {
+        // once a pass; with or without a picture by register 1
+        for (register, shown) in [(0x00, false), (0x40, true)] {
+            let vdp = Vdp::new();
+            commands(&vdp, &[register, 0x81]);
+            let mut frame = vec![0; VISIBLE];
+            let mut ends = Vec::new();
+            for _ in 0..261 {
+                match vdp.step(&mut frame, RenderArea::VisibleOnly).1 {
+                    DisplayRefresh::NoDisplay => {}
+                    DisplayRefresh::ScreenDone => ends.push(true),
+                    DisplayRefresh::ScreenDoneNoRefresh => ends.push(false),
+                }
+            }
+            assert_eq!(ends, [shown]);
+        }
+    }
+
+    #[test]
+    fn ports_answer_errors() {
+        let vdp = Vdp::new();
+        assert!(vdp.out(0x10, 0, 0).is_err());
+        assert!(vdp.input(0x10, 0).is_err());
+        assert!(vdp.input(0x7F, 0).is_err());
+        assert!(vdp.out(DATA, 0, 0).is_err());
+        assert!(vdp.input(DATA, 0).is_err());
+        commands(&vdp, &[0x00, 0xC0]);
+        assert!(vdp.input(DATA, 0).is_err());
+        // only the low byte of a port counts
+        assert_eq!(vdp.input(0x127E, 0), Ok(0));
+    }
+
+    #[test]
+    #[should_panic(expected = "pixel buffer of a wrong length")]
+    fn short_frame() {
+        // P13, and on a line that draws nothing
+        Vdp::new().step(&mut vec![0; VISIBLE - 1], RenderArea::VisibleOnly);
+    }
+
+    #[test]
+    #[should_panic(expected = "pixel buffer of a wrong length")]
+    fn long_sheet() {
+        Vdp::new().dump_tileset(&mut vec![0; 131_073]);
+    }
+
+    #[test]
+    fn early_clock_goes_on() {
+        // a sprite on line 24 under the early clock: at X 45 the step ends and shows nothing of it, at X 60 it shows
+        for (x, shown) in [(45, 0), (60, 64)] {
+            let vdp = Vdp::new();
+            commands(&vdp, &[0x08, 0x80]);
+            commands(&vdp, &[0x00, 0x40]);
+            writes(&vdp, &[0xFF; 32]);
+            commands(&vdp, &[0x00, 0x7F]);
+            writes(&vdp, &[23, 0xD0]);
+            commands(&vdp, &[0x80, 0x7F]);
+            writes(&vdp, &[x, 0]);
+            // sprites of the same patterns as the background, in palette 1, where the colour is white
+            commands(&vdp, &[0x00, 0x86]);
+            commands(&vdp, &[0x3E, 0xC0]);
+            writes(&vdp, &[0xFF, 0x0F]);
+            let mut frame = vec![7; VISIBLE];
+            for _ in 0..261 {
+                vdp.step(&mut frame, RenderArea::VisibleOnly);
+            }
+            assert_eq!(frame.chunks(4).filter(|pixel| **pixel == [0xFF; 4]).count(), shown);
+            assert_eq!(frame.chunks(4).filter(|pixel| **pixel == [0, 0, 0, 0xFF]).count(), 160 * 144 - shown);
+        }
+    }
+
+    #[test]
+    fn tile_sheet() {
+        // tile 1 solid in code 1: colours come from the cache as the last row left it
+        let vdp = Vdp::new();
+        commands(&vdp, &[0x20, 0x40]);
+        writes(&vdp, &[0xFF, 0, 0, 0].repeat(8));
+        commands(&vdp, &[0x00, 0x86]);
+        commands(&vdp, &[0x02, 0xC0]);
+        writes(&vdp, &[0x0F, 0x00]);
+        let mut sheet = vec![9; 131_072];
+        vdp.dump_tileset(&mut sheet);
+        assert_eq!(sheet[32..36], [0, 0, 0, 0]);
+        steps(&vdp, 24);
+        vdp.dump_tileset(&mut sheet);
+        assert_eq!(sheet[32..36], [0xFF, 0, 0, 0xFF]);
+        assert_eq!(sheet[28..32], [0, 0, 0, 0xFF]);
+        // as a sprite, tile 0 has code 0 everywhere and leaves the sheet
+        assert_eq!(sheet[65536..65540], [9, 9, 9, 9]);
+    }
+}

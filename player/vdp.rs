@@ -1,0 +1,183 @@
+//! The video chip for the player, over the C face of libvdp.a (include/vdp.h): this file takes the place of the player's own src/vdp.rs.
+//! The public names are the same, and the player links libvdp.a (`-L` names its folder). What differs:
+//! - A port call never panics. Where the file before panicked (horizontal counter, register above 10, half a colour), it is an error.
+//! - `step` and `dump_tileset` panic where the buffer has a wrong length, as they have no error to give; `step` does so on every
+//!   line, and not only on one that it draws. A frame is at least 160 x 144 (or 256 x 224) x 4 bytes, the tile sheet exactly 131,072.
+//! - A sprite at X 41 to 48 under the early clock no longer stops the player, and nothing is drawn past the right edge.
+
+use crate::io;
+use std::cell::RefCell;
+
+pub const GG_VISIBLE_PIXEL_HEIGHT: usize = 144;
+pub const GG_VISIBLE_PIXEL_WIDTH: usize = 160;
+
+const BLOCK_SIZE: usize = 219;
+const VRAM_SIZE: usize = 16 * 1024;
+
+// A slice is a pointer and a length. The answer has the refusal in its low byte.
+#[link(name = "vdp")]
+extern "C" {
+    fn vdp_new(state: *mut u8, state_len: usize) -> u32;
+    fn vdp_out(state: *mut u8, state_len: usize, vram: *mut u8, vram_len: usize, port: u16, value: u8) -> u32;
+    fn vdp_input(state: *mut u8, state_len: usize, vram: *const u8, vram_len: usize, port: u16) -> u32;
+    fn vdp_step(
+        state: *mut u8,
+        state_len: usize,
+        vram: *const u8,
+        vram_len: usize,
+        frame: *mut u8,
+        frame_len: usize,
+        area: u8,
+    ) -> u32;
+    fn vdp_dump_tileset(
+        state: *const u8,
+        state_len: usize,
+        vram: *const u8,
+        vram_len: usize,
+        pixels: *mut u8,
+        pixels_len: usize,
+    ) -> u32;
+}
+
+#[derive(Debug, Clone, Copy)]
+pub enum RenderArea {
+    VisibleOnly,
+    EffectiveArea,
+}
+
+#[derive(Debug)]
+pub enum VdpInt {
+    NoInterrupt,
+    InterruptGenerated,
+}
+
+#[derive(Debug)]
+pub enum DisplayRefresh {
+    NoDisplay,
+    ScreenDone,
+    ScreenDoneNoRefresh,
+}
+
+/// What the library is lent at each call.
+#[derive(Debug)]
+struct Lent {
+    block: [u8; BLOCK_SIZE],
+    vram: Vec<u8>,
+}
+
+#[derive(Debug)]
+pub struct Vdp {
+    lent: RefCell<Lent>,
+}
+
+impl Vdp {
+    pub fn new() -> Self {
+        let mut lent = Lent { block: [0; BLOCK_SIZE], vram: vec![0; VRAM_SIZE] };
+        // Sound: the block is live, and as long as we say.
+        let answer = unsafe { vdp_new(lent.block.as_mut_ptr(), lent.block.len()) };
+        assert_eq!(answer, 0, "libvdp.a has another size of state block");
+        Vdp { lent: RefCell::new(lent) }
+    }
+
+    /// One line: draws its row in the frame, if it has one.
+    pub fn step(&self, pixels: &mut [u8], render_area: RenderArea) -> (VdpInt, DisplayRefresh) {
+        let mut lent = self.lent.borrow_mut();
+        let lent = &mut *lent;
+        let area = match render_area {
+            RenderArea::VisibleOnly => 0,
+            RenderArea::EffectiveArea => 1,
+        };
+        // Sound: three live slices that do not overlap.
+        let answer = unsafe {
+            vdp_step(
+                lent.block.as_mut_ptr(),
+                lent.block.len(),
+                lent.vram.as_ptr(),
+                lent.vram.len(),
+                pixels.as_mut_ptr(),
+                pixels.len(),
+                area,
+            )
+        };
+        if answer & 0xFF != 0 {
+            panic!("VDP step refused: {} (frame of {} bytes, {:?})", refusal_text(answer), pixels.len(), render_area);
+        }
+        let interrupt = if answer >> 8 & 1 == 1 { VdpInt::InterruptGenerated } else { VdpInt::NoInterrupt };
+        let refresh = match answer >> 9 & 3 {
+            0 => DisplayRefresh::NoDisplay,
+            1 => DisplayRefresh::ScreenDone,
+            _ => DisplayRefresh::ScreenDoneNoRefresh,
+        };
+        (interrupt, refresh)
+    }
+
+    /// Draws all tiles, as background and as sprites, on a sheet of 128 x 256 pixels.
+    pub fn dump_tileset(&self, pixels: &mut [u8]) {
+        let lent = self.lent.borrow();
+        // Sound: three live slices that do not overlap.
+        let answer = unsafe {
+            vdp_dump_tileset(
+                lent.block.as_ptr(),
+                lent.block.len(),
+                lent.vram.as_ptr(),
+                lent.vram.len(),
+                pixels.as_mut_ptr(),
+                pixels.len(),
+            )
+        };
+        if answer & 0xFF != 0 {
+            panic!("VDP tile dump refused: {} (sheet of {} bytes)", refusal_text(answer), pixels.len());
+        }
+    }
+}
+
+impl io::Device for Vdp {
+    fn out(&self, addr: u16, val: u8, _: u32) -> Result<(), String> {
+        let mut lent = self.lent.borrow_mut();
+        let lent = &mut *lent;
+        // Sound: two live slices that do not overlap.
+        let answer = unsafe {
+            vdp_out(lent.block.as_mut_ptr(), lent.block.len(), lent.vram.as_mut_ptr(), lent.vram.len(), addr, val)
+        };
+        match answer & 0xFF {
+            0 => Ok(()),
+            _ => Err(format!("VDP write of {:02X} to port {:04X}: {}", val, addr, refusal_text(answer))),
+        }
+    }
+
+    fn input(&self, addr: u16, _: u32) -> Result<u8, String> {
+        let mut lent = self.lent.borrow_mut();
+        let lent = &mut *lent;
+        // Sound: two live slices that do not overlap.
+        let answer =
+            unsafe { vdp_input(lent.block.as_mut_ptr(), lent.block.len(), lent.vram.as_ptr(), lent.vram.len(), addr) };
+        match answer & 0xFF {
+            0 => Ok((answer >> 8) as u8),
+            _ => Err(format!("VDP read of port {:04X}: {}", addr, refusal_text(answer))),
+        }
+    }
+}
+
+impl Default for Vdp {
+    fn default() -> Self {
+        Self::new()
+    }
+}
+
+/// A refusal in words.
+fn refusal_text(answer: u32) -> &'static str {
+    match answer & 0xFF {
+        1 => "unknown port",
+        2 => "the horizontal counter is not there",
+        3 => "no such register",
+        4 => "no memory chosen yet",
+        5 => "the palette cannot be read",
+        6 => "second half of a colour without the first",
+        7 => "address outside the chosen memory",
+        8 => "video memory of a wrong length",
+        9 => "pixel buffer of a wrong length",
+        10 => "malformed state block",
+        11 => "unknown area",
+        _ => "unknown refusal",
+    }
+}
