@@ -1,0 +1,216 @@
+/* frame.c: draws a frame with libvdp.a, all through the ports, and answers the author's question.
+ *
+ *   frame            prints a line for each check
+ *   frame FILE.ppm   also writes the frame as a picture (binary PPM)
+ *
+ * Exit status 1 if any check fails.
+ */
+#include "vdp.h"
+
+#include <stdio.h>
+#include <string.h>
+
+static uint8_t state[VDP_STATE_SIZE];
+static uint8_t vram[VDP_VRAM_SIZE];
+static uint8_t frame[VDP_VISIBLE_FRAME_SIZE];
+static int mistakes;
+
+/* Prints a check and keeps its outcome. */
+static void check(int good, const char *what)
+{
+    printf("%s  %s\n", good ? "ok  " : "FAIL", what);
+    if (!good)
+        mistakes++;
+}
+
+/* A port write that must be accepted. */
+static void out(uint16_t port, uint8_t value)
+{
+    uint32_t answer = vdp_out(state, sizeof state, vram, sizeof vram, port, value);
+    if (vdp_refusal(answer) != VDP_OK) {
+        printf("FAIL  write of %02X to port %02X: refusal %u\n", value, port, vdp_refusal(answer));
+        mistakes++;
+    }
+}
+
+static void set_register(unsigned number, uint8_t value)
+{
+    out(VDP_PORT_COMMAND, value);
+    out(VDP_PORT_COMMAND, (uint8_t)(0x80 + number));
+}
+
+/* The next data writes go to this address of video memory. */
+static void at_video(unsigned address)
+{
+    out(VDP_PORT_COMMAND, (uint8_t)(address & 0xFF));
+    out(VDP_PORT_COMMAND, (uint8_t)(0x40 | (address >> 8)));
+}
+
+/* Sets colour 0 to 31; each part is 0 to 15. */
+static void set_colour(unsigned number, unsigned red, unsigned green, unsigned blue)
+{
+    out(VDP_PORT_COMMAND, (uint8_t)(2 * number));
+    out(VDP_PORT_COMMAND, 0xC0);
+    out(VDP_PORT_DATA, (uint8_t)(red | green << 4));
+    out(VDP_PORT_DATA, (uint8_t)blue);
+}
+
+/* Writes a tile whose pixels all have one code, but for an edge of another. */
+static void framed_tile(unsigned number, unsigned code, unsigned edge)
+{
+    at_video(32 * number);
+    for (unsigned line = 0; line < 8; line++)
+        for (unsigned plane = 0; plane < 4; plane++) {
+            unsigned inside = (code >> plane & 1) ? 0x7E : 0;
+            unsigned sides = (edge >> plane & 1) ? 0x81 : 0;
+            unsigned whole = (edge >> plane & 1) ? 0xFF : 0;
+            out(VDP_PORT_DATA, (uint8_t)(line == 0 || line == 7 ? whole : inside | sides));
+        }
+}
+
+/* One step of the visible area; answers its word. */
+static uint32_t step(void)
+{
+    return vdp_step(state, sizeof state, vram, sizeof vram, frame, sizeof frame, VDP_VISIBLE);
+}
+
+/* A fresh device with the names at 3800, the sprites at 3F00, the display on, and tile 1 everywhere. */
+static void set_up(void)
+{
+    check(vdp_new(state, sizeof state) == VDP_OK, "a fresh device");
+    memset(vram, 0, sizeof vram);
+    set_register(1, 0x40);
+    set_register(2, 0x0E);
+    set_register(5, 0x7E);
+    set_register(6, 0x00);
+    at_video(0x3800);
+    for (unsigned name = 0; name < 32 * 28; name++) {
+        out(VDP_PORT_DATA, 1);
+        out(VDP_PORT_DATA, 0);
+    }
+    at_video(0x3F00);
+    out(VDP_PORT_DATA, 0xD0);
+}
+
+static int pixel_is(unsigned x, unsigned y, unsigned red, unsigned green, unsigned blue)
+{
+    const uint8_t *pixel = frame + 4 * (VDP_VISIBLE_WIDTH * y + x);
+    return pixel[0] == 17 * red && pixel[1] == 17 * green && pixel[2] == 17 * blue && pixel[3] == 255;
+}
+
+static int row_is(unsigned y, unsigned red, unsigned green, unsigned blue)
+{
+    for (unsigned x = 0; x < VDP_VISIBLE_WIDTH; x++)
+        if (!pixel_is(x, y, red, green, blue))
+            return 0;
+    return 1;
+}
+
+/* A frame with background and sprites; each row and the screen's end must come exactly once. */
+static void draw_a_frame(void)
+{
+    unsigned drawn[VDP_VISIBLE_HEIGHT] = {0};
+    unsigned ends = 0, refused = 0, once = 0;
+
+    set_up();
+    framed_tile(1, 1, 2);
+    framed_tile(2, 3, 4);
+    set_colour(1, 2, 4, 8);   /* background, inside */
+    set_colour(2, 3, 6, 12);  /* background, edge */
+    set_colour(19, 15, 3, 3); /* sprites, inside */
+    set_colour(20, 15, 15, 0);/* sprites, edge */
+    /* eight sprites down a diagonal, tile 2, then the end of the list */
+    at_video(0x3F00);
+    for (unsigned n = 0; n < 8; n++)
+        out(VDP_PORT_DATA, (uint8_t)(24 + 16 * n));
+    out(VDP_PORT_DATA, 0xD0);
+    at_video(0x3F80);
+    for (unsigned n = 0; n < 8; n++) {
+        out(VDP_PORT_DATA, (uint8_t)(48 + 16 * n));
+        out(VDP_PORT_DATA, 2);
+    }
+    for (unsigned n = 0; n < VDP_PASS_STEPS; n++) {
+        uint32_t answer = step();
+        refused += vdp_refusal(answer) != VDP_OK;
+        ends += vdp_report(answer) == VDP_SCREEN_DONE;
+        if (vdp_drawn(answer) && vdp_row(answer) < VDP_VISIBLE_HEIGHT)
+            drawn[vdp_row(answer)]++;
+    }
+    for (unsigned y = 0; y < VDP_VISIBLE_HEIGHT; y++)
+        once += drawn[y] == 1;
+    check(refused == 0, "261 steps accepted");
+    check(once == VDP_VISIBLE_HEIGHT, "each of the 144 rows drawn exactly once");
+    check(ends == 1, "the screen's end reported exactly once");
+    check(pixel_is(100, 4, 2, 4, 8) && pixel_is(96, 4, 3, 6, 12), "the background: inside and edge of a tile");
+    check(pixel_is(4, 5, 15, 3, 3) && pixel_is(0, 1, 15, 15, 0), "the first sprite: inside and edge");
+    check(pixel_is(0, 0, 3, 6, 12) && pixel_is(4, 10, 2, 4, 8), "no sprite above it or below it");
+    check(pixel_is(116, 117, 15, 3, 3), "the eighth sprite");
+}
+
+/* Colour 3 is changed when the line counter reads 90. Which pixels change? */
+static void authors_question(void)
+{
+    unsigned lines = 0, old_rows = 0, new_rows = 0;
+
+    set_up();
+    framed_tile(1, 3, 3);
+    set_colour(3, 15, 0, 0);
+    memset(frame, 0, sizeof frame);
+    for (unsigned n = 0; n < VDP_PASS_STEPS; n++) {
+        step();
+        uint32_t answer = vdp_input(state, sizeof state, vram, sizeof vram, VDP_PORT_LINE);
+        if (vdp_refusal(answer) == VDP_OK && vdp_byte(answer) == 90) {
+            lines++;
+            set_colour(3, 0, 0, 15);
+        }
+    }
+    for (unsigned y = 0; y < VDP_VISIBLE_HEIGHT; y++) {
+        old_rows += y <= 66 && row_is(y, 15, 0, 0);
+        new_rows += y >= 67 && row_is(y, 0, 0, 15);
+    }
+    check(lines == 1, "the counter reads 90 once in a pass");
+    check(row_is(66, 15, 0, 0), "colour 3 changed at 90: row 66 has the old colour");
+    check(row_is(67, 0, 0, 15), "colour 3 changed at 90: row 67 has the new colour");
+    check(old_rows == 67 && new_rows == 77, "rows 0 to 66 are old, rows 67 to 143 are new");
+}
+
+/* What is refused leaves all as it was. */
+static void refusals(void)
+{
+    uint8_t kept[VDP_STATE_SIZE];
+
+    check(vdp_new(state, sizeof state - 1) == VDP_REFUSED_BLOCK, "a block that is too short is refused (10)");
+    vdp_new(state, sizeof state);
+    memcpy(kept, state, sizeof state);
+    check(vdp_step(state, sizeof state, vram, sizeof vram, frame, sizeof frame, 2) == VDP_REFUSED_AREA, "area 2 is refused (11)");
+    check(vdp_step(state, sizeof state, vram, sizeof vram - 1, frame, sizeof frame, VDP_VISIBLE) == VDP_REFUSED_VRAM_LENGTH,
+          "short video memory is refused (8)");
+    check(vdp_step(state, sizeof state, vram, sizeof vram, frame, sizeof frame - 1, VDP_VISIBLE) == VDP_REFUSED_PIXELS_LENGTH,
+          "a short frame is refused (9)");
+    check(vdp_input(state, sizeof state, vram, sizeof vram, 0x7F) == VDP_REFUSED_HORIZONTAL, "port 7F is refused (2)");
+    check(memcmp(kept, state, sizeof state) == 0, "and the state block is as it was");
+}
+
+/* Writes the frame as a binary PPM; answers whether it could. */
+static int write_picture(const char *name)
+{
+    FILE *file = fopen(name, "wb");
+    if (!file)
+        return 0;
+    fprintf(file, "P6\n%d %d\n255\n", VDP_VISIBLE_WIDTH, VDP_VISIBLE_HEIGHT);
+    for (unsigned pixel = 0; pixel < VDP_VISIBLE_WIDTH * VDP_VISIBLE_HEIGHT; pixel++)
+        fwrite(frame + 4 * pixel, 1, 3, file);
+    int wrong = ferror(file);
+    return fclose(file) == 0 && !wrong;
+}
+
+int main(int count, char **words)
+{
+    draw_a_frame();
+    if (count > 1)
+        check(write_picture(words[1]), "the frame is written as a picture");
+    authors_question();
+    refusals();
+    printf("frame: %s\n", mistakes ? "mistakes were found" : "all as it should be");
+    return mistakes ? 1 : 0;
+}
