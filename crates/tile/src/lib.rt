@@ -69,7 +69,7 @@ fn unless(a: bool, b: bool) -> bool
 // ---- one pixel
 
 // The code of a tile's pixel: bit `offset` of its four bytes, byte 0 lowest.
-pub fn color_code(b0: u8, b1: u8, b2: u8, b3: u8, offset: usize) -> usize
+fn color_code(b0: u8, b1: u8, b2: u8, b3: u8, offset: usize) -> usize
     requires { ⌜ offset < 8 ⌝ }
     ensures { λ r. ⌜ r ≡ codeOf b0 b1 b2 b3 offset ⌝ }
     ensures { λ r. ⌜ r < 16 ⌝ }
@@ -92,7 +92,7 @@ fn offset_of(flip: bool, p: usize) -> usize
 }
 
 // The four bytes of a colour, at pixel x of the row.
-pub fn pixel_set_full(row: &mut [u8], x: usize, c: u32)
+fn pixel_set_full(row: &mut [u8], x: usize, c: u32)
     requires { ⌜ x * 4 + 4 ≤ length (now row) ⌝ }
     ensures { λ r. ⌜ now (row .exit) ≡ put (now (row .entry)) x c ⌝ }
 {

@@ -1,0 +1,171 @@
+-- A sprite's line of bytes and marks shows the sprite laid on the canvas.
+-- Assumes nothing.
+use mathlib.Core.Path.{_≡_, sym, ap, _∙_}
+use mathlib.Core.List.{List}
+use mathlib.Core.Bool.{Bool, true, false, cond, _&&_, _||_, not, and-true, and-false, and-comm}
+use Prim.Native.Nat.{ℕ, _+_, _-_, _*_, _%_, _<_, _≤_}
+use native.Mathlib.Nat.{lt-of-le-of-lt}
+use native.Mathlib.Decide.{decLt}
+use native.Mathlib.Omega.{arith}
+use lib.Dec.{eqb, ltb, leb}
+use lib.Bits.{bitAnd, and-le-r}
+use lib.ListN.{length}
+use borrow.Author.Tests.{lt-ltb, le-ltb, lt-leb, ltb-true}
+use Rattle.laws.specs.Bits.{bit, number, byteOf, any}
+use Rattle.laws.specs.Circle.{past}
+use Rattle.laws.specs.Lists.{at}
+use Rattle.laws.specs.Paint.{painted, overlaid, overlay}
+use Rattle.laws.proofs.Any.{any-cong, any-number, bit-of}
+use Rattle.laws.proofs.Bits.{bit-number, number-bit, number-ext, bit-and}
+use Rattle.laws.proofs.Paint.{overlaid-painted, overlay-at, painted-cong, length-painted}
+use Rattle.laws.proofs.Tests.{both, cond-in}
+use Rattle.bitmap.specs.Mask.{bitOf, bytesOf, byteAt, withByte, hits}
+use Rattle.bitmap.proofs.Circle.{bit-byteAt, bitOf-bytesOf, bytesOf-ext, withByte-bytesOf}
+use Rattle.picture.specs.declared.Stand.{Stand}
+use Rattle.picture.specs.Tile.{codeAt}
+use Rattle.picture.specs.Picture.{Canvas, solid, heldBack, marked, struck, drawn, laid}
+use Rattle.tile.specs.Line.{lineMarked, lineDrawn, spriteColour}
+use Rattle.sprites.specs.declared.Marks.{Marks}
+use Rattle.sprites.specs.Sprites.{Shows}
+
+-- ---- `mask & bits` is not 0 where a column is set in both
+pub hits-is : (m : List ℕ) (h pix : ℕ) → pix < 256 → not (eqb (bitAnd (byteAt m h) pix) 0) ≡ hits m h pix
+unfolding hits
+hits-is m h pix small =
+    let both = bitAnd (byteAt m h) pix in
+    ap (λ (x : ℕ). not (eqb x 0))
+    (sym (number-bit 8 both (lt-of-le-of-lt (and-le-r (byteAt m h) pix) small))
+    ∙ number-ext 8 (bit both) (λ j. bitOf m (h + j) && bit pix j)
+    (λ j hj. bit-and (byteAt m h) pix j ∙ ap (λ (b : Bool). b && bit pix j) (bit-byteAt m h j hj)))
+    ∙ any-number 8 (λ j. bitOf m (h + j) && bit pix j)
+
+-- ---- the marks
+module _ (s : Stand) (code : ℕ → ℕ) (f : ℕ → Bool) (c : Canvas) (low : s .end ≤ 8) where
+  marked-far : (k : ℕ) → 8 ≤ k → marked s code f c k ≡ false
+  unfolding marked solid
+  marked-far k h = let l : s .end ≤ s .start + k = omega arith in rw (le-ltb (s .start + k) (s .end) l)
+
+  drawn-far : (k : ℕ) → 8 ≤ k → drawn s code f c k ≡ false
+  unfolding drawn
+  drawn-far k h = rw (marked-far k h) (and-false (s .seen))
+
+  near : (k : ℕ) → (ltb k 8 && marked s code f c k) ≡ marked s code f c k
+  near k =
+      elim (decLt k 8) [
+        | yes h ↦ rw (lt-ltb k 8 h)
+        | no h ↦ let l : 8 ≤ k = omega arith in rw (le-ltb k 8 l) (sym (marked-far k l))
+      ]
+
+  pub mask-laid : withByte (bytesOf (c .mask)) (s .mark) (byteOf (marked s code f c)) ≡ bytesOf (laid s code f c .mask)
+  unfolding laid byteOf
+  mask-laid =
+      withByte-bytesOf (c .mask) (s .mark) (number 8 (marked s code f c))
+      ∙ bytesOf-ext (λ i. c .mask i || bit (number 8 (marked s code f c)) (past i (s .mark))) (λ i. c .mask i || marked s code f c (past i (s .mark)))
+      (λ i l. ap (λ (b : Bool). c .mask i || b) (bit-of 8 (marked s code f c) (past i (s .mark)) ∙ near (past i (s .mark))))
+
+  hit-laid : (c .hit || hits (bytesOf (c .mask)) (s .mark) (byteOf (marked s code f c))) ≡ laid s code f c .hit
+  unfolding laid hits struck byteOf
+  hit-laid =
+      ap (λ (b : Bool). c .hit || b)
+      (any-cong 8 (λ j. bitOf (bytesOf (c .mask)) (s .mark + j) && bit (number 8 (marked s code f c)) j) (λ k. marked s code f c k && c .mask ((s .mark + k) % 256))
+      (λ k h. rw (bitOf-bytesOf (c .mask) (s .mark + k), bit-number 8 (marked s code f c) k h) (and-comm (c .mask ((s .mark + k) % 256)) (marked s code f c k))))
+
+-- ---- the columns
+module _ (s : Stand) (vram : List ℕ) (addr : ℕ) (f : ℕ → Bool) (c : Canvas) (low : s .end ≤ 8) where
+  marked-seen : s .seen ≡ true → (k : ℕ) → k < 8 → lineMarked vram addr (s .start) (s .end) (byteAt (bytesOf f) (s .prio)) k ≡ marked s (codeAt (at vram) addr) f c k
+  unfolding lineMarked marked heldBack
+  marked-seen q k h = rw (q, bit-byteAt (bytesOf f) (s .prio) k h, bitOf-bytesOf f (s .prio + k))
+
+  drawn-seen : s .seen ≡ true → (width k : ℕ) → k < 8 → s .x + k < width
+      → lineDrawn vram addr (s .start) (s .end) (byteAt (bytesOf f) (s .prio)) (byteAt (bytesOf (c .mask)) (s .mark)) width (s .x) k ≡ drawn s (codeAt (at vram) addr) f c k
+  unfolding lineDrawn drawn struck
+  drawn-seen q width k h l =
+      rw (lt-ltb (s .x + k) width l, marked-seen q k h, bit-byteAt (bytesOf (c .mask)) (s .mark) k h, bitOf-bytesOf (c .mask) (s .mark + k))
+      (and-true (marked s (codeAt (at vram) addr) f c k && not (c .mask ((s .mark + k) % 256)))
+      ∙ sym (ap (λ (b : Bool). b && (marked s (codeAt (at vram) addr) f c k && not (c .mask ((s .mark + k) % 256)))) q))
+
+  pub bits-seen : s .seen ≡ true → byteOf (lineMarked vram addr (s .start) (s .end) (byteAt (bytesOf f) (s .prio))) ≡ byteOf (marked s (codeAt (at vram) addr) f c)
+  unfolding byteOf
+  bits-seen q = number-ext 8 (lineMarked vram addr (s .start) (s .end) (byteAt (bytesOf f) (s .prio))) (marked s (codeAt (at vram) addr) f c) (λ k h. marked-seen q k h)
+
+  marked-unseen : s .seen ≡ false → (k : ℕ) → solid (s .start) (s .end) (codeAt (at vram) addr) k ≡ marked s (codeAt (at vram) addr) f c k
+  unfolding marked heldBack
+  marked-unseen q k = rw q (sym (and-true (solid (s .start) (s .end) (codeAt (at vram) addr) k)))
+
+  pub bits-unseen : s .seen ≡ false → byteOf (solid (s .start) (s .end) (codeAt (at vram) addr)) ≡ byteOf (marked s (codeAt (at vram) addr) f c)
+  unfolding byteOf
+  bits-unseen q = number-ext 8 (solid (s .start) (s .end) (codeAt (at vram) addr)) (marked s (codeAt (at vram) addr) f c) (λ k h. marked-unseen q k)
+
+  -- ---- the row
+  module _ (width : ℕ) (colours row₀ : List ℕ) where
+    abbrev shown : ℕ → Bool
+    shown k = lineDrawn vram addr (s .start) (s .end) (byteAt (bytesOf f) (s .prio)) (byteAt (bytesOf (c .mask)) (s .mark)) width (s .x) k
+
+    inside : (i : ℕ) → i < 8 → shown i ≡ true → s .x + i < width
+    unfolding lineDrawn
+    inside i l e =
+        ltb-true (s .x + i) width
+        (both (lineMarked vram addr (s .start) (s .end) (byteAt (bytesOf f) (s .prio)) i && not (bit (byteAt (bytesOf (c .mask)) (s .mark)) i)) (ltb (s .x + i) width) e .1)
+
+    same-test : s .seen ≡ true → (p : ℕ) → p < width → (leb (s .x) p && (ltb (p - s .x) 8 && shown (p - s .x))) ≡ (leb (s .x) p && drawn s (codeAt (at vram) addr) f c (p - s .x))
+    same-test q p l =
+        elim (decLt p (s .x)) [
+          | yes h ↦ rw (lt-leb (s .x) p h)
+          | no h ↦
+              elim (decLt (p - s .x) 8) [
+                | yes k ↦
+                    let r : s .x + (p - s .x) < width = omega arith in
+                    rw (lt-ltb (p - s .x) 8 k, drawn-seen q width (p - s .x) k r)
+                | no k ↦
+                    let r : 8 ≤ p - s .x = omega arith in
+                    rw (le-ltb (p - s .x) 8 r, drawn-far s (codeAt (at vram) addr) f c low (p - s .x) r)
+              ]
+        ]
+
+    row-seen : s .seen ≡ true → width * 4 ≤ length row₀
+        → overlaid (painted row₀ 0 width (λ x. at colours (c .colour x))) (s .x) 8 shown (spriteColour colours vram addr (s .start))
+        ≡ painted row₀ 0 width (λ x. at colours (laid s (codeAt (at vram) addr) f c .colour x))
+    unfolding laid
+    row-seen q room =
+        overlaid-painted row₀ width (λ x. at colours (c .colour x)) (s .x) 8 shown (spriteColour colours vram addr (s .start)) inside room
+        ∙ painted-cong row₀ 0 width (overlay (λ x. at colours (c .colour x)) (s .x) 8 shown (spriteColour colours vram addr (s .start)))
+        (λ x. at colours (cond (leb (s .x) x && drawn s (codeAt (at vram) addr) f c (x - s .x)) (16 + codeAt (at vram) addr (s .start + (x - s .x))) (c .colour x)))
+        (λ p l.
+        overlay-at (λ x. at colours (c .colour x)) (s .x) 8 shown (spriteColour colours vram addr (s .start)) p
+        ∙ rw (same-test q p l)
+        (cond-in (λ (k : ℕ). at colours k) (leb (s .x) p && drawn s (codeAt (at vram) addr) f c (p - s .x)) (16 + codeAt (at vram) addr (s .start + (p - s .x))) (c .colour p)))
+
+    row-unseen : s .seen ≡ false → painted row₀ 0 width (λ x. at colours (c .colour x)) ≡ painted row₀ 0 width (λ x. at colours (laid s (codeAt (at vram) addr) f c .colour x))
+    unfolding laid drawn
+    row-unseen q = painted-cong row₀ 0 width _ _ (λ p l. rw (q, and-false (leb (s .x) p)))
+
+-- ---- all of it
+module _ (s : Stand) (vram : List ℕ) (addr : ℕ) (f : ℕ → Bool) (c : Canvas) (low : s .end ≤ 8) (width : ℕ) (colours row₀ : List ℕ) where
+  pub shows-seen : {row row′ prio : List ℕ} {marks r : Marks} {held taken bits : ℕ} → s .seen ≡ true → width * 4 ≤ length row → prio ≡ bytesOf f → Shows row₀ colours width c row marks
+      → held ≡ byteAt prio (s .prio) → taken ≡ byteAt (marks .mask .bits) (s .mark)
+      → row′ ≡ overlaid row (s .x) 8 (lineDrawn vram addr (s .start) (s .end) held taken width (s .x)) (spriteColour colours vram addr (s .start))
+      → bits ≡ byteOf (lineMarked vram addr (s .start) (s .end) held)
+      → (r .hit ≡ (marks .hit || hits (marks .mask .bits) (s .mark) bits)) × (r .mask .bits ≡ withByte (marks .mask .bits) (s .mark) bits)
+      → Shows row₀ colours width (laid s (codeAt (at vram) addr) f c) row′ r
+  shows-seen q room pe sh he te re be me =
+      let hd : _ ≡ byteAt (bytesOf f) (s .prio) = he ∙ ap (λ (l : List ℕ). byteAt l (s .prio)) pe in
+      let tk : _ ≡ byteAt (bytesOf (c .mask)) (s .mark) = te ∙ ap (λ (l : List ℕ). byteAt l (s .mark)) (sh .mask) in
+      let bt : _ ≡ byteOf (marked s (codeAt (at vram) addr) f c) = be ∙ rw hd (bits-seen s vram addr f c low q) in
+      let rm : width * 4 ≤ length row₀ = omega (arith, ap length (sh .bytes) ∙ length-painted row₀ 0 width (λ x. at colours (c .colour x))) in
+      record {
+        bytes = re ∙ rw (hd, tk, sh .bytes) (row-seen s vram addr f c low width colours row₀ q rm);
+        mask = me .1 ∙ rw (sh .mask, bt) (mask-laid s (codeAt (at vram) addr) f c low);
+        hit = me .0 ∙ rw (sh .mask, sh .hit, bt) (hit-laid s (codeAt (at vram) addr) f c low);
+      }
+
+  pub shows-unseen : {row : List ℕ} {marks r : Marks} {bits : ℕ} → s .seen ≡ false → Shows row₀ colours width c row marks
+      → bits ≡ byteOf (solid (s .start) (s .end) (codeAt (at vram) addr))
+      → (r .hit ≡ (marks .hit || hits (marks .mask .bits) (s .mark) bits)) × (r .mask .bits ≡ withByte (marks .mask .bits) (s .mark) bits)
+      → Shows row₀ colours width (laid s (codeAt (at vram) addr) f c) row r
+  shows-unseen q sh be me =
+      let bt : _ ≡ byteOf (marked s (codeAt (at vram) addr) f c) = be ∙ bits-unseen s vram addr f c low q in
+      record {
+        bytes = sh .bytes ∙ row-unseen s vram addr f c low width colours row₀ q;
+        mask = me .1 ∙ rw (sh .mask, bt) (mask-laid s (codeAt (at vram) addr) f c low);
+        hit = me .0 ∙ rw (sh .mask, sh .hit, bt) (hit-laid s (codeAt (at vram) addr) f c low);
+      }

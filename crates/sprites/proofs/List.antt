@@ -1,0 +1,122 @@
+-- The list of sprites on a line, one at a time.
+-- Assumes nothing.
+use mathlib.Core.Path.{_≡_, refl, sym, _∙_, subst}
+use mathlib.Core.List.{List, [], _∷_}
+use mathlib.Core.Bool.{Bool, true, false, cond, _&&_}
+use Prim.Native.Nat.{ℕ, suc, _+_, _-_, _*_, _%_, _<_, _≤_}
+use native.Mathlib.Numerals.{add-one}
+use native.Mathlib.Omega.{arith}
+use lib.Dec.{eqb, ltb, leb, leb·suc-suc}
+use lib.ListN.{length, take}
+use lib.Seq.{take-nil}
+use borrow.Author.Tests.{lt-ltb, le-ltb}
+use Rattle.laws.specs.Lists.{at}
+use Rattle.laws.specs.Paint.{painted}
+use Rattle.bitmap.specs.Mask.{cleared}
+use Rattle.picture.specs.declared.Stand.{Stand}
+use Rattle.picture.specs.declared.RenderArea.{RenderArea}
+use Rattle.picture.specs.Tile.{codeAt}
+use Rattle.picture.specs.View.{early}
+use Rattle.picture.specs.Picture.{Canvas, laid, tableAt, topOf, tall, onLine, listed, spriteLine, spriteCode, withSprite, withSprites, bare}
+use Rattle.sprites.specs.declared.Marks.{Marks}
+use Rattle.sprites.specs.Sprites.{Shows, standOf, Finished}
+
+-- the sprite that the code lays is sprite n
+pub with-sprite-is : (vram reg : List ℕ) (area : RenderArea) (line n d : ℕ) (f : ℕ → Bool) (c : Canvas) {s : Stand} {e table addr : ℕ} → table ≡ tableAt (at reg)
+    → e ≡ early (at reg) → s ≡ standOf area e (at vram (table + 128 + 2 * n)) → d ≡ line - topOf (at vram) (at reg) n
+    → addr ≡ spriteLine (at reg) (at vram (table + 128 + 2 * n + 1)) d → laid s (codeAt (at vram) addr) f c ≡ withSprite (at vram) (at reg) (standOf area (early (at reg))) line f n c
+unfolding withSprite spriteCode
+with-sprite-is vram reg area line n d f c te ee se de ae = rw (se, ae, de, ee, te)
+
+-- ---- the list from sprite n on
+module _ (m g : ℕ → ℕ) (l n : ℕ) (low : n < 64) where
+  next : listed m g l (64 - n) n
+      ≡ cond (eqb (m (tableAt g + n)) 0xD0) [] (cond (onLine m g l n) (n ∷ listed m g l (64 - (n + 1)) (n + 1)) (listed m g l (64 - (n + 1)) (n + 1)))
+  unfolding listed
+  next =
+      let e : 64 - n ≡ suc (64 - (n + 1)) = omega arith in
+      rw (e, add-one)
+
+  pub list-ends : eqb (m (tableAt g + n)) 0xD0 ≡ true → listed m g l (64 - n) n ≡ []
+  list-ends e = next ∙ rw e
+
+  pub list-skips : eqb (m (tableAt g + n)) 0xD0 ≡ false → onLine m g l n ≡ false → listed m g l (64 - n) n ≡ listed m g l (64 - (n + 1)) (n + 1)
+  list-skips e o = next ∙ rw (e, o)
+
+  pub list-has : eqb (m (tableAt g + n)) 0xD0 ≡ false → onLine m g l n ≡ true → listed m g l (64 - n) n ≡ n ∷ listed m g l (64 - (n + 1)) (n + 1)
+  list-has e o = next ∙ rw (e, o)
+
+-- ---- on the way: what is left of the list, laid on a canvas of which S says that the code's values show it, gives what the whole list gives
+pub record Going (m g : ℕ → ℕ) (stand : ℕ → Stand) (l : ℕ) (f : ℕ → Bool) (colour : ℕ → ℕ) (n count : ℕ) (S : Canvas → Type 0) : Type 0 where
+  pub canvas : Canvas
+  pub shows : S canvas
+  pub rest : withSprites m g stand l f (take (8 - count) (listed m g l (64 - n) n)) canvas ≡ withSprites m g stand l f (take 8 (listed m g l 64 0)) (bare colour)
+  pub many : ltb (8 - count) (length (listed m g l (64 - n) n)) ≡ ltb 8 (length (listed m g l 64 0))
+
+-- the whole list, laid: S holds of what it gives
+pub record Done (m g : ℕ → ℕ) (stand : ℕ → Stand) (l : ℕ) (f : ℕ → Bool) (colour : ℕ → ℕ) (ninth : Bool) (S : Canvas → Type 0) : Type 0 where
+  pub shows : S (withSprites m g stand l f (take 8 (listed m g l 64 0)) (bare colour))
+  pub many : ninth ≡ ltb 8 (length (listed m g l 64 0))
+
+module _ (m g : ℕ → ℕ) (stand : ℕ → Stand) (l : ℕ) (f : ℕ → Bool) (colour : ℕ → ℕ) where
+  pub going-starts : (S : Canvas → Type 0) → S (bare colour) → Going m g stand l f colour 0 0 S
+  going-starts S s = record { canvas = bare colour; shows = s; rest = refl; many = refl }
+
+  pub going-skips : {n count : ℕ} {S : Canvas → Type 0} → listed m g l (64 - n) n ≡ listed m g l (64 - (n + 1)) (n + 1)
+      → Going m g stand l f colour n count S → Going m g stand l f colour (n + 1) count S
+  going-skips e o = record { canvas = o .canvas; shows = o .shows; rest = rw e at (o .rest); many = rw e at (o .many) }
+
+  pub going-on : {n count count′ : ℕ} {S : Canvas → Type 0} (S′ : Canvas → Type 0) → listed m g l (64 - n) n ≡ n ∷ listed m g l (64 - (n + 1)) (n + 1) → count < 8
+      → count′ ≡ count + 1 → (o : Going m g stand l f colour n count S) → S′ (withSprite m g stand l f n (o .canvas)) → Going m g stand l f colour (n + 1) count′ S′
+  unfolding withSprites
+  going-on {n} {count} {count′} S′ e h q o s =
+      let k : 8 - count ≡ suc (8 - count′) = omega arith in
+      record {
+        canvas = withSprite m g stand l f n (o .canvas);
+        shows = s;
+        rest = rw (e, k) at (o .rest);
+        many = sym (leb·suc-suc (suc (8 - count′)) (length (listed m g l (64 - (n + 1)) (n + 1)))) ∙ (rw (e, k) at (o .many));
+      }
+
+  pub going-ends : {n count : ℕ} (S : Canvas → Type 0) → listed m g l (64 - n) n ≡ [] → Going m g stand l f colour n count S → Done m g stand l f colour false S
+  unfolding withSprites
+  going-ends {n} {count} S e o =
+      let z : 0 ≤ 8 - count = omega arith in
+      record { shows = subst S (rw (e, take-nil (8 - count)) at (o .rest)) (o .shows); many = sym (le-ltb (8 - count) 0 z) ∙ (rw e at (o .many)) }
+
+  pub going-full : {n count : ℕ} (S : Canvas → Type 0) → listed m g l (64 - n) n ≡ n ∷ listed m g l (64 - (n + 1)) (n + 1) → count ≡ 8
+      → Going m g stand l f colour n count S → Done m g stand l f colour true S
+  unfolding withSprites
+  going-full {n} {count} S e h o =
+      let k : 8 - count ≡ 0 = omega arith in
+      let z : 0 < suc (length (listed m g l (64 - (n + 1)) (n + 1))) = omega arith in
+      record { shows = subst S (rw k at (o .rest)) (o .shows); many = sym (lt-ltb 0 (suc (length (listed m g l (64 - (n + 1)) (n + 1)))) z) ∙ (rw (e, k) at (o .many)) }
+
+pub list-done : (m g : ℕ → ℕ) (l n : ℕ) → n ≡ 64 → listed m g l (64 - n) n ≡ []
+unfolding listed
+list-done m g l n e = let z : 64 - n ≡ 0 = omega arith in rw z
+
+-- ---- what the code's tests say of sprite n
+module _ (vram reg : List ℕ) (n : ℕ) {table : ℕ} (te : table ≡ tableAt (at reg)) where
+  pub byte-of : {b : Bool} → eqb (at vram (table + n)) 0xD0 ≡ b → eqb (at vram (tableAt (at reg) + n)) 0xD0 ≡ b
+  byte-of e = rw te at e
+
+  pub top-is : {top : ℕ} → top ≡ (at vram (table + n) + 1) % 256 → top ≡ topOf (at vram) (at reg) n
+  unfolding topOf
+  top-is e = e ∙ rw te
+
+  pub on-line-of : (line : ℕ) {top : ℕ} {t r : Bool} → top ≡ (at vram (table + n) + 1) % 256 → t ≡ tall (at reg) → r ≡ (leb top line && ltb line (top + cond t 16 8))
+      → onLine (at vram) (at reg) line n ≡ r
+  unfolding onLine
+  on-line-of line e q p = sym (p ∙ rw (q, top-is e))
+
+-- ---- a row of bytes
+module _ (m g : ℕ → ℕ) (stand : ℕ → Stand) (l : ℕ) (f : ℕ → Bool) (colour : ℕ → ℕ) (row₀ colours : List ℕ) (width : ℕ) where
+  pub row-starts : {row : List ℕ} {marks : Marks} → row ≡ painted row₀ 0 width (λ x. at colours (colour x)) → marks .mask .bits ≡ cleared → marks .hit ≡ false
+      → Going m g stand l f colour 0 0 (λ c. Shows row₀ colours width c row marks)
+  unfolding bare cleared
+  row-starts {row} {marks} b k h = going-starts m g stand l f colour (λ c. Shows row₀ colours width c row marks) (record { bytes = b; mask = k; hit = h })
+
+  pub finished : {row : List ℕ} {marks : Marks} {ninth : Bool} → Done m g stand l f colour ninth (λ c. Shows row₀ colours width c row marks)
+      → Finished m g stand l f row₀ colours width colour row (marks .hit) ninth
+  finished d = record { bytes = d .shows .bytes; struck = d .shows .hit; many = d .many }
