@@ -31,8 +31,19 @@ suite() {
     printf '(%s: %s s)\n' "$name" $(($(date +%s) - began))
 }
 
+# sum: the last line, which .ci/run shows again where make adds a line of its own.
+sum() {
+    if [ "$skipped" -gt 0 ]; then
+        printf '%s passed, %s failed, %s skipped\n' "$passed" "$failed" "$skipped"
+    else
+        printf '%s passed, %s failed\n' "$passed" "$failed"
+    fi | tee $logs/sum
+    [ "$failed" -eq 0 ]
+}
+
 if ! sh tools/setup.sh; then
-    echo '0 passed, 1 failed'
+    failed=1
+    sum
     exit 1
 fi
 
@@ -42,9 +53,4 @@ for s in tests/[a-z]*.sh; do
 done
 
 printf '\n'
-if [ "$skipped" -gt 0 ]; then
-    printf '%s passed, %s failed, %s skipped\n' "$passed" "$failed" "$skipped"
-else
-    printf '%s passed, %s failed\n' "$passed" "$failed"
-fi
-[ "$failed" -eq 0 ]
+sum
