@@ -1,10 +1,11 @@
 //! Holds the library beside the published Rust and beside the model, call by call.
 //!
-//!   compare CALLS SEED [--model]   random sessions from fresh devices, and states made by hand
-//!   compare rows SEED [--model]    rows made to meet every rule of the picture, through the row step
-//!   compare vectors COUNT SEED     writes the list of the Rust's answers that `replay` holds (see VECTORS.md)
+//!   compare CALLS SEED [OURS]    random sessions from fresh devices, and states made by hand
+//!   compare rows SEED [OURS]     rows made to meet every rule of the picture, through the row step
+//!   compare vectors COUNT SEED   writes the list of the Rust's answers that `replay` holds (see VECTORS.md)
 //!
-//! With --model our side is the model and not the linked library. Exit status 1 on any difference, 2 on bad usage.
+//! Our side is the linked library; with --model it is the model; with --tight it is the library, each buffer lent as memory of its
+//! own (for a memory checker). Exit status 1 on any difference, 2 on bad usage.
 
 mod face;
 mod gears;
@@ -168,19 +169,21 @@ fn hand_session(world: &mut World, counts: &mut Counts, left: u64, random: &mut 
 }
 
 fn usage() -> ! {
-    eprintln!("usage: compare CALLS SEED [--model] | compare rows SEED [--model] | compare vectors COUNT SEED");
+    eprintln!("usage: compare CALLS SEED [--model|--tight] | compare rows SEED [--model|--tight] | compare vectors COUNT SEED");
     std::process::exit(2)
 }
 
 fn main() {
     world::quiet_panics();
     let mut words: Vec<String> = std::env::args().skip(1).collect();
-    let side = if words.last().map_or(false, |word| word == "--model") {
-        words.pop();
-        Ours::Model
-    } else {
-        Ours::Library
+    let side = match words.last().map(|word| word.as_str()) {
+        Some("--model") => Ours::Model,
+        Some("--tight") => Ours::Tight,
+        _ => Ours::Library,
     };
+    if side != Ours::Library {
+        words.pop();
+    }
     let words: Vec<&str> = words.iter().map(|word| word.as_str()).collect();
     let number = |word: &str| word.parse::<u64>().unwrap_or_else(|_| usage());
     let differences = match words[..] {

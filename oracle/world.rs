@@ -79,6 +79,8 @@ impl Memory {
 #[derive(Clone, Copy, PartialEq)]
 pub enum Ours {
     Library,
+    /// The library, lent each part as memory of its own, so that a memory checker sees the first byte beside it.
+    Tight,
     Model,
 }
 
@@ -112,6 +114,30 @@ fn perform_library(m: &mut Memory, c: &Call) -> u32 {
         Kind::RowStep => face::vdp_row_step(m.state.part_mut(c.state_len), m.video.part(c.video_len), m.row.part_mut(n), c.value),
         Kind::Dump => face::vdp_dump_tileset(m.state.part(c.state_len), m.video.part(c.video_len), m.sheet.part_mut(n)),
     }
+}
+
+/// The same with each lent part copied to memory of its own length and back.
+fn perform_tight(m: &mut Memory, c: &Call) -> u32 {
+    let mut state = m.state.part(c.state_len).to_vec();
+    let mut video = m.video.part(c.video_len).to_vec();
+    let buffer = match c.kind {
+        Kind::Step => m.frame_mut(c.value),
+        Kind::RowStep => &mut m.row,
+        _ => &mut m.sheet,
+    };
+    let mut pixels = buffer.part(c.pixels_len).to_vec();
+    let word = match c.kind {
+        Kind::New => face::vdp_new(&mut state),
+        Kind::Out => face::vdp_out(&mut state, &mut video, c.port, c.value),
+        Kind::Input => face::vdp_input(&mut state, &video, c.port),
+        Kind::Step => face::vdp_step(&mut state, &video, &mut pixels, c.value),
+        Kind::RowStep => face::vdp_row_step(&mut state, &video, &mut pixels, c.value),
+        Kind::Dump => face::vdp_dump_tileset(&state, &video, &mut pixels),
+    };
+    buffer.part_mut(c.pixels_len).copy_from_slice(&pixels);
+    m.state.part_mut(c.state_len).copy_from_slice(&state);
+    m.video.part_mut(c.video_len).copy_from_slice(&video);
+    word
 }
 
 thread_local! {
@@ -247,6 +273,7 @@ impl World {
         let mut our_notes = Notes::default();
         let our_word = match self.side {
             Ours::Library => perform_library(&mut self.ours, c),
+            Ours::Tight => perform_tight(&mut self.ours, c),
             Ours::Model => perform_model(&mut self.ours, c, &mut our_notes),
         };
 
