@@ -1,0 +1,7 @@
+-- The demands, proved.
+pub mod Counter
+pub mod Lines
+pub mod Kept
+pub mod Steps
+pub mod Sound
+pub mod Demand3

@@ -1,0 +1,125 @@
+-- From a fresh device, after any calls: clean colours, a counter in its pass, an address in its memory, and the scroll that was latched last.
+-- Assumes nothing.
+use mathlib.Core.Path.{_≡_, refl, sym, _∙_, ap, subst}
+use mathlib.Core.Bool.{Bool, true, false, cond, not, _&&_, and-false}
+use mathlib.Core.List.{List, [], _∷_}
+use Prim.Native.Nat.{ℕ, zero, suc, _+_, _%_, _≤_, _<_}
+use native.Mathlib.Omega.{arith}
+use lib.Dec.{eqb, leb}
+use borrow.Author.Tests.{eqb-true, eqb-false, eq-eqb, ne-eqb}
+use Rattle.laws.proofs.Tests.{either, split, clash}
+use Rattle.picture.specs.declared.RenderArea.{RenderArea}
+use Rattle.picture.specs.Area.{rowSize, frameSize}
+use Rattle.raster.specs.declared.Raster.{Raster}
+use Rattle.raster.specs.Raster.{up, jumps, starts, jumpTo, jumpLine, advanced, counted, ticked}
+use Rattle.vdp.specs.declared.VdpState.{VdpState}
+use Rattle.vdp.specs.Refusals.{size, whole}
+use Rattle.vdp.proofs.Invariant.{Aimed, write-aimed, read-aimed}
+use Rattle.step.specs.declared.Stepped.{Stepped}
+use Rattle.step.specs.Step.{register, lineOf, stepped, stepWith}
+use Rattle.demands.specs.Pass.{Call, out, input, step-frame, step-row, dump-tiles, History, after, now, becomesZero, latched, NoStep, Between, then}
+use Rattle.demands.proofs.Counter.{InPass, tick, line, jump-above}
+use Rattle.demands.proofs.Lines.{starts-at}
+use Rattle.demands.proofs.Kept.{Clean, write-keeps, read-keeps}
+use Rattle.demands.proofs.Steps.{stepped-raster, stepped-addr, stepped-dest, stepped-clean, refused}
+
+pub record Sound (d : VdpState) : Type 0 where
+  pub clean : Clean d
+  pub within : InPass (d .raster)
+  pub aimed : Aimed d
+
+-- a call leaves the raster as it is, or ticks it
+data Moved (g : ℕ → ℕ) (x x′ : Raster) : Type 0 where
+  stays : x′ ≡ x → Moved g x x′
+  ticks : x′ ≡ ticked g x → Moved g x x′
+
+record Left (d d′ : VdpState) : Type 0 where
+  moved : Moved (register d) (d .raster) (d′ .raster)
+  clean : Clean d → Clean d′
+  aimed : Aimed d → Aimed d′
+
+step-left : (need : ℕ) (a : RenderArea) (vram : List ℕ) (size : ℕ) (d : VdpState) → Left d (stepWith need a vram size d .vdp)
+unfolding stepWith
+step-left need a vram n d =
+    either LeftBy (whole vram) (λ _. either LeftBy (leb need n) (λ _. took) (λ _. none)) (λ _. none)
+  where
+    LeftBy : Stepped → Type 0
+    LeftBy s = Left d (s .vdp)
+
+    none : Left d d
+    none = record { moved = stays refl; clean = λ k. k; aimed = λ k. k }
+
+    took : Left d (stepped a vram d .vdp)
+    took =
+        record {
+          moved = ticks (stepped-raster a vram d);
+          clean = stepped-clean a vram d;
+          aimed = λ k. rw (stepped-addr a vram d, stepped-dest a vram d) k;
+        }
+
+left : (c : Call) (d : VdpState) → Left d (after c d)
+unfolding after
+left (out p v m) d =
+    let k = write-keeps d m p v in
+    record { moved = stays (k .raster); clean = k .clean; aimed = write-aimed d m p v }
+left (input p m) d =
+    let k = read-keeps d m p in
+    record { moved = stays (k .raster); clean = k .clean; aimed = read-aimed d m p }
+left (step-frame a vram n) d = step-left (frameSize a) a vram n d
+left (step-row a vram n) d = step-left (rowSize a) a vram n d
+left (dump-tiles vram n) d = record { moved = stays refl; clean = λ k. k; aimed = λ k. k }
+
+moved-within : {g : ℕ → ℕ} {x x′ : Raster} → Moved g x x′ → InPass x → InPass x′
+unfolding ticked counted advanced
+moved-within (stays e) w = subst InPass (sym e) w
+moved-within {x = x} (ticks e) w = subst InPass (sym e) (tick x w .within)
+
+pub sound : (h : History) → Sound (now h)
+unfolding now
+sound [] = record { clean = λ e. absurd (let z : _≡_ {A = ℕ} 0 1 = cc in omega arith); within = omega arith; aimed = omega arith }
+sound (c ∷ h) =
+    let l = left c (now h) in
+    let s = sound h in
+    record { clean = l .clean (s .clean); within = moved-within (l .moved) (s .within); aimed = l .aimed (s .aimed) }
+
+-- ---- the latched scroll
+-- a step makes the counter 0 exactly when it starts a pass
+zero-starts : (x : Raster) → (not (eqb (x .«v_counter») 0) && eqb (line x) 0) ≡ starts x
+unfolding starts jumps
+zero-starts x =
+    split (starts x)
+    (λ s.
+    let z : up x ≡ 0 = eqb-true (up x) 0 s in
+    rw (ne-eqb (up x) jumpLine (λ f. omega arith), ne-eqb (x .«v_counter») 0 (λ f. omega arith)))
+    (λ s. rw (ne-eqb (line x) 0 (λ f. clash (sym (starts-at x f) ∙ s)), s) (and-false (not (eqb (x .«v_counter») 0))))
+
+not-both : (b : Bool) → (not b && b) ≡ false
+not-both true = refl
+not-both false = refl
+
+moved-scroll :
+    (d d′ : VdpState) (l : ℕ) → Moved (register d) (d .raster) (d′ .raster) → d .raster .«vertical_scroll» ≡ l →
+    d′ .raster .«vertical_scroll» ≡ cond (becomesZero d d′) (register d 9) l
+unfolding ticked counted advanced
+moved-scroll d d′ l (stays e) s = rw (e, not-both (eqb (lineOf d) 0)) s
+moved-scroll d d′ l (ticks e) s = rw (e, zero-starts (d .raster), s)
+
+-- the scroll in the record is the one latched when the counter last became 0
+pub scroll-is : (h : History) → now h .raster .«vertical_scroll» ≡ latched h
+unfolding now latched
+scroll-is [] = refl
+scroll-is (c ∷ h) = moved-scroll (now h) (after c (now h)) (latched h) (left c (now h) .moved) (scroll-is h)
+
+-- ---- between steps
+quiet : (c : Call) (d : VdpState) → NoStep c → after c d .raster ≡ d .raster
+unfolding after
+quiet (out p v m) d n = write-keeps d m p v .raster
+quiet (input p m) d n = read-keeps d m p .raster
+quiet (step-frame a vram k) d n = ap (λ (x : VdpState). x .raster) (refused (frameSize a) a vram k d (n d))
+quiet (step-row a vram k) d n = ap (λ (x : VdpState). x .raster) (refused (rowSize a) a vram k d (n d))
+quiet (dump-tiles vram k) d n = refl
+
+pub then-raster : (cs : List Between) (h : History) → now (then cs h) .raster ≡ now h .raster
+unfolding then now
+then-raster [] h = refl
+then-raster (c ∷ cs) h = then-raster cs (c .call ∷ h) ∙ quiet (c .call) (now h) (c .no-step)

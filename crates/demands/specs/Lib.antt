@@ -1,0 +1,2 @@
+-- The demands, as statements.
+pub mod Pass

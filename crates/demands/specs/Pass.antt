@@ -1,0 +1,151 @@
+-- DEMAND 3, said of the definitions that the contracts of the ports and the steps cite.
+-- Assumes nothing.
+use mathlib.Core.Path.{_≡_}
+use mathlib.Core.Logic.{_↔_, _≢_}
+use mathlib.Core.Bool.{Bool, true, false, cond, not, _&&_}
+use mathlib.Core.List.{List, [], _∷_}
+use Prim.Native.Nat.{ℕ, zero, suc, _+_, _≤_, _<_, _∣_}
+use lib.Dec.{eqb}
+use lib.ListN.{length, drop}
+use Rattle.laws.specs.Bits.{bit}
+use Rattle.laws.specs.Lists.{rowOf}
+use Rattle.laws.specs.Once.{ExactlyOnce}
+use Rattle.colour.specs.Colour.{coloursOf}
+use Rattle.picture.specs.declared.RenderArea.{RenderArea}
+use Rattle.picture.specs.Picture.{Row}
+use Rattle.picture.specs.Area.{columns, rows, rowSize, frameSize, pictureOf, rowBytes}
+use Rattle.raster.specs.Raster.{passLength}
+use Rattle.vdp.specs.declared.VdpState.{VdpState}
+use Rattle.vdp.specs.declared.Refusal.the-variants.{Accepted}
+use Rattle.vdp.specs.Device.{fresh}
+use Rattle.vdp.specs.Ports.{portWrite, portRead}
+use Rattle.step.specs.declared.Stepped.{Stepped}
+use Rattle.step.specs.declared.VdpInt.the-variants.{InterruptGenerated}
+use Rattle.step.specs.declared.DisplayRefresh.the-variants.{NoDisplay}
+use Rattle.step.specs.declared.DrawnRow.the-variants.{Drawn}
+use Rattle.step.specs.Step.{register, lineOf, rowStep, frameStep}
+use Rattle.step.specs.Frame.{frameAfter}
+
+-- ---- calls, from a fresh device on
+-- A call, with the video memory lent to it; `size` is the length of the pixel buffer lent to it.
+pub data Call : Type 0 where
+  out : (port value : ℕ) (vram : List ℕ) → Call
+  input : (port : ℕ) (vram : List ℕ) → Call
+  step-frame : (area : RenderArea) (vram : List ℕ) (size : ℕ) → Call
+  step-row : (area : RenderArea) (vram : List ℕ) (size : ℕ) → Call
+  dump-tiles : (vram : List ℕ) (size : ℕ) → Call
+
+-- the device that a call leaves, refused or not; a dump leaves it as it is
+unfoldable pub after : Call → VdpState → VdpState
+after (out port value vram) d = portWrite d vram port value .answer .vdp
+after (input port vram) d = portRead d vram port .vdp
+after (step-frame a vram size) d = frameStep a vram size d .vdp
+after (step-row a vram size) d = rowStep a vram size d .vdp
+after (dump-tiles vram size) d = d
+
+-- the calls made so far, the last one first, and the device after them: "Start from a fresh device"
+abbrev pub History : Type 0
+History = List Call
+
+unfoldable pub now : History → VdpState
+now [] = fresh
+now (c ∷ h) = after c (now h)
+
+-- "the vertical scroll latched when the counter last became 0 (0 if it never did)": register 9 at that call
+abbrev pub becomesZero : VdpState → VdpState → Bool
+becomesZero d d′ = not (eqb (lineOf d) 0) && eqb (lineOf d′) 0
+
+unfoldable pub latched : History → ℕ
+latched [] = 0
+latched (c ∷ h) = cond (becomesZero (now h) (now (c ∷ h))) (register (now h) 9) (latched h)
+
+-- ---- "consecutive accepted .. steps on one frame that nothing else writes", "with any port calls between steps"
+-- What may be called between two steps: a port, a dump, and a step of either kind and area that is refused.
+abbrev pub NoStep : Call → Type 0
+NoStep (out port value vram) = Unit {0}
+NoStep (input port vram) = Unit {0}
+NoStep (step-frame a vram size) = (d : VdpState) → frameStep a vram size d .refusal ≢ Accepted
+NoStep (step-row a vram size) = (d : VdpState) → rowStep a vram size d .refusal ≢ Accepted
+NoStep (dump-tiles vram size) = Unit {0}
+
+pub record Between : Type 0 where
+  pub call : Call
+  pub no-step : NoStep call
+
+-- Steps 0, 1, 2 and so on, without end; a pass is the first 261 of them. (A run that ends can go on: what is said of its pass stays.)
+pub record Run (a : RenderArea) : Type 0 where
+  -- every call since the device was fresh, the last one first
+  pub before : History
+  -- the calls made just before step i, the first one first
+  pub between : ℕ → List Between
+  -- the video memory lent to step i
+  pub vram : ℕ → List ℕ
+  -- the frame as step 0 finds it
+  pub frame : List ℕ
+  -- each step is accepted, whatever the device
+  pub accepted : (i : ℕ) (d : VdpState) → frameStep a (vram i) (length frame) d .refusal ≡ Accepted
+
+unfoldable pub then : List Between → History → History
+then [] h = h
+then (c ∷ cs) h = then cs (c .call ∷ h)
+
+-- step i as a call, all calls until just before it, and all up to its end
+abbrev pub stepCall : {a : RenderArea} → Run a → ℕ → Call
+stepCall {a} r i = step-frame a (r .vram i) (length (r .frame))
+
+unfoldable pub until : {a : RenderArea} → Run a → ℕ → History
+until r zero = then (r .between 0) (r .before)
+until r (suc i) = then (r .between (suc i)) (stepCall r i ∷ until r i)
+
+abbrev pub through : {a : RenderArea} → Run a → ℕ → History
+through r i = stepCall r i ∷ until r i
+
+-- the device just before step i, and what step i answers
+unfoldable pub ready : {a : RenderArea} → Run a → ℕ → VdpState
+ready r i = now (until r i)
+
+unfoldable pub answer : {a : RenderArea} → Run a → ℕ → Stepped
+answer {a} r i = frameStep a (r .vram i) (length (r .frame)) (ready r i)
+
+-- the line that step i sets
+abbrev pub lineSet : {a : RenderArea} → Run a → ℕ → ℕ
+lineSet r i = lineOf (answer r i .vdp)
+
+-- the frame after n steps
+unfoldable pub frameAt : {a : RenderArea} → Run a → ℕ → List ℕ
+frameAt r zero = r .frame
+frameAt {a} r (suc i) = frameAfter a (r .vram i) (ready r i) (frameAt r i)
+
+-- row y of it at the end of the pass
+abbrev pub rowAtEnd : {a : RenderArea} → Run a → ℕ → List ℕ
+rowAtEnd {a} r y = rowOf (rowSize a) y (frameAt r passLength)
+
+-- "the picture rule .. for the video memory .. and registers at its own step, with the vertical scroll latched .."
+abbrev pub pictureAt : {a : RenderArea} → Run a → ℕ → ℕ → Row
+pictureAt {a} r i y = pictureOf a (ready r i .reg) (latched (through r i)) (r .vram i) y
+
+-- "line interrupts on, frame interrupts off and register 10 at N"
+pub record LineInterruptsEvery (N : ℕ) (g : ℕ → ℕ) : Type 0 where
+  pub line-on : bit (g 0) 4 ≡ true
+  pub frame-off : bit (g 1) 5 ≡ false
+  pub every : g 10 ≡ N
+
+-- ---- the demand
+pub record Demand3 {a : RenderArea} (r : Run a) : Type 0 where
+  -- "Each of the 144 rows is drawn exactly once", and no other
+  pub row-once : (y : ℕ) → y < rows a → ExactlyOnce passLength (λ i. answer r i .row ≡ Drawn y)
+  pub no-other : (i y : ℕ) → answer r i .row ≡ Drawn y → y < rows a
+  -- a step that does not draw row y leaves row y as it is, and none changes a byte past the frame
+  pub row-kept : (i y : ℕ) → answer r i .row ≢ Drawn y → rowOf (rowSize a) y (frameAt r (suc i)) ≡ rowOf (rowSize a) y (frameAt r i)
+  pub past-kept : (i : ℕ) → drop (frameSize a) (frameAt r i) ≡ drop (frameSize a) (r .frame)
+  -- "the screen end is reported exactly once"
+  pub end-once : ExactlyOnce passLength (λ i. answer r i .report ≢ NoDisplay)
+  -- "each row ends up as the picture rule gives it for the video memory, palette and registers at its own step", step i
+  pub row-bytes :
+      (i y : ℕ) → i < passLength → answer r i .row ≡ Drawn y →
+      rowAtEnd r y ≡ rowBytes (coloursOf (ready r i .cram)) (columns a) (pictureAt r i y)
+  -- ".. from just before the step that sets line 0", step i, "until the step that sets 193 has ended, the step for line k, 0 to 193, reports an
+  -- interrupt exactly when N+1 divides k+2"
+  pub line-interrupts :
+      (i N : ℕ) → lineSet r i ≡ 0 → ((k : ℕ) → k ≤ 193 → LineInterruptsEvery N (register (ready r (i + k)))) →
+      (k : ℕ) → k ≤ 193 → (lineSet r (i + k) ≡ k) × ((answer r (i + k) .interrupt ≡ InterruptGenerated) ↔ (N + 1 ∣ k + 2))
