@@ -46,14 +46,6 @@ pub code-is : (b0 b1 b2 b3 k : ℕ)
 unfolding codeOf
 code-is b0 b1 b2 b3 k = rw (masked b0 k, masked b1 k, masked b2 k, masked b3 k) (joined (bit b0 k) (bit b1 k) (bit b2 k) (bit b3 k))
 
-digit-le : (b : Bool) → digit b ≤ 1
-digit-le true = omega arith
-digit-le false = omega arith
-
-pub code-lt : (b0 b1 b2 b3 k : ℕ) → codeOf b0 b1 b2 b3 k < 16
-unfolding codeOf
-code-lt b0 b1 b2 b3 k = omega (arith, digit-le (bit b0 k), digit-le (bit b1 k), digit-le (bit b2 k), digit-le (bit b3 k))
-
 -- ---- a sprite's column
 pub solid-past : (start end : ℕ) (code : ℕ → ℕ) (k : ℕ) → end ≤ start + k → solid start end code k ≡ false
 unfolding solid

@@ -1,7 +1,8 @@
 use borrow.Author.Needs.{needs}
 use mathlib.Core.Path.{_≡_, _∙_}
 use Rattle.picture.specs.Tile.{codeOf}
-use Rattle.tile.proofs.Marks.{code-is, code-lt}
+use Rattle.picture.proofs.Laws.{code-lt}
+use Rattle.tile.proofs.Marks.{code-is}
 use Rattle.tile.proofs.color_code.Statement.{statement}
 use Rattle.tile.proofs.color_code.Tie as tie
 use Rattle.tile.proofs.color_code.Reads as reads

@@ -1,0 +1,2 @@
+-- The laws of the picture of a row.
+pub mod Laws

@@ -1,0 +1,2 @@
+-- The laws of a drawn row.
+pub mod Laws

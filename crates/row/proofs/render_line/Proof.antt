@@ -1,0 +1,68 @@
+use borrow.Author.Needs.{needs}
+use native.Mathlib.Omega.{arith}
+use Rattle.row.proofs.render_line.Statement.{statement}
+use Rattle.row.proofs.render_line.Tie as tie
+use Rattle.row.proofs.render_line.Reads as reads
+use Rattle.row.proofs.render_line.Lts as lts
+use Rattle.row.proofs.render_line_effective.Reads as render-line-effective-reads
+use Rattle.row.proofs.render_line_visible.Reads as render-line-visible-reads
+use Rattle.tile.proofs.wide.Reads as wide-reads
+
+-- src/lib.rt:70:9
+wide-requires : tie.Need-wide-requires
+wide-requires c κs = search needs
+
+-- src/lib.rt:71:9
+wide-requires-2 : tie.Need-wide-requires-2
+wide-requires-2 c κs = search needs
+
+-- src/lib.rt:73:56
+enum-told : tie.Need-enum-told
+enum-told c = search needs
+
+-- src/lib.rt:73:36
+render-line-visible-requires : tie.Need-render-line-visible-requires
+render-line-visible-requires c κs =
+    let p = rw (c .before .enum-told .given .1) at (c .before .before .before .before .before .before .before .pre) in
+    (p .0, p .1, omega arith, omega arith)
+
+-- src/lib.rt:74:60
+enum-told-2 : tie.Need-enum-told-2
+enum-told-2 c = search needs
+
+-- src/lib.rt:74:38
+render-line-effective-requires : tie.Need-render-line-effective-requires
+render-line-effective-requires c κs =
+    let p = rw (c .before .enum-told2 .given .1) at (c .before .before .before .before .before .before .before .pre) in
+    (p .0, p .1, omega arith)
+
+-- src/lib.rt:66:1
+same-length : tie.Need-same-length
+same-length c = search needs
+
+-- src/lib.rt:66:1
+returns : tie.Need-returns
+returns c = rw (c .before .before .before .before .enum-told .given .1, ← c .before .before .before .before .before .before .before .wide .ensures .0, ← c .before .before .before .before .before .before .wide2 .ensures .0) (c .before .before .render-line-visible .ensures)
+
+-- src/lib.rt:66:1
+same-length-2 : tie.Need-same-length-2
+same-length-2 c = search needs
+
+-- src/lib.rt:66:1
+returns-2 : tie.Need-returns-2
+returns-2 c = rw (c .before .before .before .before .enum-told2 .given .1, ← c .before .before .before .before .before .before .before .wide .ensures .0, ← c .before .before .before .before .before .before .wide2 .ensures .0) (c .before .before .render-line-effective .ensures)
+
+pub render-line-spec : {M : Type 1} → statement M
+render-line-spec =
+    tie.close
+    (tie.spec
+    wide-requires
+    wide-requires-2
+    enum-told
+    render-line-visible-requires
+    enum-told-2
+    render-line-effective-requires
+    same-length
+    returns
+    same-length-2
+    returns-2)

@@ -1,0 +1,115 @@
+// One row of either area, drawn into a lent row buffer.
+ghost use mathlib.Core.Path.{_≡_};
+ghost use mathlib.Core.Bool.{cond};
+ghost use Prim.Native.Nat.{_+_, _<_, _≤_};
+ghost use lib.ListN.{length};
+ghost use Rattle.picture.specs.declared.RenderArea.the-variants.{VisibleOnly, EffectiveArea};
+ghost use Rattle.picture.specs.Area.{rows, rowSize, pictureOf};
+ghost use Rattle.row.specs.Row.{Drawn};
+use picture::RenderArea;
+use sprites::Line;
+
+// The status bits that a line of sprites sets: 5 where two pixels met, 6 where there was a ninth.
+fn status_bits(line: Line) -> u8
+    ensures { λ r. ⌜ r ≡ cond (line .hit) 32 0 + cond (line .ninth) 64 0 ⌝ }
+{
+    let hit = line.hit;
+    let ninth = line.ninth;
+    if hit {
+        if ninth { 96 } else { 32 }
+    } else {
+        if ninth { 64 } else { 0 }
+    }
+}
+
+// Row `line` of the visible area: scrolled both ways, its sprites by the line that is 24 further down.
+fn render_line_visible(
+    row: &mut [u8],
+    vram: &[u8],
+    colours: &[u32; 32],
+    reg: [u8; 11],
+    scroll: usize,
+    line: usize,
+) -> u8
+    requires { ⌜ (length (now vram) ≡ 16384) × (640 ≤ length (now row)) × (scroll < 256) × (line < 144) ⌝ }
+    ensures { λ r. ⌜ Drawn VisibleOnly (now (colours .entry)) (pictureOf VisibleOnly reg scroll (now (vram .entry)) line) (now (row .entry)) (now (row .exit)) r ⌝ }
+{
+    let sx = (304 - tile::wide(reg[8])) % 256;
+    let y = (line + 24 + scroll) % 224;
+    let cut = (sx % 8) as u8;
+    let prio = background::render_background_line(
+        row,
+        vram,
+        colours,
+        background::names_at(reg),
+        sx,
+        y,
+        160,
+        cut,
+    );
+    status_bits(sprites::render_sprites_line(
+        row,
+        vram,
+        colours,
+        RenderArea::VisibleOnly,
+        reg,
+        line + 24,
+        160,
+        prio,
+    ))
+}
+
+// Row `line` of the effective area: the map is the screen.
+fn render_line_effective(
+    row: &mut [u8],
+    vram: &[u8],
+    colours: &[u32; 32],
+    reg: [u8; 11],
+    scroll: usize,
+    line: usize,
+) -> u8
+    requires { ⌜ (length (now vram) ≡ 16384) × (1024 ≤ length (now row)) × (line < 224) ⌝ }
+    ensures { λ r. ⌜ Drawn EffectiveArea (now (colours .entry)) (pictureOf EffectiveArea reg scroll (now (vram .entry)) line) (now (row .entry)) (now (row .exit)) r ⌝ }
+{
+    let prio = background::render_background_line(
+        row,
+        vram,
+        colours,
+        background::names_at(reg),
+        0,
+        line,
+        256,
+        0,
+    );
+    status_bits(sprites::render_sprites_line(
+        row,
+        vram,
+        colours,
+        RenderArea::EffectiveArea,
+        reg,
+        line,
+        256,
+        prio,
+    ))
+}
+
+// Row `line` of an area, by the registers, the latched scroll, the cached colours and video memory; answers the status bits that it sets.
+pub fn render_line(
+    row: &mut [u8],
+    vram: &[u8],
+    colours: &[u32; 32],
+    area: RenderArea,
+    reg: [u8; 11],
+    scroll: u8,
+    line: u8,
+) -> u8
+    requires { ⌜ (length (now vram) ≡ 16384) × (rowSize area ≤ length (now row)) × (line < rows area) ⌝ }
+    ensures { λ r. ⌜ Drawn area (now (colours .entry)) (pictureOf area reg scroll (now (vram .entry)) line) (now (row .entry)) (now (row .exit)) r ⌝ }
+{
+    let s = tile::wide(scroll);
+    let l = tile::wide(line);
+    match area {
+        RenderArea::VisibleOnly => render_line_visible(row, vram, colours, reg, s, l),
+        RenderArea::EffectiveArea => render_line_effective(row, vram, colours, reg, s, l),
+    }
+}
