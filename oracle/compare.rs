@@ -2,6 +2,7 @@
 //!
 //!   compare CALLS SEED [OURS]    random sessions from fresh devices, and states made by hand
 //!   compare rows SEED [OURS]     rows made to meet every rule of the picture, through the row step
+//!   compare refusals SEED [OURS] every length near a right one, every area, every way to damage a block
 //!   compare vectors COUNT SEED   writes the list of the Rust's answers that `replay` holds (see VECTORS.md)
 //!
 //! Our side is the linked library; with --model it is the model; with --tight it is the library, each buffer lent as memory of its
@@ -13,6 +14,7 @@ mod gears;
 mod io {
     include!(concat!(env!("GEARS"), "/io.rs"));
 }
+mod refusals;
 mod rows;
 mod shrink;
 mod vectors;
@@ -169,7 +171,7 @@ fn hand_session(world: &mut World, counts: &mut Counts, left: u64, random: &mut 
 }
 
 fn usage() -> ! {
-    eprintln!("usage: compare CALLS SEED [--model|--tight] | compare rows SEED [--model|--tight] | compare vectors COUNT SEED");
+    eprintln!("usage: compare CALLS SEED [--model|--tight] | compare rows|refusals SEED [--model|--tight] | compare vectors COUNT SEED");
     std::process::exit(2)
 }
 
@@ -188,6 +190,7 @@ fn main() {
     let number = |word: &str| word.parse::<u64>().unwrap_or_else(|_| usage());
     let differences = match words[..] {
         ["rows", seed] => rows::run(number(seed), side),
+        ["refusals", seed] => refusals::run(number(seed), side),
         ["vectors", count, seed] => vectors::write(number(count), number(seed)),
         [calls, seed] => sessions(number(calls), number(seed), side),
         _ => usage(),

@@ -48,13 +48,15 @@ if [ -f "$GEARS/vdp.rs" ]; then
     export GEARS
     sh oracle/build.sh compare && $RUN build/oracle/compare rows "${SEED:-1}"
     tell "rows beside the Rust" $?
+    $RUN build/oracle/compare refusals "${SEED:-1}"
+    tell "lengths, areas and damaged blocks of every kind" $?
     $RUN build/oracle/compare "${CALLS:-350000}" "${SEED:-1}"
     tell "calls beside the Rust" $?
     $RUSTC --edition 2021 -O player/swap.rs -L native=build -o $out/swap && $RUN $out/swap
     tell "the player's file in place of the published one" $?
 else
     echo "SKIPPED: the comparison with the published Rust: no vdp.rs in $GEARS (set GEARS to the src folder of anisse/gears at commit 0d576c35e2)"
-    skipped=3
+    skipped=4
 fi
 
 printf '%s passed, %s failed' "$passed" "$failed"
