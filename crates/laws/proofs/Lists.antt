@@ -1,12 +1,12 @@
 -- Elements stored in order, one turn of a loop at a time, and bytes written side by side.
 -- Assumes nothing.
 use mathlib.Core.Path.{_≡_, refl, sym, ap, _∙_}
-use mathlib.Core.List.{List, _++_, append-assoc, append-nil}
+use mathlib.Core.List.{List, [], _++_, append-assoc, append-nil}
 use Prim.Native.Nat.{ℕ, _+_, _<_, _≤_}
-use native.Mathlib.Nat.{add-assoc}
+use native.Mathlib.Nat.{add-assoc, add-zero}
 use native.Mathlib.Numerals.{add-one}
 use native.Mathlib.Omega.{arith}
-use lib.ListN.{length, getD, set, take, drop, length-append, length-drop, replicate, length-replicate, drop-of-length-le}
+use lib.ListN.{length, getD, set, take, drop, length-append, length-drop, replicate, length-replicate, drop-of-length-le, take-append-drop}
 use lib.Seq.{paste, paste-suc, take-all, getD-drop, take-length, take-at, drop-append-add, drop-drop, length-take-le}
 use Rattle.laws.specs.Lists.{written}
 
@@ -48,6 +48,11 @@ unfolding written
 length-written l a x h =
     let t : length (take a l) ≡ a = length-take-le a l (omega arith) in
     simp (length-append, length-drop, t) (omega arith)
+
+-- nothing written
+pub written-nil : (l : List ℕ) (a : ℕ) → written l a [] ≡ l
+unfolding written
+written-nil l a = rw (append-nil (take a l), add-zero a) (take-append-drop a l)
 
 -- two writes, side by side
 pub written-on :
