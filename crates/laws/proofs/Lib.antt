@@ -4,6 +4,7 @@ pub mod Bits
 pub mod Tables
 pub mod Any
 pub mod Lists
+pub mod Parts
 pub mod Frames
 pub mod Bytes
 pub mod Paint

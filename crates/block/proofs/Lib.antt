@@ -1,0 +1,5 @@
+-- The laws of the block.
+pub mod Copies
+pub mod Whole
+pub mod RoundTrip
+pub mod Shapes

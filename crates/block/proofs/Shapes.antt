@@ -1,0 +1,135 @@
+-- A fresh device has the shape that the block asks, and every port call keeps it.
+-- Assumes nothing.
+use Prim.Native.Nat.{ℕ, zero, suc, _+_, _-_, _%_, _/_, _<_}
+use mathlib.Core.Path.{_≡_, refl}
+use mathlib.Core.List.{List}
+use mathlib.Core.Bool.{Bool}
+use native.Mathlib.Omega.{arith}
+use lib.Dec.{ltb, eqb}
+use lib.ListN.{length, set, length-set, replicate}
+use Rattle.laws.specs.Lists.{at}
+use Rattle.laws.proofs.Parts.{set-below}
+use Rattle.laws.proofs.Tests.{either}
+use Rattle.raster.specs.declared.Raster.{Raster}
+use Rattle.vdp.specs.declared.VdpState.{VdpState}
+use Rattle.vdp.specs.declared.Written.{Written}
+use Rattle.vdp.specs.declared.ReadBack.{ReadBack}
+use Rattle.vdp.specs.declared.WriteDest.{WriteDest}
+use Rattle.vdp.specs.declared.WriteDest.the-variants.{None, Vram, Cram}
+use Rattle.vdp.specs.declared.Latch.{Latch}
+use Rattle.vdp.specs.declared.Latch.the-variants.{Empty, Held}
+use Rattle.vdp.specs.Device.{device, fresh, unlatched, withReg, withPaletteByte, withAddr}
+use Rattle.vdp.specs.Refusals.{whole, isPort}
+use Rattle.vdp.specs.Ports.{After, stored, secondByte, commandBy, oddPalette, paletteWrite, dataBy, readBy, portWrite, portRead}
+use Rattle.block.specs.Block.{latchByte, Shape}
+
+zeros : (n i : ℕ) → at (replicate n 0) i ≡ 0
+zeros zero i = refl
+zeros (suc n) zero = refl
+zeros (suc n) (suc i) = zeros n i
+
+pub fresh-shape : Shape fresh
+fresh-shape =
+    record {
+      registers = refl;
+      palette = refl;
+      cache = refl;
+      byte = λ i. rw (zeros 64 i) (omega arith);
+      latched = omega arith;
+      colour = λ i. rw (zeros 32 i) (omega arith);
+    }
+
+module _ {s : VdpState} (g : Shape s) where
+  -- the fields that the shape does not speak of are any
+  pub carried :
+      (status : ℕ) (raster : Raster) (addr buffer : ℕ) (dest : WriteDest) (command : Latch) (dirty : Bool)
+      → Shape (device status (s .reg) raster addr buffer dest (s .cram) command (s .«cram_byte1») dirty (s .«color_cache»))
+  carried status raster addr buffer dest command dirty =
+      record { registers = g .registers; palette = g .palette; cache = g .cache; byte = g .byte; latched = g .latched; colour = g .colour }
+
+  pub same : (addr buffer : ℕ) (dest : WriteDest) (command : Latch)
+      → Shape (device (s .status) (s .reg) (s .raster) addr buffer dest (s .cram) command (s .«cram_byte1») (s .«cram_dirty») (s .«color_cache»))
+  same addr buffer dest command = carried (s .status) (s .raster) addr buffer dest command (s .«cram_dirty»)
+
+abbrev ShapeW : Written → Type 0
+ShapeW a = Shape (a .vdp)
+
+abbrev ShapeA : After → Type 0
+ShapeA a = Shape (a .answer .vdp)
+
+abbrev ShapeR : ReadBack → Type 0
+ShapeR a = Shape (a .vdp)
+
+second-byte : (s : VdpState) (m : List ℕ) (d v : ℕ) → Shape s → ShapeW (secondByte s m d v)
+second-byte s m d v g =
+    either ShapeW (eqb (v / 64) 0) (λ _. same g _ _ _ _)
+    (λ _. either ShapeW (eqb (v / 64) 1) (λ _. same g _ _ _ _)
+    (λ _. either ShapeW (eqb (v / 64) 2)
+    (λ _. either ShapeW (ltb 10 (v % 128)) (λ _. g) (λ _. registered))
+    (λ _. same g _ _ _ _)))
+  where
+    registered : Shape (withReg s (set (s .reg) (v % 128) d))
+    registered =
+        record {
+          registers = simp length-set (g .registers);
+          palette = g .palette;
+          cache = g .cache;
+          byte = g .byte;
+          latched = g .latched;
+          colour = g .colour;
+        }
+
+command-by : (l : Latch) (s : VdpState) (m : List ℕ) (v : ℕ) → Shape s → ShapeW (commandBy l s m v)
+command-by Empty s m v g = same g _ _ _ _
+command-by (Held d) s m v g = second-byte (unlatched s) m d v (same g _ _ _ _)
+
+module _ (v : ℕ) (small : v < 256) where
+  even-palette : (s : VdpState) (a : ℕ) → Shape s → Shape (withAddr (withPaletteByte s (Held v)) a)
+  even-palette s a g =
+      record { registers = g .registers; palette = g .palette; cache = g .cache; byte = g .byte; latched = small; colour = g .colour }
+
+  odd-palette : (l : Latch) (s : VdpState) → latchByte l < 256 → Shape s → ShapeW (oddPalette l s v)
+  odd-palette Empty s h g = g
+  odd-palette (Held low) s h g =
+      record {
+        registers = g .registers;
+        palette = simp length-set (g .palette);
+        cache = g .cache;
+        byte = set-below (set (s .cram) (s .addr - 1) low) (s .addr) (v % 16) (set-below (s .cram) (s .addr - 1) low (g .byte) h) (omega arith);
+        latched = g .latched;
+        colour = g .colour;
+      }
+
+  palette-write : (s : VdpState) → Shape s → ShapeW (paletteWrite s v)
+  palette-write s g =
+      either ShapeW (ltb (s .addr) 64)
+      (λ _. either ShapeW (eqb (s .addr % 2) 0) (λ _. even-palette s ((s .addr + 1) % 64) g) (λ _. odd-palette (s .«cram_byte1») s (g .latched) g))
+      (λ _. g)
+
+  data-by : (d : WriteDest) (s : VdpState) (m : List ℕ) → Shape s → ShapeA (dataBy d s m v)
+  data-by None s m g = g
+  data-by Vram s m g = either ShapeA (ltb (s .addr) 16384) (λ _. same g _ _ _ _) (λ _. g)
+  data-by Cram s m g = palette-write s g
+
+  pub write-shape : (s : VdpState) (m : List ℕ) (p : ℕ) → Shape s → Shape (portWrite s m p v .answer .vdp)
+  unfolding portWrite
+  write-shape s m p g =
+      either ShapeA (whole m)
+      (λ _. either ShapeA (isPort 0xBF p) (λ _. command-by (s .«cmd_byte1») s m v g)
+      (λ _. either ShapeA (isPort 0xBE p) (λ _. data-by (s .dest) (unlatched s) m (same g _ _ _ _)) (λ _. g)))
+      (λ _. g)
+
+read-by : (d : WriteDest) (s : VdpState) (m : List ℕ) → Shape s → ShapeR (readBy d s m)
+read-by None s m g = g
+read-by Cram s m g = g
+read-by Vram s m g = either ShapeR (ltb (s .addr) 16384) (λ _. same g _ _ _ _) (λ _. g)
+
+pub read-shape : (s : VdpState) (m : List ℕ) (p : ℕ) → Shape s → Shape (portRead s m p .vdp)
+unfolding portRead
+read-shape s m p g =
+    either ShapeR (whole m)
+    (λ _. either ShapeR (isPort 0x7E p) (λ _. g)
+    (λ _. either ShapeR (isPort 0x7F p) (λ _. g)
+    (λ _. either ShapeR (isPort 0xBF p) (λ _. carried g _ _ _ _ _ _ _)
+    (λ _. either ShapeR (isPort 0xBE p) (λ _. read-by (s .dest) (unlatched s) m (same g _ _ _ _)) (λ _. g)))))
+    (λ _. g)

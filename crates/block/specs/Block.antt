@@ -1,0 +1,138 @@
+-- Document 01, "Added faces": the state block. "State block, 219 bytes: 56 53, status, registers (3 to 13), counter, flag, line count, address low, high,
+-- read buffer, chosen (0 none, 1 video, 2 palette), command latch flag, byte, palette latch flag, byte, vertical scroll, dirty, palette (27 to 90),
+-- cache R,G,B,A (91 to 218)."
+-- Assumes nothing.
+use Prim.Native.Nat.{ℕ, _+_, _*_, _/_, _%_, _<_}
+use mathlib.Core.Path.{_≡_}
+use mathlib.Core.List.{List, [], _∷_, _++_}
+use mathlib.Core.Bool.{Bool, true, false, cond, not, _||_, _&&_}
+use lib.ListN.{length, take, drop}
+use lib.Dec.{leb, eqb}
+use Rattle.laws.specs.Lists.{at}
+use Rattle.laws.specs.Paint.{byteOfColour, ofBytes}
+use Rattle.laws.specs.Table.{table}
+use Rattle.vdp.specs.declared.VdpState.{VdpState}
+use Rattle.vdp.specs.declared.WriteDest.{WriteDest}
+use Rattle.vdp.specs.declared.WriteDest.the-variants.{None, Vram, Cram}
+use Rattle.vdp.specs.declared.Latch.{Latch}
+use Rattle.vdp.specs.declared.Latch.the-variants.{Empty, Held}
+use Rattle.vdp.specs.Device.{fresh}
+use Rattle.block.specs.declared.Decoded.{Decoded}
+
+abbrev pub blockSize : ℕ
+blockSize = 219
+
+-- ---- the small fields: a flag is 0 or 1; "chosen (0 none, 1 video, 2 palette)"; a latch is a flag and a byte, 0 under flag 0
+abbrev pub flagOf : Bool → ℕ
+flagOf true = 1
+flagOf false = 0
+
+abbrev pub flagFrom : ℕ → Bool
+flagFrom n = eqb n 1
+
+abbrev pub chosenOf : WriteDest → ℕ
+chosenOf None = 0
+chosenOf Vram = 1
+chosenOf Cram = 2
+
+abbrev pub chosenFrom : ℕ → WriteDest
+chosenFrom n = cond (eqb n 0) None (cond (eqb n 1) Vram Cram)
+
+abbrev pub latchFlag : Latch → ℕ
+latchFlag Empty = 0
+latchFlag (Held b) = 1
+
+abbrev pub latchByte : Latch → ℕ
+latchByte Empty = 0
+latchByte (Held b) = b
+
+abbrev pub latchFrom : ℕ → ℕ → Latch
+latchFrom flag byte = cond (eqb flag 0) Empty (Held byte)
+
+-- ---- "cache R,G,B,A": the four bytes of each colour, and the colours that stand from place 91 on
+unfoldable pub colourBytes : List ℕ → List ℕ
+colourBytes cs = table 128 (λ k. byteOfColour (at cs (k / 4)) (k % 4))
+
+unfoldable pub colourAt : List ℕ → ℕ → ℕ
+colourAt b i = ofBytes (at b i) (at b (i + 1)) (at b (i + 2)) (at b (i + 3))
+
+unfoldable pub coloursAt : List ℕ → List ℕ
+coloursAt b = table 32 (λ i. colourAt b (91 + 4 * i))
+
+-- ---- the block of a device: bytes 0 to 2, the registers, bytes 14 to 26, the palette, the cache
+unfoldable pub head : VdpState → List ℕ
+head s = 0x56 ∷ 0x53 ∷ s .status ∷ []
+
+unfoldable pub small : VdpState → List ℕ
+small s =
+    s .raster .«v_counter»
+    ∷ flagOf (s .raster .«v_counter_jumped»)
+    ∷ s .raster .«line_interrupt_counter»
+    ∷ s .addr % 256
+    ∷ s .addr / 256
+    ∷ s .«vram_buffer»
+    ∷ chosenOf (s .dest)
+    ∷ latchFlag (s .«cmd_byte1»)
+    ∷ latchByte (s .«cmd_byte1»)
+    ∷ latchFlag (s .«cram_byte1»)
+    ∷ latchByte (s .«cram_byte1»)
+    ∷ s .raster .«vertical_scroll»
+    ∷ flagOf (s .«cram_dirty»)
+    ∷ []
+
+unfoldable pub blockOf : VdpState → List ℕ
+blockOf s = head s ++ (s .reg ++ (small s ++ (s .cram ++ colourBytes (s .«color_cache»))))
+
+-- ---- the device of a block that is well formed
+unfoldable pub stateOf : List ℕ → VdpState
+stateOf b =
+    record {
+      status = at b 2;
+      reg = take 11 (drop 3 b);
+      raster =
+          record {
+            «v_counter» = at b 14;
+            «v_counter_jumped» = flagFrom (at b 15);
+            «line_interrupt_counter» = at b 16;
+            «vertical_scroll» = at b 25;
+          };
+      addr = at b 17 + 256 * at b 18;
+      «vram_buffer» = at b 19;
+      dest = chosenFrom (at b 20);
+      cram = take 64 (drop 27 b);
+      «cmd_byte1» = latchFrom (at b 21) (at b 22);
+      «cram_byte1» = latchFrom (at b 23) (at b 24);
+      «cram_dirty» = flagFrom (at b 26);
+      «color_cache» = coloursAt b;
+    }
+
+-- ---- "Malformed: other length or mark, a flag or dirty above 1, chosen above 2, a byte not 0 under flag 0."
+abbrev pub marked : List ℕ → Bool
+marked b = eqb (at b 0) 0x56 && eqb (at b 1) 0x53
+
+abbrev pub flagged : List ℕ → Bool
+flagged b = leb (at b 15) 1 && leb (at b 20) 2 && leb (at b 21) 1 && leb (at b 23) 1 && leb (at b 26) 1
+
+abbrev pub latchFits : ℕ → ℕ → Bool
+latchFits flag byte = not (eqb flag 0) || eqb byte 0
+
+unfoldable pub wellFormed : List ℕ → Bool
+wellFormed b =
+    eqb (length b) blockSize && (marked b && flagged b && latchFits (at b 21) (at b 22) && latchFits (at b 23) (at b 24))
+
+-- what reading a block gives, and what a device stored over b leaves: one of another length is left as it is
+unfoldable pub decoded : List ℕ → Decoded
+decoded b = cond (wellFormed b) (record { good = true; vdp = stateOf b }) (record { good = false; vdp = fresh })
+
+unfoldable pub encoded : VdpState → List ℕ → List ℕ
+encoded s b = cond (eqb (length b) blockSize) (blockOf s) b
+
+-- What every device of the program has: eleven registers, 64 palette bytes and 32 cached colours, and each of these, and the byte that waits for the
+-- palette, of its own size.
+pub record Shape (s : VdpState) : Type 0 where
+  pub registers : length (s .reg) ≡ 11
+  pub palette : length (s .cram) ≡ 64
+  pub cache : length (s .«color_cache») ≡ 32
+  pub byte : (i : ℕ) → at (s .cram) i < 256
+  pub latched : latchByte (s .«cram_byte1») < 256
+  pub colour : (i : ℕ) → at (s .«color_cache») i < 4294967296

@@ -1,0 +1,2 @@
+-- What the contracts of `block` cite.
+pub mod Block

@@ -1,0 +1,249 @@
+// The state block: a device as 219 bytes, and back.
+ghost use mathlib.Core.Path.{_≡_};
+ghost use Prim.Native.Nat.{ℕ, _+_, _*_, _≤_, _<_};
+ghost use lib.ListN.{length, drop};
+ghost use lib.Seq.{paste};
+ghost use Rattle.block.specs.Block.{flagOf, chosenOf, chosenFrom, latchFlag, latchByte, latchFrom, wellFormed, colourAt, coloursAt, colourBytes, small, decoded, encoded};
+use raster::Raster;
+use vdp::Latch;
+use vdp::VdpState;
+use vdp::WriteDest;
+
+// What a block holds: whether it is well formed, and its device (a fresh one where it is not).
+pub struct Decoded {
+    pub good: bool,
+    pub vdp: VdpState,
+}
+
+// The numbers of the small fields, and the fields of the numbers.
+fn flag_of(b: bool) -> u8
+    ensures { λ r. ⌜ r ≡ flagOf b ⌝ }
+{
+    if b { 1 } else { 0 }
+}
+
+fn chosen_of(d: WriteDest) -> u8
+    ensures { λ r. ⌜ r ≡ chosenOf d ⌝ }
+{
+    match d {
+        WriteDest::None => 0,
+        WriteDest::Vram => 1,
+        WriteDest::Cram => 2,
+    }
+}
+
+fn chosen_from(n: u8) -> WriteDest
+    ensures { λ r. ⌜ r ≡ chosenFrom n ⌝ }
+{
+    match n {
+        0 => WriteDest::None,
+        1 => WriteDest::Vram,
+        _ => WriteDest::Cram,
+    }
+}
+
+fn latch_flag(l: Latch) -> u8
+    ensures { λ r. ⌜ r ≡ latchFlag l ⌝ }
+{
+    match l {
+        Latch::Empty => 0,
+        Latch::Held(_) => 1,
+    }
+}
+
+fn latch_byte(l: Latch) -> u8
+    ensures { λ r. ⌜ r ≡ latchByte l ⌝ }
+{
+    match l {
+        Latch::Empty => 0,
+        Latch::Held(b) => b,
+    }
+}
+
+fn latch_from(flag: u8, byte: u8) -> Latch
+    ensures { λ r. ⌜ r ≡ latchFrom flag byte ⌝ }
+{
+    if flag == 0 {
+        Latch::Empty
+    } else {
+        Latch::Held(byte)
+    }
+}
+
+// The n bytes of src from `from` on, into dst at `at`.
+fn copy(dst: &mut [u8], at: usize, src: &[u8], from: usize, n: usize)
+    requires { ⌜ (at + n ≤ length (now dst)) × (from + n ≤ length (now src)) ⌝ }
+    ensures { λ _. ⌜ now (dst .exit) ≡ paste (now (dst .entry)) at (drop from (now (src .entry))) n ⌝ }
+{
+    let mut i = 0;
+    while i < n {
+        dst[at + i] = src[from + i];
+        i += 1;
+    }
+}
+
+// A byte as a colour's part, and two bytes as an address.
+fn wide(b: u8) -> u32
+    ensures { λ r. ⌜ (r ≡ b) × (r < 256) ⌝ }
+{
+    b as u32
+}
+
+fn word(low: u8, high: u8) -> u16
+    ensures { λ r. ⌜ r ≡ low + 256 * high ⌝ }
+{
+    (low as u16) + 256 * (high as u16)
+}
+
+// Four bytes of src, the lowest first.
+fn colour_at(src: &[u8], at: usize) -> u32
+    requires { ⌜ at + 4 ≤ length (now src) ⌝ }
+    ensures { λ r. ⌜ r ≡ colourAt (now (src .entry)) at ⌝ }
+{
+    let r = wide(src[at]);
+    let g = wide(src[at + 1]);
+    let b = wide(src[at + 2]);
+    let a = wide(src[at + 3]);
+    r + 256 * g + 65536 * b + 16777216 * a
+}
+
+// The 32 colours that stand from place 91 on.
+fn colours_at(src: &[u8]) -> [u32; 32]
+    requires { ⌜ length (now src) ≡ 219 ⌝ }
+    ensures { λ r. ⌜ r ≡ coloursAt (now (src .entry)) ⌝ }
+{
+    let mut out = [0u32; 32];
+    let mut i = 0;
+    while i < 32 {
+        out[i] = colour_at(src, 91 + 4 * i);
+        i += 1;
+    }
+    out
+}
+
+// The four bytes of each colour, the lowest first, into dst at 91.
+fn put_colours(dst: &mut [u8], colours: &[u32])
+    requires { ⌜ (length (now dst) ≡ 219) × (length (now colours) ≡ 32) ⌝ }
+    ensures { λ _. ⌜ now (dst .exit) ≡ paste (now (dst .entry)) 91 (colourBytes (now (colours .entry))) 128 ⌝ }
+{
+    let mut i = 0;
+    while i < 32 {
+        let c = colours[i];
+        let at = 91 + 4 * i;
+        dst[at] = (c % 256) as u8;
+        dst[at + 1] = (c / 256 % 256) as u8;
+        dst[at + 2] = (c / 65536 % 256) as u8;
+        dst[at + 3] = (c / 16777216 % 256) as u8;
+        i += 1;
+    }
+}
+
+// Whether a block has the length, the mark, and no byte that does not fit its place.
+pub fn well_formed(block: &[u8]) -> bool
+    ensures { λ r. ⌜ r ≡ wellFormed (now (block .entry)) ⌝ }
+{
+    if block.len() != 219 {
+        return false;
+    }
+    let marked = (block[0] == 0x56) & (block[1] == 0x53);
+    let flags = (block[15] <= 1)
+        & (block[20] <= 2)
+        & (block[21] <= 1)
+        & (block[23] <= 1)
+        & (block[26] <= 1);
+    let command = (block[21] != 0) | (block[22] == 0);
+    let palette = (block[23] != 0) | (block[24] == 0);
+    marked & flags & command & palette
+}
+
+// The device that a block holds.
+pub fn decode(block: &[u8]) -> Decoded
+    ensures { λ r. ⌜ r ≡ decoded (now (block .entry)) ⌝ }
+{
+    if block.len() != 219 {
+        return Decoded {
+            good: false,
+            vdp: VdpState::new(),
+        };
+    }
+    if !well_formed(block) {
+        return Decoded {
+            good: false,
+            vdp: VdpState::new(),
+        };
+    }
+    let mut reg = [0u8; 11];
+    copy(&mut reg, 0, block, 3, 11);
+    let mut cram = [0u8; 64];
+    copy(&mut cram, 0, block, 27, 64);
+    let dest = chosen_from(block[20]);
+    let cmd_byte1 = latch_from(block[21], block[22]);
+    let cram_byte1 = latch_from(block[23], block[24]);
+    let color_cache = colours_at(block);
+    let vdp = VdpState {
+        status: block[2],
+        reg: reg,
+        raster: Raster {
+            v_counter: block[14],
+            v_counter_jumped: block[15] == 1,
+            line_interrupt_counter: block[16],
+            vertical_scroll: block[25],
+        },
+        addr: word(block[17], block[18]),
+        vram_buffer: block[19],
+        dest: dest,
+        cram: cram,
+        cmd_byte1: cmd_byte1,
+        cram_byte1: cram_byte1,
+        cram_dirty: block[26] == 1,
+        color_cache: color_cache,
+    };
+    Decoded {
+        good: true,
+        vdp: vdp,
+    }
+}
+
+// Bytes 14 to 26 of a block.
+fn small_of(state: VdpState) -> [u8; 13]
+    ensures { λ r. ⌜ r ≡ small state ⌝ }
+{
+    let raster = state.raster;
+    let dest = state.dest;
+    let cmd_byte1 = state.cmd_byte1;
+    let cram_byte1 = state.cram_byte1;
+    [
+        raster.v_counter,
+        flag_of(raster.v_counter_jumped),
+        raster.line_interrupt_counter,
+        (state.addr % 256) as u8,
+        (state.addr / 256) as u8,
+        state.vram_buffer,
+        chosen_of(dest),
+        latch_flag(cmd_byte1),
+        latch_byte(cmd_byte1),
+        latch_flag(cram_byte1),
+        latch_byte(cram_byte1),
+        raster.vertical_scroll,
+        flag_of(state.cram_dirty),
+    ]
+}
+
+// The device into a block of 219 bytes; one of another length is left as it is.
+pub fn encode(state: VdpState, block: &mut [u8])
+    ensures { λ _. ⌜ now (block .exit) ≡ encoded state (now (block .entry)) ⌝ }
+{
+    if block.len() != 219 {
+        return;
+    }
+    let reg = state.reg;
+    let cram = state.cram;
+    let color_cache = state.color_cache;
+    let mark = [0x56, 0x53, state.status];
+    let small = small_of(state);
+    copy(block, 0, &mark, 0, 3);
+    copy(block, 3, &reg, 0, 11);
+    copy(block, 14, &small, 0, 13);
+    copy(block, 27, &cram, 0, 64);
+    put_colours(block, &color_cache);
+}
