@@ -3,3 +3,4 @@ pub mod Tile
 pub mod View
 pub mod Picture
 pub mod Area
+pub mod Examples

@@ -1,4 +1,5 @@
 use borrow.Author.Needs.{needs}
+use Prim.Native.Nat.{_<_}
 use native.Mathlib.Omega.{arith}
 use borrow.Author.Tests.{lt-ltb, le-ltb}
 use Rattle.picture.specs.View.{visibleEnd}
@@ -12,7 +13,7 @@ use Rattle.tile.proofs.wide.Reads as wide-reads
 -- src/lib.rt:48:9
 returns : tie.Need-returns
 unfolding visibleEnd
-returns c = (simp (lt-ltb _ _ (c .if1 .taken)), omega arith)
+returns c = let h : 160 < c .before .args .x = omega arith in (simp (lt-ltb _ _ h), omega arith)
 
 -- src/lib.rt:50:19
 wide-requires : tie.Need-wide-requires
