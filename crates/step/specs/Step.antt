@@ -1,7 +1,7 @@
 -- Document 01, "A step": what a step answers, and the device that it leaves.
 -- Assumes nothing.
-use mathlib.Core.Bool.{Bool, true, false, cond, _&&_, _||_}
-use mathlib.Core.List.{List}
+use mathlib.Core.Bool.{Bool, true, false, cond, not, _&&_, _||_}
+use mathlib.Core.List.{List, [], _∷_}
 use Prim.Native.Nat.{ℕ, _+_, _-_}
 use lib.Bits.{bitOr}
 use lib.Dec.{eqb, ltb, leb}
@@ -16,7 +16,7 @@ use Rattle.vdp.specs.declared.VdpState.{VdpState}
 use Rattle.vdp.specs.declared.Refusal.{Refusal}
 use Rattle.vdp.specs.declared.Refusal.the-variants.{Accepted, VramLength, PixelLength}
 use Rattle.vdp.specs.Device.{withRaster, withStatus, withCache}
-use Rattle.vdp.specs.Refusals.{whole}
+use Rattle.vdp.specs.Refusals.{whole, Line, line}
 use Rattle.step.specs.declared.VdpInt.{VdpInt}
 use Rattle.step.specs.declared.VdpInt.the-variants.{NoInterrupt, InterruptGenerated}
 use Rattle.step.specs.declared.DisplayRefresh.{DisplayRefresh}
@@ -106,6 +106,10 @@ refusedStep r d = record { refusal = r; interrupt = NoInterrupt; report = NoDisp
 unfoldable pub stepWith : ℕ → RenderArea → List ℕ → ℕ → VdpState → Stepped
 stepWith need a vram size d =
     cond (whole vram) (cond (leb need size) (stepped a vram d) (refusedStep PixelLength d)) (refusedStep VramLength d)
+
+-- the lines of the table that a step can meet: "Order: .. 8, 9"
+abbrev pub stepLines : ℕ → List ℕ → ℕ → List Line
+stepLines need vram size = line (not (whole vram)) VramLength ∷ line (not (leb need size)) PixelLength ∷ []
 
 -- "row step at least 640 or 1,024"; "visible frame at least 92,160 bytes ..; effective frame at least 229,376"
 abbrev pub rowStep : RenderArea → List ℕ → ℕ → VdpState → Stepped

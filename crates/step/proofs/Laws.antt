@@ -1,0 +1,309 @@
+-- What a step does to each part of the device, what a refused one leaves, and which bytes a step can change.
+-- Assumes nothing.
+use mathlib.Core.Path.{_≡_, refl, sym, ap, _∙_}
+use mathlib.Core.Logic.{_≢_}
+use mathlib.Core.Bool.{Bool, true, false, cond, _&&_, _||_, or-false}
+use mathlib.Core.List.{List, _++_}
+use Prim.Native.Nat.{ℕ, _+_, _*_, _<_, _≤_}
+use native.Mathlib.Omega.{arith}
+use lib.Bits.{bitOr}
+use lib.Dec.{eqb, leb}
+use lib.ListN.{length, take, drop, length-append, length-drop}
+use lib.Seq.{take-at, drop-at}
+use borrow.Author.Tests.{eq-eqb, ne-eqb, le-leb, lt-leb, leb-true}
+use Rattle.laws.specs.Bits.{bit}
+use Rattle.laws.specs.Lists.{rowOf, withRow}
+use Rattle.laws.proofs.Bits.{bit-or}
+use Rattle.laws.proofs.Frames.{row-length, row-here, row-other, row-past}
+use Rattle.laws.proofs.Tables.{length-table}
+use Rattle.laws.proofs.Tests.{either, split, both}
+use Rattle.picture.specs.declared.RenderArea.{RenderArea}
+use Rattle.picture.specs.declared.RenderArea.the-variants.{VisibleOnly, EffectiveArea}
+use Rattle.picture.specs.Picture.{Row}
+use Rattle.picture.specs.Area.{columns, rows, rowSize, frameSize, rowBytes, statusBits}
+use Rattle.raster.specs.declared.Raster.{Raster}
+use Rattle.raster.specs.Raster.{advanced, lineInterrupt, counted, ticked}
+use Rattle.vdp.specs.declared.VdpState.{VdpState}
+use Rattle.vdp.specs.declared.Latch.{Latch}
+use Rattle.vdp.specs.declared.WriteDest.{WriteDest}
+use Rattle.vdp.specs.declared.Refusal.the-variants.{Accepted, VramLength, PixelLength}
+use Rattle.vdp.specs.Device.{device}
+use Rattle.vdp.specs.Refusals.{whole, first}
+use Rattle.step.specs.declared.VdpInt.{VdpInt}
+use Rattle.step.specs.declared.VdpInt.the-variants.{NoInterrupt, InterruptGenerated}
+use Rattle.step.specs.declared.DrawnRow.{DrawnRow}
+use Rattle.step.specs.declared.DrawnRow.the-variants.{NoRow, Drawn}
+use Rattle.step.specs.declared.Stepped.{Stepped}
+use Rattle.step.specs.Step.{register, lineOf, advance, rowOn, coloursNow, rowPicture, drawnBy, atEnd, endScreen, reportOf, interruptOf, countLine, stepped, refusedStep, stepWith, stepLines}
+use Rattle.step.specs.Frame.{drawnBytes, rowWith, frameWith, rowAfter, frameAfter}
+use Rattle.step.proofs.Rows.{row-low, row-fits, frame-rows}
+
+-- ---- refusals
+module _ (need : ℕ) (a : RenderArea) (vram : List ℕ) (size : ℕ) (d : VdpState) where
+  pub step-refused-8 : length vram ≢ 16384 → stepWith need a vram size d ≡ refusedStep VramLength d
+  unfolding stepWith
+  step-refused-8 h = rw (ne-eqb (length vram) 16384 h)
+
+  pub step-refused-9 : length vram ≡ 16384 → size < need → stepWith need a vram size d ≡ refusedStep PixelLength d
+  unfolding stepWith
+  step-refused-9 m h = rw (eq-eqb (length vram) 16384 m, lt-leb need size h)
+
+  pub step-accepted : length vram ≡ 16384 → need ≤ size → stepWith need a vram size d ≡ stepped a vram d
+  unfolding stepWith
+  step-accepted m h = rw (eq-eqb (length vram) 16384 m, le-leb need size h)
+
+  -- a step is refused by the first line of its table that holds
+  pub step-exact : stepWith need a vram size d .refusal ≡ first (stepLines need vram size)
+  unfolding stepWith stepped
+  step-exact = split (whole vram) (λ e. split (leb need size) (λ f. simp (e, f)) (λ f. simp (e, f))) (λ e. simp e)
+
+  -- a refused step gives no interrupt, no display report, no row, and leaves the device
+  abbrev Left : Stepped → Type 0
+  Left s = s .refusal ≢ Accepted → s ≡ refusedStep (s .refusal) d
+
+  pub step-left : stepWith need a vram size d .refusal ≢ Accepted → stepWith need a vram size d ≡ refusedStep (stepWith need a vram size d .refusal) d
+  unfolding stepWith stepped
+  step-left =
+      either Left (whole vram)
+      (λ e. either Left (leb need size) {a = stepped a vram d} {b = refusedStep PixelLength d} (λ f n. absurd (n refl)) (λ f n. refl))
+      (λ e n. refl)
+
+-- ---- the device after an accepted step, part by part: r is the row that the step draws, d the device with its counter up
+abbrev pub statusDrawn : DrawnRow → RenderArea → List ℕ → VdpState → ℕ
+statusDrawn NoRow a vram d = d .status
+statusDrawn (Drawn y) a vram d = bitOr (d .status) (statusBits (rowPicture a vram d y))
+
+-- the status after the row and, at C1, with bit 7
+abbrev pub statusAfter : DrawnRow → RenderArea → List ℕ → VdpState → ℕ
+statusAfter r a vram d = cond (atEnd d) (bitOr (statusDrawn r a vram d) 0x80) (statusDrawn r a vram d)
+
+abbrev pub dirtyAfter : DrawnRow → VdpState → Bool
+dirtyAfter NoRow d = d .«cram_dirty»
+dirtyAfter (Drawn y) d = false
+
+abbrev pub cacheAfter : DrawnRow → VdpState → List ℕ
+cacheAfter NoRow d = d .«color_cache»
+cacheAfter (Drawn y) d = coloursNow d
+
+module _ (a : RenderArea) (vram : List ℕ) (d : VdpState) where
+  abbrev left : DrawnRow → VdpState
+  left r =
+      device (statusAfter r a vram (advance d)) (d .reg) (ticked (register d) (d .raster)) (d .addr) (d .«vram_buffer») (d .dest) (d .cram) (d .«cmd_byte1»)
+      (d .«cram_byte1») (dirtyAfter r d) (cacheAfter r d)
+
+  left-by : (r : DrawnRow) → countLine (endScreen (drawnBy r a vram (advance d))) ≡ left r
+  unfolding drawnBy endScreen ticked
+  left-by NoRow = refl
+  left-by (Drawn y) = refl
+
+  module _ {r : DrawnRow} (e : rowOn a (lineOf (advance d)) ≡ r) where
+    pub stepped-vdp :
+        stepped a vram d .vdp
+        ≡ device (statusAfter r a vram (advance d)) (d .reg) (ticked (register d) (d .raster)) (d .addr) (d .«vram_buffer») (d .dest) (d .cram)
+        (d .«cmd_byte1») (d .«cram_byte1») (dirtyAfter r d) (cacheAfter r d)
+    unfolding stepped
+    stepped-vdp = rw e (left-by r)
+
+    pub stepped-status : stepped a vram d .vdp .status ≡ statusAfter r a vram (advance d)
+    stepped-status = ap (λ (x : VdpState). x .status) stepped-vdp
+
+    pub stepped-cache : stepped a vram d .vdp .«color_cache» ≡ cacheAfter r d
+    stepped-cache = ap (λ (x : VdpState). x .«color_cache») stepped-vdp
+
+    pub stepped-dirty : stepped a vram d .vdp .«cram_dirty» ≡ dirtyAfter r d
+    stepped-dirty = ap (λ (x : VdpState). x .«cram_dirty») stepped-vdp
+
+    pub stepped-row : stepped a vram d .row ≡ r
+    unfolding stepped
+    stepped-row = e
+
+  pub stepped-refusal : stepped a vram d .refusal ≡ Accepted
+  unfolding stepped
+  stepped-refusal = refl
+
+  pub stepped-report : stepped a vram d .report ≡ reportOf (advance d)
+  unfolding stepped
+  stepped-report = refl
+
+  pub stepped-raster : stepped a vram d .vdp .raster ≡ ticked (register d) (d .raster)
+  stepped-raster = ap (λ (x : VdpState). x .raster) (stepped-vdp refl)
+
+  pub stepped-line : lineOf (stepped a vram d .vdp) ≡ lineOf (advance d)
+  unfolding ticked counted
+  stepped-line = ap (λ (x : Raster). x .«v_counter») stepped-raster
+
+  pub stepped-reg : stepped a vram d .vdp .reg ≡ d .reg
+  stepped-reg = ap (λ (x : VdpState). x .reg) (stepped-vdp refl)
+
+  pub stepped-addr : stepped a vram d .vdp .addr ≡ d .addr
+  stepped-addr = ap (λ (x : VdpState). x .addr) (stepped-vdp refl)
+
+  pub stepped-buffer : stepped a vram d .vdp .«vram_buffer» ≡ d .«vram_buffer»
+  stepped-buffer = ap (λ (x : VdpState). x .«vram_buffer») (stepped-vdp refl)
+
+  pub stepped-dest : stepped a vram d .vdp .dest ≡ d .dest
+  stepped-dest = ap (λ (x : VdpState). x .dest) (stepped-vdp refl)
+
+  pub stepped-cram : stepped a vram d .vdp .cram ≡ d .cram
+  stepped-cram = ap (λ (x : VdpState). x .cram) (stepped-vdp refl)
+
+  pub stepped-command : stepped a vram d .vdp .«cmd_byte1» ≡ d .«cmd_byte1»
+  stepped-command = ap (λ (x : VdpState). x .«cmd_byte1») (stepped-vdp refl)
+
+  pub stepped-palette-byte : stepped a vram d .vdp .«cram_byte1» ≡ d .«cram_byte1»
+  stepped-palette-byte = ap (λ (x : VdpState). x .«cram_byte1») (stepped-vdp refl)
+
+  -- the interrupt, by the status that the step leaves and the line count before it goes down
+  interrupt-by :
+      (r : DrawnRow) → let e = endScreen (drawnBy r a vram (advance d)) in
+      interruptOf e
+      ≡ cond ((bit (register d 1) 5 && bit (e .status) 7) || lineInterrupt (register d) (advanced (register d) (d .raster))) InterruptGenerated NoInterrupt
+  unfolding drawnBy endScreen interruptOf
+  interrupt-by NoRow = refl
+  interrupt-by (Drawn y) = refl
+
+  pub stepped-interrupt :
+      stepped a vram d .interrupt
+      ≡ cond ((bit (register d 1) 5 && bit (stepped a vram d .vdp .status) 7) || lineInterrupt (register d) (advanced (register d) (d .raster)))
+      InterruptGenerated NoInterrupt
+  unfolding stepped
+  stepped-interrupt = interrupt-by (rowOn a (lineOf (advance d)))
+
+-- ---- bit 7 of the status: set before, or by the end of the screen
+low-bits : (hit ninth : Bool) → bit (cond hit 32 0 + cond ninth 64 0) 7 ≡ false
+unfolding bit
+low-bits true true = refl
+low-bits true false = refl
+low-bits false true = refl
+low-bits false false = refl
+
+drawn-end : (r : DrawnRow) (a : RenderArea) (vram : List ℕ) (d : VdpState) → bit (statusDrawn r a vram d) 7 ≡ bit (d .status) 7
+drawn-end NoRow a vram d = refl
+drawn-end (Drawn y) a vram d =
+    let p = rowPicture a vram d y in
+    bit-or (d .status) (statusBits p) 7 ∙ ap (λ (b : Bool). bit (d .status) 7 || b) (low-bits (p .hit) (p .ninth)) ∙ or-false (bit (d .status) 7)
+
+end-bit : (t : Bool) (s : ℕ) → bit (cond t (bitOr s 0x80) s) 7 ≡ (bit s 7 || t)
+unfolding bit
+end-bit true s = bit-or s 0x80 7
+end-bit false s = sym (or-false (bit s 7))
+
+pub stepped-end : (a : RenderArea) (vram : List ℕ) (d : VdpState) → bit (stepped a vram d .vdp .status) 7 ≡ (bit (d .status) 7 || atEnd (advance d))
+stepped-end a vram d =
+    let r = rowOn a (lineOf (advance d)) in
+    ap (λ (s : ℕ). bit s 7) (stepped-status a vram d {r = r} refl)
+    ∙ end-bit (atEnd (advance d)) (statusDrawn r a vram (advance d))
+    ∙ ap (λ (b : Bool). b || atEnd (advance d)) (drawn-end r a vram (advance d))
+
+-- ---- the bytes of a row
+pub drawn-length : (a : RenderArea) (vram : List ℕ) (d : VdpState) (y : ℕ) → length (drawnBytes a vram d y) ≡ rowSize a
+unfolding drawnBytes rowBytes
+drawn-length VisibleOnly vram d y = length-table 640 _
+drawn-length EffectiveArea vram d y = length-table 1024 _
+
+-- ---- a row buffer
+module _ (a : RenderArea) (vram : List ℕ) (d : VdpState) (b : List ℕ) where
+  abbrev rowTest : Bool
+  rowTest = whole vram && leb (rowSize a) (length b)
+
+  abbrev rowBuffer : DrawnRow → List ℕ
+  rowBuffer r = rowWith r a vram (advance d) b
+
+  fits : rowTest ≡ true → rowSize a ≤ length b
+  fits t = leb-true (rowSize a) (length b) (both (whole vram) (leb (rowSize a) (length b)) t .1)
+
+  length-by : (r : DrawnRow) → rowSize a ≤ length b → length (rowBuffer r) ≡ length b
+  unfolding rowWith
+  length-by NoRow h = refl
+  length-by (Drawn y) h = simp (length-append, drawn-length a vram (advance d) y, length-drop) (omega arith)
+
+  past-by : (r : DrawnRow) → drop (rowSize a) (rowBuffer r) ≡ drop (rowSize a) b
+  unfolding rowWith
+  past-by NoRow = refl
+  past-by (Drawn y) = drop-at (drawnBytes a vram (advance d) y) (drop (rowSize a) b) (rowSize a) (drawn-length a vram (advance d) y)
+
+  pub row-step-length : length (rowAfter a vram d b) ≡ length b
+  unfolding rowAfter
+  row-step-length = either (λ (l : List ℕ). length l ≡ length b) rowTest (λ t. length-by (rowOn a (lineOf (advance d))) (fits t)) (λ t. refl)
+
+  -- bytes past the row never change
+  pub row-step-past : drop (rowSize a) (rowAfter a vram d b) ≡ drop (rowSize a) b
+  unfolding rowAfter
+  row-step-past = either (λ l. drop (rowSize a) l ≡ drop (rowSize a) b) rowTest (λ t. past-by (rowOn a (lineOf (advance d)))) (λ t. refl)
+
+  pub row-step-none : rowOn a (lineOf (advance d)) ≡ NoRow → rowAfter a vram d b ≡ b
+  unfolding rowAfter rowWith
+  row-step-none e = either (λ l. l ≡ b) rowTest (λ t. rw e) (λ t. refl)
+
+  pub row-step-refused : (whole vram && leb (rowSize a) (length b)) ≡ false → rowAfter a vram d b ≡ b
+  unfolding rowAfter
+  row-step-refused t = rw t
+
+  pub row-step-here :
+      (y : ℕ) → length vram ≡ 16384 → rowSize a ≤ length b → rowOn a (lineOf (advance d)) ≡ Drawn y
+      → take (rowSize a) (rowAfter a vram d b) ≡ drawnBytes a vram (advance d) y
+  unfolding rowAfter rowWith
+  row-step-here y m h e =
+      rw (eq-eqb (length vram) 16384 m, le-leb (rowSize a) (length b) h, e)
+      (take-at (drawnBytes a vram (advance d) y) (drop (rowSize a) b) (rowSize a) (drawn-length a vram (advance d) y))
+
+-- ---- a frame
+module _ (a : RenderArea) (vram : List ℕ) (d : VdpState) (f : List ℕ) where
+  abbrev frameTest : Bool
+  frameTest = whole vram && leb (frameSize a) (length f)
+
+  abbrev onFrame : DrawnRow → List ℕ
+  onFrame r = frameWith r a vram (advance d) f
+
+  fits-frame : frameTest ≡ true → rowSize a * rows a ≤ length f
+  fits-frame t = rw (← frame-rows a) (leb-true (frameSize a) (length f) (both (whole vram) (leb (frameSize a) (length f)) t .1))
+
+  frame-length-by : (r : DrawnRow) → rowOn a (lineOf (advance d)) ≡ r → rowSize a * rows a ≤ length f → length (onFrame r) ≡ length f
+  unfolding frameWith
+  frame-length-by NoRow e h = refl
+  frame-length-by (Drawn y) e h = row-length (rowSize a) (rows a) y (drawnBytes a vram (advance d) y) f (row-low a _ y e) (drawn-length a vram (advance d) y) h
+
+  frame-past-by : (r : DrawnRow) → rowOn a (lineOf (advance d)) ≡ r → rowSize a * rows a ≤ length f → drop (frameSize a) (onFrame r) ≡ drop (frameSize a) f
+  unfolding frameWith
+  frame-past-by NoRow e h = refl
+  frame-past-by (Drawn y) e h = rw (frame-rows a) (row-past (rowSize a) (rows a) y (drawnBytes a vram (advance d) y) f (row-low a _ y e) (drawn-length a vram (advance d) y) h)
+
+  frame-other-by :
+      (z : ℕ) (r : DrawnRow) → rowOn a (lineOf (advance d)) ≡ r → r ≢ Drawn z → rowSize a * rows a ≤ length f
+      → rowOf (rowSize a) z (onFrame r) ≡ rowOf (rowSize a) z f
+  unfolding frameWith
+  frame-other-by z NoRow e n h = refl
+  frame-other-by z (Drawn y) e n h =
+      let o : z ≢ y = λ q. n (ap Drawn (sym q)) in
+      row-other (rowSize a) (rows a) y (drawnBytes a vram (advance d) y) f (row-low a _ y e) (drawn-length a vram (advance d) y) h z o
+
+  pub frame-step-length : length (frameAfter a vram d f) ≡ length f
+  unfolding frameAfter
+  frame-step-length = either (λ (l : List ℕ). length l ≡ length f) frameTest (λ t. frame-length-by (rowOn a (lineOf (advance d))) refl (fits-frame t)) (λ t. refl)
+
+  -- bytes past the frame never change
+  pub frame-step-past : drop (frameSize a) (frameAfter a vram d f) ≡ drop (frameSize a) f
+  unfolding frameAfter
+  frame-step-past = either (λ l. drop (frameSize a) l ≡ drop (frameSize a) f) frameTest (λ t. frame-past-by (rowOn a (lineOf (advance d))) refl (fits-frame t)) (λ t. refl)
+
+  -- nor does any row but the one that is drawn
+  pub frame-step-other : (z : ℕ) → rowOn a (lineOf (advance d)) ≢ Drawn z → rowOf (rowSize a) z (frameAfter a vram d f) ≡ rowOf (rowSize a) z f
+  unfolding frameAfter
+  frame-step-other z n =
+      either (λ l. rowOf (rowSize a) z l ≡ rowOf (rowSize a) z f) frameTest (λ t. frame-other-by z (rowOn a (lineOf (advance d))) refl n (fits-frame t)) (λ t. refl)
+
+  pub frame-step-none : rowOn a (lineOf (advance d)) ≡ NoRow → frameAfter a vram d f ≡ f
+  unfolding frameAfter frameWith
+  frame-step-none e = either (λ l. l ≡ f) frameTest (λ t. rw e) (λ t. refl)
+
+  pub frame-step-refused : (whole vram && leb (frameSize a) (length f)) ≡ false → frameAfter a vram d f ≡ f
+  unfolding frameAfter
+  frame-step-refused t = rw t
+
+  pub frame-step-here :
+      (y : ℕ) → length vram ≡ 16384 → frameSize a ≤ length f → rowOn a (lineOf (advance d)) ≡ Drawn y
+      → rowOf (rowSize a) y (frameAfter a vram d f) ≡ drawnBytes a vram (advance d) y
+  unfolding frameAfter frameWith
+  frame-step-here y m h e =
+      rw (eq-eqb (length vram) 16384 m, le-leb (frameSize a) (length f) h, e)
+      (row-here (rowSize a) (rows a) y (drawnBytes a vram (advance d) y) f (row-low a _ y e) (drawn-length a vram (advance d) y) (rw (← frame-rows a) h))

@@ -1,0 +1,5 @@
+-- The laws of the step.
+pub mod Rows
+pub mod Steps
+pub mod Views
+pub mod Laws

@@ -1,0 +1,56 @@
+use borrow.Author.Needs.{needs}
+use mathlib.Core.Path.{sym, _∙_}
+use Rattle.step.proofs.Rows.{row-low}
+use Rattle.step.proofs.Steps.{drawn-none, drawn-one}
+use Rattle.step.proofs.draw.Statement.{statement}
+use Rattle.step.proofs.draw.Tie as tie
+use Rattle.step.proofs.draw.Reads as reads
+use Rattle.step.proofs.draw.Lts as lts
+use Rattle.row.proofs.render_line.Reads as render-line-reads
+use Rattle.step.proofs.colours_now.Reads as colours-now-reads
+use Rattle.vdp.proofs.VdpState.with_cache.Reads as with-cache-reads
+
+-- src/lib.rt:99:25
+enum-known-drawn : tie.Need-enum-known-drawn
+enum-known-drawn c = search needs
+
+-- src/lib.rt:100:9
+enum-told : tie.Need-enum-told
+enum-told c = search needs
+
+-- src/lib.rt:100:9
+returns : tie.Need-returns
+returns c = drawn-none (c .before .before .before .before .args .area) (c .before .before .before .before .args .vram .now) (c .before .before .before .before .args .vdp) (c .before .before .before .before .args .row .now) (c .enum-told .given .1)
+
+-- src/lib.rt:104:19
+colours-now-requires : tie.Need-colours-now-requires
+colours-now-requires c κs = search needs
+
+-- src/lib.rt:105:9
+render-line-requires : tie.Need-render-line-requires
+render-line-requires c κs = (c .before .before .before .before .before .before .before .before .before .before .pre .0, c .before .before .before .before .before .before .before .before .before .before .pre .1, row-low (c .before .before .before .before .before .before .before .before .before .before .args .area) _ _ (sym (c .before .before .before .before .before .before .before .before .before .before .pre .2) ∙ c .before .before .before .before .before .before .drawn .given .1))
+
+-- src/lib.rt:114:9
+with-cache-requires : tie.Need-with-cache-requires
+with-cache-requires c κs = search needs
+
+-- src/lib.rt:94:1
+same-length : tie.Need-same-length
+same-length c = search needs
+
+-- src/lib.rt:94:1
+returns-2 : tie.Need-returns-2
+returns-2 c = drawn-one (c .before .before .before .before .before .before .before .before .before .before .before .before .before .before .before .args .area) (c .before .before .before .before .before .before .before .before .before .before .before .before .before .before .before .args .vram .now) (c .before .before .before .before .before .before .before .before .before .before .before .before .before .before .before .args .vdp) (c .before .before .before .before .before .before .before .before .before .before .before .before .before .before .before .args .row .now) _ (c .before .before .before .before .before .before .before .before .before .before .before .drawn .given .1) (c .before .before .before .before .before .before .before .colours-now .ensures) (c .before .with-cache .ensures) (c .before .before .before .before .render-line .ensures .bytes) (c .before .before .before .before .render-line .ensures .status)
+
+pub draw-spec : {M : Type 1} → statement M
+draw-spec =
+    tie.close
+    (tie.spec
+    enum-known-drawn
+    enum-told
+    returns
+    colours-now-requires
+    render-line-requires
+    with-cache-requires
+    same-length
+    returns-2)
