@@ -237,3 +237,59 @@ module _ (row : List ℕ) (w : ℕ) (f : ℕ → ℕ) (room : w * 4 ≤ length r
   painted-all =
       let e : length row ≡ length (table (w * 4) bytes ++ drop (w * 4) row) = rw (length-append, length-table, length-drop) (omega arith) in
       ext-getD 0 (painted row 0 w f) (table (w * 4) bytes ++ drop (w * 4) row) (length-painted row 0 w f ∙ e) (λ k h. all-at k (ltb k (w * 4)) refl)
+
+-- ---- what is laid over a row, byte by byte
+pub length-overlaid : (row : List ℕ) (x n : ℕ) (s : ℕ → Bool) (f : ℕ → ℕ) → length (overlaid row x n s f) ≡ length row
+unfolding overlaid
+length-overlaid row x zero s f = refl
+length-overlaid row x (suc n) s f = length-put-if (s n) (overlaid row x n s f) (x + n) (f n) ∙ length-overlaid row x n s f
+  where
+    length-put-if : (t : Bool) (row : List ℕ) (p c : ℕ) → length (putIf t row p c) ≡ length row
+    length-put-if true row p c = length-put row p c
+    length-put-if false row p c = refl
+
+put-if-here : (t : Bool) (row : List ℕ) (p c k : ℕ) → k / 4 ≡ p → p * 4 + 4 ≤ length row → getD (putIf t row p c) k 0 ≡ cond t (byteOfColour c (k % 4)) (getD row k 0)
+put-if-here true row p c k e r = put-byte row p c k e r
+put-if-here false row p c k e r = refl
+
+put-if-away : (t : Bool) (row : List ℕ) (p c k : ℕ) → (k / 4 ≡ p → ⊥) → getD (putIf t row p c) k 0 ≡ getD row k 0
+put-if-away true row p c k ne = let o : p * 4 ≤ k → k < p * 4 + 4 → ⊥ = λ a b. ne (omega arith) in put-other row p c k o
+put-if-away false row p c k ne = refl
+
+pub overlaid-byte :
+    (row : List ℕ) (x n : ℕ) (s : ℕ → Bool) (f : ℕ → ℕ) (k : ℕ) → (x + n) * 4 ≤ length row
+    → getD (overlaid row x n s f) k 0 ≡ cond (leb x (k / 4) && (ltb (k / 4 - x) n && s (k / 4 - x))) (byteOfColour (f (k / 4 - x)) (k % 4)) (getD row k 0)
+unfolding overlaid
+overlaid-byte row x zero s f k r = let z : 0 ≤ k / 4 - x = omega arith in rw (le-ltb (k / 4 - x) 0 z, and-false (leb x (k / 4)))
+overlaid-byte row x (suc n) s f k r =
+    let r′ : (x + n) * 4 ≤ length row = omega arith in
+    elim (ℕ-discrete (k / 4) (x + n)) [
+      | yes e ↦
+          let d : k / 4 - x ≡ n = omega arith in
+          let l : x ≤ k / 4 = omega arith in
+          let a : n ≤ n = omega arith in
+          let b : n < suc n = omega arith in
+          let room : (x + n) * 4 + 4 ≤ length (overlaid row x n s f) = rw length-overlaid (omega arith) in
+          put-if-here (s n) (overlaid row x n s f) (x + n) (f n) k e room
+          ∙ rw (overlaid-byte row x n s f k r′, le-leb x (k / 4) l, d, le-ltb n n a, lt-ltb n (suc n) b)
+      | no ne ↦
+          put-if-away (s n) (overlaid row x n s f) (x + n) (f n) k ne
+          ∙ overlaid-byte row x n s f k r′
+          ∙ elim (decLt (k / 4) x) [
+            | yes h ↦ rw (lt-leb x (k / 4) h)
+            | no h ↦
+                elim (decLt (k / 4 - x) n) [
+                  | yes q ↦ let b : k / 4 - x < suc n = omega arith in rw (lt-ltb (k / 4 - x) n q, lt-ltb (k / 4 - x) (suc n) b)
+                  | no q ↦
+                      let a : n ≤ k / 4 - x = omega arith in
+                      let b : suc n ≤ k / 4 - x = omega arith in
+                      rw (le-ltb (k / 4 - x) n a, le-ltb (k / 4 - x) (suc n) b)
+                ]
+          ]
+    ]
+
+-- painting is laying over, all of it shown
+pub painted-overlaid : (row : List ℕ) (x n : ℕ) (f : ℕ → ℕ) → painted row x n f ≡ overlaid row x n (λ i. true) f
+unfolding painted overlaid
+painted-overlaid row x zero f = refl
+painted-overlaid row x (suc n) f = rw (painted-overlaid row x n f)

@@ -52,8 +52,8 @@ fn mark(bits: u8, i: usize, on: bool) -> u8
     if on { bits | 1 << i } else { bits }
 }
 
-// Both, with no jump out of the middle of a loop.
-fn both(a: bool, b: bool) -> bool
+// Both of two tests.
+pub fn both(a: bool, b: bool) -> bool
     ensures { λ r. ⌜ r ≡ (a && b) ⌝ }
 {
     if a { b } else { false }
@@ -170,7 +170,7 @@ pub fn character_line_sprite(
     start: usize,
     end: usize,
 ) -> Columns
-    requires { ⌜ (end ≤ 8) × (start ≤ 256) × (addr + 4 ≤ length (now vram)) × (x < 256) × (width * 4 ≤ length (now row)) ⌝ }
+    requires { ⌜ (end ≤ 8) × (start ≤ 256) × (addr + 4 ≤ length (now vram)) × (x < 65536) × (width * 4 ≤ length (now row)) ⌝ }
     ensures { λ r. ⌜ now (row .exit) ≡ overlaid (now (row .entry)) x 8 (lineDrawn (now (vram .entry)) addr start end held taken width x) (spriteColour (now (colours .entry)) (now (vram .entry)) addr start) ⌝ }
     ensures { λ r. ⌜ (r .marks ≡ byteOf (lineMarked (now (vram .entry)) addr start end held)) × (r .drawn ≡ byteOf (lineDrawn (now (vram .entry)) addr start end held taken width x)) × (r .held ≡ byteOf (lineHeld (now (vram .entry)) addr start end held)) ⌝ }
 {

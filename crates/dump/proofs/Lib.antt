@@ -1,0 +1,3 @@
+-- The laws of the tile dump.
+pub mod Places
+pub mod Lines

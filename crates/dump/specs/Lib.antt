@@ -1,0 +1,3 @@
+-- What the contracts of `dump` cite.
+pub mod Dump
+pub mod Lines

@@ -1,0 +1,107 @@
+// All tiles of video memory, drawn side by side: 256 as background, and the same numbers as sprites.
+ghost use mathlib.Core.Path.{_≡_};
+ghost use mathlib.Core.Bool.{cond, _&&_};
+ghost use mathlib.Core.List.{List};
+ghost use Prim.Native.Nat.{ℕ, _+_, _-_, _*_, _/_, _%_, _<_, _≤_};
+ghost use lib.Dec.{ltb, leb};
+ghost use lib.ListN.{length};
+ghost use Rattle.laws.specs.Lists.{at};
+ghost use Rattle.picture.specs.Tile.{codeAt};
+ghost use Rattle.dump.specs.Dump.{tileColumn, tileRow, lineAt, pixelByte, dumped};
+ghost use Rattle.dump.specs.Lines.{Dumping};
+
+// The column of tiles in which tile chr stands.
+fn column_of(tall: bool, chr: usize) -> usize
+    ensures { λ r. ⌜ r ≡ tileColumn tall chr ⌝ }
+    ensures { λ r. ⌜ r < 16 ⌝ }
+{
+    if tile::both(tall, 256 <= chr) {
+        chr % 32 / 2
+    } else {
+        chr % 16
+    }
+}
+
+// The row of tiles in which it stands.
+fn row_of(tall: bool, chr: usize) -> usize
+    requires { ⌜ chr < 512 ⌝ }
+    ensures { λ r. ⌜ r ≡ tileRow tall chr ⌝ }
+    ensures { λ r. ⌜ r < 32 ⌝ }
+{
+    if tile::both(tall, 256 <= chr) {
+        2 * (chr / 32) + chr % 2
+    } else {
+        chr / 16
+    }
+}
+
+// The address of its line `line`: the sprites' pattern base counts for sprites alone.
+fn line_at(high: bool, chr: usize, line: usize) -> usize
+    requires { ⌜ line < 8 ⌝ }
+    ensures { λ r. ⌜ r ≡ lineAt high chr line ⌝ }
+    ensures { λ r. ⌜ r + 4 ≤ 16384 ⌝ }
+{
+    tile::weight(tile::both(256 <= chr, high), 8192) + 32 * (chr % 256) + 4 * line
+}
+
+// The tile line at addr, drawn at pixel x of the whole picture.
+fn dump_line(
+    pixels: &mut [u8],
+    vram: &[u8],
+    colours: &[u32; 32],
+    sprite: bool,
+    addr: usize,
+    x: usize,
+)
+    requires { ⌜ (length (now pixels) ≡ 131072) × (addr + 4 ≤ length (now vram)) × (x + 8 ≤ 32768) ⌝ }
+    ensures { λ r. ⌜ ((k : ℕ) → at (now (pixels .exit)) k ≡ cond (leb x (k / 4) && ltb (k / 4 - x) 8) (pixelByte (now (colours .entry)) sprite (codeAt (at (now (vram .entry))) addr (k / 4 - x)) (k % 4) (at (now (pixels .entry)) k)) (at (now (pixels .entry)) k)) ⌝ }
+{
+    if sprite {
+        tile::character_line_sprite(pixels, vram, colours, addr, 0, 0, 32768, x, 0, 8);
+    } else {
+        tile::character_line(pixels, vram, colours, addr, false, 0, x, 0, 8);
+    }
+}
+
+// The eight lines of tile chr, at its place.
+fn dump_tile(
+    pixels: &mut [u8],
+    vram: &[u8],
+    colours: &[u32; 32],
+    tall: bool,
+    high: bool,
+    chr: usize,
+)
+    requires { ⌜ (length (now pixels) ≡ 131072) × (length (now vram) ≡ 16384) × (chr < 512) ⌝ }
+    ensures { λ r. ⌜ ((pixels₀ : List ℕ) → Dumping (now (vram .entry)) tall high (now (colours .entry)) pixels₀ (8 * chr) (now (pixels .entry)) → Dumping (now (vram .entry)) tall high (now (colours .entry)) pixels₀ (8 * (chr + 1)) (now (pixels .exit))) ⌝ }
+{
+    let x = column_of(tall, chr) * 8;
+    let y = row_of(tall, chr) * 8;
+    let mut line: usize = 0;
+    while line < 8 {
+        let addr = line_at(high, chr, line);
+        dump_line(
+            pixels,
+            vram,
+            colours,
+            256 <= chr,
+            addr,
+            (y + line) * 128 + x,
+        );
+        line += 1;
+    }
+}
+
+// All tiles, by the cached colours as they stand.
+pub fn dump_tileset(pixels: &mut [u8], vram: &[u8], colours: &[u32; 32], reg: [u8; 11])
+    requires { ⌜ (length (now pixels) ≡ 131072) × (length (now vram) ≡ 16384) ⌝ }
+    ensures { λ r. ⌜ now (pixels .exit) ≡ dumped (now (vram .entry)) reg (now (colours .entry)) (now (pixels .entry)) ⌝ }
+{
+    let tall = tile::is_set(reg[1], 1);
+    let high = tile::is_set(reg[6], 2);
+    let mut chr: usize = 0;
+    while chr < 512 {
+        dump_tile(pixels, vram, colours, tall, high, chr);
+        chr += 1;
+    }
+}
