@@ -1,8 +1,9 @@
 -- A list as its parts, one after the other; and a bound that all its elements have.
 -- Assumes nothing.
 use mathlib.Core.Path.{_≡_, refl, sym, ap, _∙_}
-use mathlib.Core.List.{List, _∷_, _++_}
+use mathlib.Core.List.{List, [], _∷_, _++_}
 use Prim.Native.Nat.{ℕ, zero, suc, _+_, _<_, _≤_}
+use native.Mathlib.Nat.{zero-add, suc-add}
 use native.Mathlib.Decide.{ℕ-discrete, decLt}
 use native.Mathlib.Omega.{arith}
 use lib.ListN.{length, set, take, drop, take-append-drop}
@@ -52,3 +53,11 @@ set-below l k v h e i =
           ]
       | no q ↦ rw (getD-set-other l k i v 0 q) (h i)
     ]
+
+-- a store past a part of n elements
+pub set-past : (p q : List ℕ) (n k v : ℕ) → length p ≡ n → set (p ++ q) (n + k) v ≡ p ++ set q k v
+set-past p q n k v e = ap (λ (m : ℕ). set (p ++ q) (m + k) v) (sym e) ∙ beyond p
+  where
+    beyond : (p : List ℕ) → set (p ++ q) (length p + k) v ≡ p ++ set q k v
+    beyond [] = rw zero-add
+    beyond (x ∷ p) = rw suc-add (ap (λ (l : List ℕ). x ∷ l) (beyond p))

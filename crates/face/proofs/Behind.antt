@@ -1,0 +1,119 @@
+-- What a refused call of the C face leaves: the block byte for byte as it was, or without its command latch, and the other buffer as it was.
+-- Assumes nothing.
+use mathlib.Core.Path.{_≡_, refl, sym, ap, _∙_}
+use mathlib.Core.Logic.{_≢_}
+use mathlib.Core.Bool.{Bool, true, false}
+use mathlib.Core.List.{List, [], _++_}
+use Prim.Native.Nat.{ℕ, suc, _+_, _*_, _<_}
+use native.Mathlib.Omega.{arith}
+use lib.Dec.{eqb}
+use lib.ListN.{length, set, take, drop, length-drop}
+use lib.Seq.{length-take-le}
+use Rattle.laws.specs.Lists.{at}
+use Rattle.laws.proofs.Parts.{set-past}
+use Rattle.laws.proofs.Tests.{split, either}
+use Rattle.vdp.specs.declared.VdpState.{VdpState}
+use Rattle.vdp.specs.declared.Refusal.{Refusal}
+use Rattle.vdp.specs.declared.Refusal.the-variants.{Accepted, UnknownPort, HorizontalCounter, HighRegister, NothingChosen, PaletteRead, NoPaletteByte, OutsideMemory, VramLength, PixelLength, BlockMalformed, UnknownArea}
+use Rattle.vdp.specs.Device.{unlatched}
+use Rattle.vdp.specs.Refusals.{refusalNumber, leftBehind}
+use Rattle.vdp.specs.Ports.{portWrite, portRead}
+use Rattle.vdp.proofs.Behind.{write-behind, read-behind}
+use Rattle.block.specs.Block.{wellFormed, stateOf, head, small, colourBytes, blockOf}
+use Rattle.block.proofs.Whole.{long}
+use Rattle.block.proofs.RoundTrip.{block-back}
+use Rattle.face.specs.Face.{Called, refused, newCall, outCall, inputCall}
+use Rattle.face.specs.Refused.{refusalIn, blockLeft, LeftBehind}
+use Rattle.face.proofs.Exact.{number-low, alone, low-byte}
+
+-- ---- the block of a device without its command latch
+module _ (s : VdpState) (eleven : length (s .reg) ≡ 11) where
+  front : length (head s ++ s .reg) ≡ 14
+  unfolding head
+  front = ap (λ (n : ℕ). suc (suc (suc n))) eleven
+
+  rest : List ℕ
+  rest = s .cram ++ colourBytes (s .«color_cache»)
+
+  pub unlatched-block : blockOf (unlatched s) ≡ set (set (blockOf s) 21 0) 22 0
+  unfolding blockOf head small rest
+  unlatched-block =
+      sym
+      (ap (λ (l : List ℕ). set l 22 0) (set-past (head s ++ s .reg) (small s ++ rest) 14 7 0 front)
+      ∙ set-past (head s ++ s .reg) (set (small s ++ rest) 7 0) 14 8 0 front)
+
+-- where the number is not 0, the refusal is one
+pub not-accepted : (r : Refusal) {n : ℕ} → n ≡ refusalNumber r → n ≢ 0 → r ≢ Accepted
+not-accepted r e h q = h (e ∙ ap refusalNumber q)
+
+module _ (b : List ℕ) (bytes : (i : ℕ) → at b i < 256) where
+  registers : wellFormed b ≡ true → length (stateOf b .reg) ≡ 11
+  unfolding stateOf
+  registers w = length-take-le 11 (drop 3 b) (simp length-drop (omega (arith, long b w)))
+
+  emptied : wellFormed b ≡ true → blockOf (unlatched (stateOf b)) ≡ set (set b 21 0) 22 0
+  emptied w = unlatched-block (stateOf b) (registers w) ∙ ap (λ (l : List ℕ). set (set l 21 0) 22 0) (block-back b w bytes)
+
+  -- the column "Left behind", of a device and of its block
+  behind : wellFormed b ≡ true → (r : Refusal) → blockOf (leftBehind r (stateOf b)) ≡ blockLeft (refusalNumber r) b
+  behind w HighRegister = emptied w
+  behind w NothingChosen = emptied w
+  behind w PaletteRead = emptied w
+  behind w NoPaletteByte = emptied w
+  behind w OutsideMemory = emptied w
+  behind w Accepted = block-back b w bytes
+  behind w UnknownPort = block-back b w bytes
+  behind w HorizontalCounter = block-back b w bytes
+  behind w VramLength = block-back b w bytes
+  behind w PixelLength = block-back b w bytes
+  behind w BlockMalformed = block-back b w bytes
+  behind w UnknownArea = block-back b w bytes
+
+  pub left-by : wellFormed b ≡ true → (r : Refusal) {n : ℕ} → n ≡ refusalNumber r → blockOf (leftBehind r (stateOf b)) ≡ blockLeft n b
+  left-by w r e = behind w r ∙ ap (λ (n : ℕ). blockLeft n b) (sym e)
+
+  -- refused before the device is asked: all unchanged
+  pub whole-refused : (r : Refusal) (x : List ℕ) → b ≡ blockLeft (refusalNumber r) b → LeftBehind b x (refused r b x)
+  whole-refused r x e =
+      record {
+        word = λ _. omega (arith, number-low r);
+        block = λ _. e ∙ ap (λ (n : ℕ). blockLeft n b) (sym (alone r));
+        lent = λ _. refl;
+      }
+
+  pub new-behind : LeftBehind b [] (newCall b)
+  unfolding newCall
+  new-behind =
+      either (LeftBehind b []) (eqb (length b) 219)
+      (λ _. record { word = λ h. absurd (h refl); block = λ h. absurd (h refl); lent = λ _. refl })
+      (λ _. whole-refused BlockMalformed [] refl)
+
+  pub out-behind : (m : List ℕ) (p v : ℕ) → LeftBehind b m (outCall b m p v)
+  unfolding outCall
+  out-behind m p v =
+      either (LeftBehind b m) (wellFormed b)
+      (λ w.
+      let a = portWrite (stateOf b) m p v in
+      let r = a .answer .refusal in
+      let l = write-behind (stateOf b) m p v in
+      record {
+        word = λ _. omega (arith, number-low r);
+        block = λ h. ap blockOf (l .device (not-accepted r (alone r) h)) ∙ left-by w r (alone r);
+        lent = λ h. l .memory (not-accepted r (alone r) h);
+      })
+      (λ _. whole-refused BlockMalformed m refl)
+
+  pub input-behind : (m : List ℕ) (p : ℕ) → LeftBehind b [] (inputCall b m p)
+  unfolding inputCall
+  input-behind m p =
+      either (LeftBehind b []) (wellFormed b)
+      (λ w.
+      let a = portRead (stateOf b) m p in
+      let r = a .refusal in
+      let l = read-behind (stateOf b) m p in
+      record {
+        word = λ h. omega (arith, number-low r, l .zero (not-accepted r (low-byte r (a .byte)) h));
+        block = λ h. ap blockOf (l .device (not-accepted r (low-byte r (a .byte)) h)) ∙ left-by w r (low-byte r (a .byte));
+        lent = λ _. refl;
+      })
+      (λ _. whole-refused BlockMalformed [] refl)

@@ -1,0 +1,88 @@
+-- A call of the C face is refused by the first line of its table that holds: 10 exactly where the block is malformed.
+-- Assumes nothing.
+use mathlib.Core.Path.{_≡_, refl, sym, ap, _∙_}
+use mathlib.Core.Logic.{_≢_, _↔_}
+use mathlib.Core.Bool.{Bool, true, false, cond, not, _&&_}
+use mathlib.Core.List.{List, [], _∷_}
+use Prim.Native.Nat.{ℕ, _+_, _*_, _%_, _<_}
+use native.Mathlib.Omega.{arith}
+use borrow.Author.Tests.{eqb-false, not-true}
+use lib.Dec.{eqb}
+use lib.ListN.{length}
+use Rattle.laws.proofs.Tests.{split, both, clash}
+use Rattle.vdp.specs.declared.Refusal.{Refusal}
+use Rattle.vdp.specs.declared.Refusal.the-variants.{Accepted, UnknownPort, HorizontalCounter, HighRegister, NothingChosen, PaletteRead, NoPaletteByte, OutsideMemory, VramLength, PixelLength, BlockMalformed, UnknownArea}
+use Rattle.vdp.specs.Refusals.{refusalNumber, Line, first, line, writeLines, readLines}
+use Rattle.vdp.specs.Ports.{portWrite, portRead}
+use Rattle.vdp.proofs.Exact.{write-exact, read-exact}
+use Rattle.block.specs.Block.{wellFormed, stateOf}
+use Rattle.face.specs.Face.{newCall, outCall, inputCall}
+use Rattle.face.specs.Refused.{refusalIn, malformed, newLines, outLines, inputLines}
+
+pub number-low : (r : Refusal) → refusalNumber r < 12
+number-low Accepted = omega arith
+number-low UnknownPort = omega arith
+number-low HorizontalCounter = omega arith
+number-low HighRegister = omega arith
+number-low NothingChosen = omega arith
+number-low PaletteRead = omega arith
+number-low NoPaletteByte = omega arith
+number-low OutsideMemory = omega arith
+number-low VramLength = omega arith
+number-low PixelLength = omega arith
+number-low BlockMalformed = omega arith
+number-low UnknownArea = omega arith
+
+-- the refusal is the low byte of a word that has it there
+pub low-byte : (r : Refusal) (k : ℕ) → refusalIn (refusalNumber r + 256 * k) ≡ refusalNumber r
+low-byte r k = omega (arith, number-low r)
+
+pub alone : (r : Refusal) → refusalIn (refusalNumber r) ≡ refusalNumber r
+alone r = omega (arith, number-low r)
+
+pub new-exact : (b : List ℕ) → refusalIn (newCall b .word) ≡ refusalNumber (first (newLines b))
+unfolding newCall
+new-exact b = split (eqb (length b) 219) (λ e. simp e) (λ e. simp e)
+
+pub out-exact : (b m : List ℕ) (p v : ℕ) → refusalIn (outCall b m p v .word) ≡ refusalNumber (first (outLines b m p v))
+unfolding outCall
+out-exact b m p v =
+    split (wellFormed b)
+    (λ e. simp e (alone (portWrite (stateOf b) m p v .answer .refusal) ∙ ap refusalNumber (write-exact (stateOf b) m p v)))
+    (λ e. simp e)
+
+pub input-exact : (b m : List ℕ) (p : ℕ) → refusalIn (inputCall b m p .word) ≡ refusalNumber (first (inputLines b m p))
+unfolding inputCall
+input-exact b m p =
+    split (wellFormed b)
+    (λ e. simp e (low-byte (portRead (stateOf b) m p .refusal) (portRead (stateOf b) m p .byte) ∙ ap refusalNumber (read-exact (stateOf b) m p)))
+    (λ e. simp e)
+
+-- ---- 10 exactly where the block is malformed
+-- none of the lines gives number n
+abbrev pub none : ℕ → List Line → Bool
+none n [] = true
+none n (l ∷ ls) = not (eqb (refusalNumber (l .refusal)) n) && none n ls
+
+by-test : (t : Bool) (r q : Refusal) (n : ℕ) → not (eqb (refusalNumber r) n) ≡ true → refusalNumber q ≢ n → refusalNumber (cond t r q) ≢ n
+by-test true r q n h k = eqb-false (refusalNumber r) n (not-true (eqb (refusalNumber r) n) h)
+by-test false r q n h k = k
+
+pub never : (n : ℕ) (ls : List Line) → 0 ≢ n → none n ls ≡ true → refusalNumber (first ls) ≢ n
+never n [] z h = z
+never n (l ∷ ls) z h =
+    let t = both (not (eqb (refusalNumber (l .refusal)) n)) (none n ls) h in
+    by-test (l .holds) (l .refusal) (first ls) n (t .0) (never n ls z (t .1))
+
+ten-exactly :
+    (b : List ℕ) (ls : List Line) (w : ℕ) → none 10 ls ≡ true → refusalIn w ≡ refusalNumber (first (malformed b ∷ ls)) → (refusalIn w ≡ 10) ↔ (wellFormed b ≡ false)
+ten-exactly b ls w h e =
+    split (wellFormed b)
+    (λ t. (λ q. absurd (never 10 ls (λ z. omega arith) h (sym (simp t at e) ∙ q)), λ f. clash (sym t ∙ f)))
+    (λ f. (λ q. f, λ q. simp f at e))
+
+pub out-ten : (b m : List ℕ) (p v : ℕ) → (refusalIn (outCall b m p v .word) ≡ 10) ↔ (wellFormed b ≡ false)
+out-ten b m p v = ten-exactly b (writeLines (stateOf b) m p v) (outCall b m p v .word) refl (out-exact b m p v)
+
+pub input-ten : (b m : List ℕ) (p : ℕ) → (refusalIn (inputCall b m p .word) ≡ 10) ↔ (wellFormed b ≡ false)
+input-ten b m p = ten-exactly b (readLines (stateOf b) m p) (inputCall b m p .word) refl (input-exact b m p)

@@ -1,0 +1,4 @@
+-- The laws of the C face.
+pub mod Laws
+pub mod Exact
+pub mod Behind

@@ -1,0 +1,98 @@
+-- Document 01, "Added faces": what each call of the C face answers and leaves, over a state block. "The C face takes numbers and byte slices only."
+-- Assumes nothing.
+use mathlib.Core.Path.{_≡_}
+use mathlib.Core.Bool.{cond}
+use mathlib.Core.List.{List, []}
+use Prim.Native.Nat.{ℕ, _+_, _*_}
+use lib.Dec.{eqb, leb}
+use lib.ListN.{length}
+use Rattle.picture.specs.declared.RenderArea.{RenderArea}
+use Rattle.picture.specs.declared.RenderArea.the-variants.{VisibleOnly, EffectiveArea}
+use Rattle.vdp.specs.declared.VdpState.{VdpState}
+use Rattle.vdp.specs.declared.ReadBack.{ReadBack}
+use Rattle.vdp.specs.declared.Refusal.{Refusal}
+use Rattle.vdp.specs.declared.Refusal.the-variants.{Accepted, BlockMalformed, UnknownArea}
+use Rattle.vdp.specs.Device.{fresh}
+use Rattle.vdp.specs.Refusals.{refusalNumber}
+use Rattle.vdp.specs.Ports.{portWrite, portRead}
+use Rattle.block.specs.Block.{blockSize, wellFormed, stateOf, blockOf}
+use Rattle.step.specs.declared.DrawnRow.{DrawnRow}
+use Rattle.step.specs.declared.DrawnRow.the-variants.{NoRow, Drawn}
+use Rattle.step.specs.declared.Stepped.{Stepped}
+use Rattle.step.specs.Step.{interruptNumber, reportNumber, rowStep, frameStep}
+use Rattle.step.specs.Frame.{rowAfter, frameAfter}
+
+-- What a call answers and leaves: its word, the block, and the bytes of the one other buffer that it may write (video memory of a port write, pixels of a
+-- step or a dump; none of the others).
+pub record Called : Type 0 where
+  pub word : ℕ
+  pub block : List ℕ
+  pub lent : List ℕ
+
+-- ---- the answer word: "refusal in bits 0 to 7; read byte in 8 to 15, or interrupt bit 8, report .. in bits 9, 10, row in 16 to 23 (0 if none drawn),
+-- drawn bit 24; rest 0"
+abbrev pub readWord : ReadBack → ℕ
+readWord a = refusalNumber (a .refusal) + 256 * a .byte
+
+abbrev pub rowBits : DrawnRow → ℕ
+rowBits NoRow = 0
+rowBits (Drawn y) = 65536 * y + 16777216
+
+unfoldable pub stepWord : Stepped → ℕ
+stepWord s = refusalNumber (s .refusal) + 256 * interruptNumber (s .interrupt) + 512 * reportNumber (s .report) + rowBits (s .row)
+
+-- ---- "Order: 10, 11, 8, 9": first the block b is read, then the area number n; x is the buffer that a refusal leaves as it was
+abbrev pub refused : Refusal → List ℕ → List ℕ → Called
+refused r b x = record { word = refusalNumber r; block = b; lent = x }
+
+abbrev pub onBlock : List ℕ → List ℕ → (VdpState → Called) → Called
+onBlock b x call = cond (wellFormed b) (call (stateOf b)) (refused BlockMalformed b x)
+
+-- "area number above 1 (C face; 0 visible, 1 effective)"
+abbrev pub areaFrom : ℕ → RenderArea
+areaFrom n = cond (eqb n 0) VisibleOnly EffectiveArea
+
+abbrev pub onArea : ℕ → List ℕ → List ℕ → (RenderArea → Called) → Called
+onArea n b x call = cond (leb n 1) (call (areaFrom n)) (refused UnknownArea b x)
+
+-- ---- the calls. A fresh block: what the bytes were does not matter, only how many they are
+unfoldable pub newCall : List ℕ → Called
+newCall b = cond (eqb (length b) blockSize) (record { word = refusalNumber Accepted; block = blockOf fresh; lent = [] }) (refused BlockMalformed b [])
+
+abbrev pub outOn : List ℕ → ℕ → ℕ → VdpState → Called
+outOn m p v s =
+    let a = portWrite s m p v in
+    record { word = refusalNumber (a .answer .refusal); block = blockOf (a .answer .vdp); lent = a .vram }
+
+unfoldable pub outCall : List ℕ → List ℕ → ℕ → ℕ → Called
+outCall b m p v = onBlock b m (outOn m p v)
+
+abbrev pub inputOn : List ℕ → ℕ → VdpState → Called
+inputOn m p s =
+    let a = portRead s m p in
+    record { word = readWord a; block = blockOf (a .vdp); lent = [] }
+
+unfoldable pub inputCall : List ℕ → List ℕ → ℕ → Called
+inputCall b m p = onBlock b [] (inputOn m p)
+
+-- a step's answer, and what it leaves in the pixels
+abbrev pub steppedTo : Stepped → List ℕ → Called
+steppedTo r pixels = record { word = stepWord r; block = blockOf (r .vdp); lent = pixels }
+
+abbrev pub stepOn : List ℕ → List ℕ → VdpState → RenderArea → Called
+stepOn m frame s a = steppedTo (frameStep a m (length frame) s) (frameAfter a m s frame)
+
+unfoldable pub stepCall : List ℕ → List ℕ → List ℕ → ℕ → Called
+stepCall b m frame n = onBlock b frame (λ s. onArea n b frame (stepOn m frame s))
+
+abbrev pub rowStepOn : List ℕ → List ℕ → VdpState → RenderArea → Called
+rowStepOn m row s a = steppedTo (rowStep a m (length row) s) (rowAfter a m s row)
+
+unfoldable pub rowStepCall : List ℕ → List ℕ → List ℕ → ℕ → Called
+rowStepCall b m row n = onBlock b row (λ s. onArea n b row (rowStepOn m row s))
+
+-- ---- What a call promises: its answer r, and what the block and the other buffer hold after it, b′ and x′.
+pub record Leaves (c : Called) (r : ℕ) (b′ x′ : List ℕ) : Type 0 where
+  pub word : r ≡ c .word
+  pub block : b′ ≡ c .block
+  pub lent : x′ ≡ c .lent

@@ -1,0 +1,3 @@
+-- What the contracts of `face` cite, and what is shown of them.
+pub mod Face
+pub mod Refused
