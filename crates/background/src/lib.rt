@@ -94,8 +94,7 @@ fn render_tile(
     with_marks(prio, tile::is_set(hi, 4), place_of(cut, x), bits)
 }
 
-// The background of a whole row: its pixel 0 shows the map's pixel (sx, y), and its first tile marks `cut` places to the left. Answers the
-// priority mask.
+// The background of a row whose pixel 0 shows the map's pixel (sx, y); answers the priority mask, the first tile's marks `cut` to the left.
 pub fn render_background_line(
     row: &mut [u8],
     vram: &[u8],

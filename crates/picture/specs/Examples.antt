@@ -1,13 +1,13 @@
 -- P8 to P11 of document 01, and the rows of the Rust's own test `sprite_coord`, computed from the definitions.
 -- Assumes nothing.
 use mathlib.Core.Path.{_≡_, refl}
-use mathlib.Core.Bool.{Bool, true, false, cond}
+use mathlib.Core.Bool.{Bool, false, cond}
 use mathlib.Core.List.{List, [], _∷_}
 use Prim.Native.Nat.{ℕ, zero, suc, _+_, _-_, _*_}
 use Rattle.laws.specs.Bits.{bit, any}
 use Rattle.picture.specs.declared.Stand.{Stand}
 use Rattle.picture.specs.View.{visibleEnd, visibleSeen, visibleStand, early}
-use Rattle.picture.specs.Picture.{Canvas, bare, solid, heldBack, marked, struck, drawn, laid, spriteLine}
+use Rattle.picture.specs.Picture.{bare, solid, heldBack, marked, struck, drawn, laid, spriteLine}
 
 -- x, start, end
 abbrev pub spot : Stand → List ℕ

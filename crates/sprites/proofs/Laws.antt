@@ -11,7 +11,7 @@ use lib.Dec.{eqb, ltb, leb}
 use lib.Bits.{bitAnd, and-le-r}
 use lib.ListN.{length}
 use borrow.Author.Tests.{lt-ltb, le-ltb, lt-leb, ltb-true}
-use Rattle.laws.specs.Bits.{bit, number, byteOf, any}
+use Rattle.laws.specs.Bits.{bit, number, byteOf}
 use Rattle.laws.specs.Circle.{past}
 use Rattle.laws.specs.Lists.{at}
 use Rattle.laws.specs.Paint.{painted, overlaid, overlay}

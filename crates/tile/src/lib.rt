@@ -1,6 +1,6 @@
 // One line of a tile, drawn into a row of pixels: as background, and as a sprite.
 ghost use mathlib.Core.Path.{_≡_};
-ghost use mathlib.Core.Bool.{true, cond, _&&_, _||_, not};
+ghost use mathlib.Core.Bool.{true, cond, _&&_, not};
 ghost use Prim.Native.Nat.{_+_, _-_, _*_, _%_, _^_, _<_, _≤_, min};
 ghost use lib.ListN.{length};
 ghost use lib.Bits.{bitOr};
@@ -156,8 +156,7 @@ pub struct Columns {
     pub held: u8,
 }
 
-// The columns of the line at addr, from the tile's pixel start to below end, drawn over the row from pixel x on: a column is marked where
-// its code is not 0 and its bit of `held` is clear, and drawn where it is marked, its bit of `taken` is clear and it lies below `width`.
+// The columns of the line at addr, from the tile's pixel start to below end, drawn from pixel x of the row on where `held` and `taken` let them.
 pub fn character_line_sprite(
     row: &mut [u8],
     vram: &[u8],

@@ -6,7 +6,7 @@ use native.Mathlib.Nat.{add-zero}
 use native.Mathlib.Omega.{arith}
 use lib.ListN.{length}
 use Rattle.dump.specs.Lines.{Dumping}
-use Rattle.dump.proofs.Lines.{place, line-step}
+use Rattle.dump.proofs.Lines.{line-step}
 use Rattle.dump.proofs.dump_tile.Statement.{statement}
 use Rattle.dump.proofs.dump_tile.Tie as tie
 use Rattle.dump.proofs.dump_tile.Reads as reads

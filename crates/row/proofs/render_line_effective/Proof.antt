@@ -1,7 +1,6 @@
 use borrow.Author.Needs.{needs}
 use mathlib.Core.Path.{refl, _∙_}
 use mathlib.Core.Logic.{inl}
-use native.Mathlib.Omega.{arith}
 use Rattle.laws.specs.Lists.{at}
 use Rattle.picture.specs.View.{View, effective}
 use Rattle.picture.specs.Picture.{back, front}

@@ -1,4 +1,3 @@
-use borrow.Author.Needs.{needs}
 use Rattle.row.proofs.status_bits.Statement.{statement}
 use Rattle.row.proofs.status_bits.Tie as tie
 use Rattle.row.proofs.status_bits.Reads as reads

@@ -1,6 +1,4 @@
 use borrow.Author.Needs.{needs}
-use mathlib.Core.Path.{refl, _∙_}
-use native.Mathlib.Omega.{arith}
 use Rattle.sprites.proofs.Laws.{shows-seen, shows-unseen}
 use Rattle.sprites.proofs.render_sprite.Statement.{statement}
 use Rattle.sprites.proofs.render_sprite.Tie as tie

@@ -1,5 +1,4 @@
 use borrow.Author.Needs.{needs}
-use native.Mathlib.Omega.{arith}
 use Rattle.sprites.proofs.List.{with-sprite-is}
 use Rattle.sprites.proofs.sprite_at.Statement.{statement}
 use Rattle.sprites.proofs.sprite_at.Tie as tie

@@ -1,4 +1,3 @@
-use borrow.Author.Needs.{needs}
 use borrow.Author.Tests.{lt-ltb, le-ltb}
 use Rattle.picture.specs.View.{visibleSeen}
 use Rattle.sprites.proofs.visible_seen.Statement.{statement}

@@ -1,4 +1,3 @@
-use borrow.Author.Needs.{needs}
 use native.Mathlib.Omega.{arith}
 use Rattle.tile.proofs.weight.Statement.{statement}
 use Rattle.tile.proofs.weight.Tie as tie
