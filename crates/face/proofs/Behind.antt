@@ -2,29 +2,33 @@
 -- Assumes nothing.
 use mathlib.Core.Path.{_≡_, refl, sym, ap, _∙_}
 use mathlib.Core.Logic.{_≢_}
-use mathlib.Core.Bool.{Bool, true, false}
+use mathlib.Core.Bool.{Bool, true, false, cond, _&&_}
 use mathlib.Core.List.{List, [], _++_}
 use Prim.Native.Nat.{ℕ, suc, _+_, _*_, _<_}
 use native.Mathlib.Omega.{arith}
-use lib.Dec.{eqb}
+use lib.Dec.{eqb, leb}
 use lib.ListN.{length, set, take, drop, length-drop}
 use lib.Seq.{length-take-le}
 use Rattle.laws.specs.Lists.{at}
 use Rattle.laws.proofs.Parts.{set-past}
 use Rattle.laws.proofs.Tests.{split, either}
+use Rattle.picture.specs.declared.RenderArea.{RenderArea}
+use Rattle.picture.specs.Area.{rowSize, frameSize}
 use Rattle.vdp.specs.declared.VdpState.{VdpState}
 use Rattle.vdp.specs.declared.Refusal.{Refusal}
 use Rattle.vdp.specs.declared.Refusal.the-variants.{Accepted, UnknownPort, HorizontalCounter, HighRegister, NothingChosen, PaletteRead, NoPaletteByte, OutsideMemory, VramLength, PixelLength, BlockMalformed, UnknownArea}
 use Rattle.vdp.specs.Device.{unlatched}
-use Rattle.vdp.specs.Refusals.{refusalNumber, leftBehind}
+use Rattle.vdp.specs.Refusals.{refusalNumber, leftBehind, whole}
 use Rattle.vdp.specs.Ports.{portWrite, portRead}
 use Rattle.vdp.proofs.Behind.{write-behind, read-behind}
 use Rattle.block.specs.Block.{wellFormed, stateOf, head, small, colourBytes, blockOf}
 use Rattle.block.proofs.Whole.{long}
 use Rattle.block.proofs.RoundTrip.{block-back}
-use Rattle.face.specs.Face.{Called, refused, newCall, outCall, inputCall}
+use Rattle.step.specs.Step.{stepped, refusedStep, stepWith}
+use Rattle.step.specs.Frame.{rowAfter, frameAfter}
+use Rattle.face.specs.Face.{Called, stepWord, refused, areaFrom, newCall, outCall, inputCall, steppedTo, stepCall, rowStepCall}
 use Rattle.face.specs.Refused.{refusalIn, blockLeft, LeftBehind}
-use Rattle.face.proofs.Exact.{number-low, alone, low-byte}
+use Rattle.face.proofs.Exact.{number-low, alone, low-byte, step-byte}
 
 -- ---- the block of a device without its command latch
 module _ (s : VdpState) (eleven : length (s .reg) ≡ 11) where
@@ -45,6 +49,11 @@ module _ (s : VdpState) (eleven : length (s .reg) ≡ 11) where
 -- where the number is not 0, the refusal is one
 pub not-accepted : (r : Refusal) {n : ℕ} → n ≡ refusalNumber r → n ≢ 0 → r ≢ Accepted
 not-accepted r e h q = h (e ∙ ap refusalNumber q)
+
+-- an accepted step has refusal 0 in its word
+all-well : (a : RenderArea) (m : List ℕ) (s : VdpState) → refusalIn (stepWord (stepped a m s)) ≡ 0
+unfolding stepped
+all-well a m s = step-byte (stepped a m s)
 
 module _ (b : List ℕ) (bytes : (i : ℕ) → at b i < 256) where
   registers : wellFormed b ≡ true → length (stateOf b .reg) ≡ 11
@@ -78,6 +87,16 @@ module _ (b : List ℕ) (bytes : (i : ℕ) → at b i < 256) where
       record {
         word = λ _. omega (arith, number-low r);
         block = λ _. e ∙ ap (λ (n : ℕ). blockLeft n b) (sym (alone r));
+        lent = λ _. refl;
+      }
+
+  -- the same of a step that the device refuses
+  unstepped : wellFormed b ≡ true → (r : Refusal) (x : List ℕ) → b ≡ blockLeft (refusalNumber r) b → LeftBehind b x (steppedTo (refusedStep r (stateOf b)) x)
+  unfolding stepWord
+  unstepped w r x e =
+      record {
+        word = λ _. omega (arith, number-low r);
+        block = λ _. block-back b w bytes ∙ e ∙ ap (λ (n : ℕ). blockLeft n b) (sym (step-byte (refusedStep r (stateOf b))));
         lent = λ _. refl;
       }
 
@@ -117,3 +136,33 @@ module _ (b : List ℕ) (bytes : (i : ℕ) → at b i < 256) where
         lent = λ _. refl;
       })
       (λ _. whole-refused BlockMalformed [] refl)
+
+  -- a step on the device of the block, with x its buffer and x′ what an accepted one leaves there
+  step-left :
+      (w : wellFormed b ≡ true) (need : ℕ) (a : RenderArea) (m x x′ : List ℕ)
+      → LeftBehind b x (steppedTo (stepWith need a m (length x) (stateOf b)) (cond (whole m && leb need (length x)) x′ x))
+  unfolding stepWith
+  step-left w need a m x x′ =
+      let s = stateOf b in
+      let accepted : LeftBehind b x (steppedTo (stepped a m s) x′) = record { word = λ h. absurd (h (all-well a m s)); block = λ h. absurd (h (all-well a m s)); lent = λ h. absurd (h (all-well a m s)) } in
+      split (whole m)
+      (λ e. split (leb need (length x)) (λ f. simp (e, f) accepted) (λ f. simp (e, f) (unstepped w PixelLength x refl)))
+      (λ e. simp e (unstepped w VramLength x refl))
+
+  pub step-behind : (m frame : List ℕ) (n : ℕ) → LeftBehind b frame (stepCall b m frame n)
+  unfolding stepCall frameAfter
+  step-behind m frame n =
+      either (LeftBehind b frame) (wellFormed b)
+      (λ w. either (LeftBehind b frame) (leb n 1)
+      (λ _. step-left w (frameSize (areaFrom n)) (areaFrom n) m frame _)
+      (λ _. whole-refused UnknownArea frame refl))
+      (λ _. whole-refused BlockMalformed frame refl)
+
+  pub row-behind : (m row : List ℕ) (n : ℕ) → LeftBehind b row (rowStepCall b m row n)
+  unfolding rowStepCall rowAfter
+  row-behind m row n =
+      either (LeftBehind b row) (wellFormed b)
+      (λ w. either (LeftBehind b row) (leb n 1)
+      (λ _. step-left w (rowSize (areaFrom n)) (areaFrom n) m row _)
+      (λ _. whole-refused UnknownArea row refl))
+      (λ _. whole-refused BlockMalformed row refl)

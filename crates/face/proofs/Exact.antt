@@ -1,4 +1,5 @@
--- A call of the C face is refused by the first line of its table that holds: 10 exactly where the block is malformed.
+-- A call of the C face is refused by the first line of its table that holds: 10 exactly where the block is malformed, 11 exactly where it is
+-- well formed and the area number is above 1.
 -- Assumes nothing.
 use mathlib.Core.Path.{_≡_, refl, sym, ap, _∙_}
 use mathlib.Core.Logic.{_≢_, _↔_}
@@ -6,18 +7,25 @@ use mathlib.Core.Bool.{Bool, true, false, cond, not, _&&_}
 use mathlib.Core.List.{List, [], _∷_}
 use Prim.Native.Nat.{ℕ, _+_, _*_, _%_, _<_}
 use native.Mathlib.Omega.{arith}
-use borrow.Author.Tests.{eqb-false, not-true}
-use lib.Dec.{eqb}
+use borrow.Author.Tests.{eqb-false, leb-true, leb-false, not-true}
+use lib.Dec.{eqb, leb}
 use lib.ListN.{length}
 use Rattle.laws.proofs.Tests.{split, both, clash}
+use Rattle.picture.specs.declared.RenderArea.{RenderArea}
+use Rattle.picture.specs.Area.{rowSize, frameSize}
+use Rattle.vdp.specs.declared.VdpState.{VdpState}
 use Rattle.vdp.specs.declared.Refusal.{Refusal}
 use Rattle.vdp.specs.declared.Refusal.the-variants.{Accepted, UnknownPort, HorizontalCounter, HighRegister, NothingChosen, PaletteRead, NoPaletteByte, OutsideMemory, VramLength, PixelLength, BlockMalformed, UnknownArea}
-use Rattle.vdp.specs.Refusals.{refusalNumber, Line, first, line, writeLines, readLines}
+use Rattle.vdp.specs.Refusals.{refusalNumber, Line, first, line, whole, writeLines, readLines}
 use Rattle.vdp.specs.Ports.{portWrite, portRead}
 use Rattle.vdp.proofs.Exact.{write-exact, read-exact}
 use Rattle.block.specs.Block.{wellFormed, stateOf}
-use Rattle.face.specs.Face.{newCall, outCall, inputCall}
-use Rattle.face.specs.Refused.{refusalIn, malformed, newLines, outLines, inputLines}
+use Rattle.step.specs.declared.DrawnRow.{DrawnRow}
+use Rattle.step.specs.declared.DrawnRow.the-variants.{NoRow, Drawn}
+use Rattle.step.specs.declared.Stepped.{Stepped}
+use Rattle.step.specs.Step.{stepped, stepWith, rowStep, frameStep}
+use Rattle.face.specs.Face.{rowBits, stepWord, areaFrom, newCall, outCall, inputCall, stepCall, rowStepCall}
+use Rattle.face.specs.Refused.{refusalIn, malformed, newLines, outLines, inputLines, stepLines}
 
 pub number-low : (r : Refusal) → refusalNumber r < 12
 number-low Accepted = omega arith
@@ -58,6 +66,46 @@ input-exact b m p =
     (λ e. simp e (low-byte (portRead (stateOf b) m p .refusal) (portRead (stateOf b) m p .byte) ∙ ap refusalNumber (read-exact (stateOf b) m p)))
     (λ e. simp e)
 
+-- a step's word
+row-byte : (r : DrawnRow) → rowBits r % 256 ≡ 0
+row-byte NoRow = refl
+row-byte (Drawn y) = omega arith
+
+pub step-byte : (s : Stepped) → refusalIn (stepWord s) ≡ refusalNumber (s .refusal)
+unfolding stepWord
+step-byte s = omega (arith, number-low (s .refusal), row-byte (s .row))
+
+with-exact :
+    (need : ℕ) (a : RenderArea) (m : List ℕ) (size : ℕ) (d : VdpState)
+    → stepWith need a m size d .refusal ≡ first (line (not (whole m)) VramLength ∷ line (not (leb need size)) PixelLength ∷ [])
+unfolding stepWith stepped
+with-exact need a m size d = split (whole m) (λ e. split (leb need size) (λ f. simp (e, f)) (λ f. simp (e, f))) (λ e. simp e)
+
+pub step-exact :
+    (b m frame : List ℕ) (n : ℕ)
+    → refusalIn (stepCall b m frame n .word) ≡ refusalNumber (first (stepLines (frameSize (areaFrom n)) b m (length frame) n))
+unfolding stepCall
+step-exact b m frame n =
+    split (wellFormed b)
+    (λ e. split (leb n 1)
+    (λ f.
+    let s = frameStep (areaFrom n) m (length frame) (stateOf b) in
+    simp (e, f) (step-byte s ∙ ap refusalNumber (with-exact (frameSize (areaFrom n)) (areaFrom n) m (length frame) (stateOf b))))
+    (λ f. simp (e, f)))
+    (λ e. simp e)
+
+pub row-exact :
+    (b m row : List ℕ) (n : ℕ) → refusalIn (rowStepCall b m row n .word) ≡ refusalNumber (first (stepLines (rowSize (areaFrom n)) b m (length row) n))
+unfolding rowStepCall
+row-exact b m row n =
+    split (wellFormed b)
+    (λ e. split (leb n 1)
+    (λ f.
+    let s = rowStep (areaFrom n) m (length row) (stateOf b) in
+    simp (e, f) (step-byte s ∙ ap refusalNumber (with-exact (rowSize (areaFrom n)) (areaFrom n) m (length row) (stateOf b))))
+    (λ f. simp (e, f)))
+    (λ e. simp e)
+
 -- ---- 10 exactly where the block is malformed
 -- none of the lines gives number n
 abbrev pub none : ℕ → List Line → Bool
@@ -86,3 +134,33 @@ out-ten b m p v = ten-exactly b (writeLines (stateOf b) m p v) (outCall b m p v 
 
 pub input-ten : (b m : List ℕ) (p : ℕ) → (refusalIn (inputCall b m p .word) ≡ 10) ↔ (wellFormed b ≡ false)
 input-ten b m p = ten-exactly b (readLines (stateOf b) m p) (inputCall b m p .word) refl (input-exact b m p)
+
+-- ---- 11 exactly where the block is well formed and the area number is above 1
+tail : (b m : List ℕ) (need size n : ℕ) → List Line
+tail b m need size n = line (not (leb n 1)) UnknownArea ∷ line (not (whole m)) VramLength ∷ line (not (leb need size)) PixelLength ∷ []
+
+eleven-exactly :
+    (b m : List ℕ) (need size n w : ℕ) → refusalIn w ≡ refusalNumber (first (stepLines need b m size n)) → (refusalIn w ≡ 11) ↔ ((wellFormed b ≡ true) × (1 < n))
+eleven-exactly b m need size n w e =
+    split (wellFormed b)
+    (λ t. split (leb n 1)
+    (λ l. (
+      λ q. absurd (never 11 (line (not (whole m)) VramLength ∷ line (not (leb need size)) PixelLength ∷ []) (λ z. omega arith) refl (sym (simp (t, l) at e) ∙ q)),
+      λ h. let k = leb-true n 1 l in absurd (omega (arith, h .1)),
+    ))
+    (λ l. (λ q. (t, leb-false n 1 l), λ h. simp (t, l) at e)))
+    (λ f. (λ q. absurd (let k = simp f at e in omega (arith, k, q)), λ h. clash (sym (h .0) ∙ f)))
+
+pub step-ten : (b m frame : List ℕ) (n : ℕ) → (refusalIn (stepCall b m frame n .word) ≡ 10) ↔ (wellFormed b ≡ false)
+unfolding tail
+step-ten b m frame n = ten-exactly b (tail b m (frameSize (areaFrom n)) (length frame) n) (stepCall b m frame n .word) refl (step-exact b m frame n)
+
+pub row-ten : (b m row : List ℕ) (n : ℕ) → (refusalIn (rowStepCall b m row n .word) ≡ 10) ↔ (wellFormed b ≡ false)
+unfolding tail
+row-ten b m row n = ten-exactly b (tail b m (rowSize (areaFrom n)) (length row) n) (rowStepCall b m row n .word) refl (row-exact b m row n)
+
+pub step-eleven : (b m frame : List ℕ) (n : ℕ) → (refusalIn (stepCall b m frame n .word) ≡ 11) ↔ ((wellFormed b ≡ true) × (1 < n))
+step-eleven b m frame n = eleven-exactly b m (frameSize (areaFrom n)) (length frame) n (stepCall b m frame n .word) (step-exact b m frame n)
+
+pub row-eleven : (b m row : List ℕ) (n : ℕ) → (refusalIn (rowStepCall b m row n .word) ≡ 11) ↔ ((wellFormed b ≡ true) × (1 < n))
+row-eleven b m row n = eleven-exactly b m (rowSize (areaFrom n)) (length row) n (rowStepCall b m row n .word) (row-exact b m row n)

@@ -3,24 +3,36 @@
 use mathlib.Core.Path.{_≡_, refl, sym, ap, _∙_}
 use mathlib.Core.Bool.{Bool, true, false}
 use mathlib.Core.List.{List, []}
-use Prim.Native.Nat.{ℕ, _+_, _*_}
-use borrow.Author.Tests.{eq-eqb, ne-eqb}
+use Prim.Native.Nat.{ℕ, _+_, _*_, _<_, _≤_}
+use borrow.Author.Tests.{eq-eqb, ne-eqb, le-leb, lt-leb}
 use lib.ListN.{length}
+use Rattle.picture.specs.declared.RenderArea.{RenderArea}
 use Rattle.vdp.specs.declared.VdpState.{VdpState}
 use Rattle.vdp.specs.declared.Written.{Written}
 use Rattle.vdp.specs.declared.ReadBack.{ReadBack}
-use Rattle.vdp.specs.declared.Refusal.the-variants.{Accepted, BlockMalformed}
+use Rattle.vdp.specs.declared.Refusal.the-variants.{Accepted, BlockMalformed, UnknownArea}
 use Rattle.vdp.specs.Device.{fresh}
 use Rattle.vdp.specs.Refusals.{refusalNumber}
 use Rattle.vdp.specs.Ports.{WriteLeaves, portRead}
 use Rattle.block.specs.declared.Decoded.{Decoded}
 use Rattle.block.specs.Block.{wellFormed, stateOf, blockOf, decoded, encoded}
 use Rattle.block.proofs.Whole.{good-is, device-is, encoded-is}
-use Rattle.face.specs.Face.{Called, Leaves, refused, onBlock, newCall, outOn, outCall, inputOn, inputCall}
+use Rattle.step.specs.declared.Stepped.{Stepped}
+use Rattle.step.specs.Frame.{RowStepLeaves, FrameStepLeaves}
+use Rattle.face.specs.Face.{Called, Leaves, refused, stepWord, onBlock, areaFrom, onArea, newCall, outOn, outCall, inputOn, inputCall, stepOn, stepCall, rowStepOn, rowStepCall}
 
 -- what is left, by a path from it to what the definition says
 leaves : {c k : Called} → c ≡ k → Leaves k (c .word) (c .block) (c .lent)
 leaves p = record { word = ap (λ (x : Called). x .word) p; block = ap (λ (x : Called). x .block) p; lent = ap (λ (x : Called). x .lent) p }
+
+-- the same of what the definition equals
+along : {c k : Called} {r : ℕ} {b x : List ℕ} → c ≡ k → Leaves c r b x → Leaves k r b x
+along p l =
+    record {
+      word = l .word ∙ ap (λ (x : Called). x .word) p;
+      block = l .block ∙ ap (λ (x : Called). x .block) p;
+      lent = l .lent ∙ ap (λ (x : Called). x .lent) p;
+    }
 
 -- ---- a fresh block
 module _ (b : List ℕ) where
@@ -63,7 +75,7 @@ module _ (b : List ℕ) {d : Decoded} (e : d ≡ decoded b) where
       → n ≡ refusalNumber (a .refusal) → Leaves (outCall b m p v) n b′ m′
   unfolding outCall
   out-done g m p v {a} l eb en =
-      rw (← on g m (outOn m p v))
+      along (on g m (outOn m p v))
       (record {
         word = en ∙ ap (λ (x : Written). refusalNumber (x .refusal)) (l .answer);
         block = kept g (a .vdp) eb ∙ ap (λ (x : Written). blockOf (x .vdp)) (l .answer);
@@ -79,9 +91,63 @@ module _ (b : List ℕ) {d : Decoded} (e : d ≡ decoded b) where
       → n ≡ refusalNumber (a .refusal) → Leaves (inputCall b m p) (n + 256 * a .byte) b′ []
   unfolding inputCall
   input-done g m p {a} ea eb en =
-      rw (← on g [] (inputOn m p))
+      along (on g [] (inputOn m p))
       (record {
         word = ap (λ (x : ℕ). x + 256 * a .byte) en ∙ ap (λ (x : ReadBack). refusalNumber (x .refusal) + 256 * x .byte) ea;
         block = kept g (a .vdp) eb ∙ ap (λ (x : ReadBack). blockOf (x .vdp)) ea;
         lent = refl;
+      })
+
+  -- ---- then the area number
+  abbrev inArea : ℕ → List ℕ → (VdpState → RenderArea → Called) → VdpState → Called
+  inArea n x call s = onArea n b x (call s)
+
+  eleven :
+      d .good ≡ true → (x : List ℕ) (n : ℕ) → 1 < n → (call : VdpState → RenderArea → Called) {r : ℕ} → r ≡ refusalNumber UnknownArea
+      → Leaves (onBlock b x (inArea n x call)) r b x
+  eleven g x n h call er = rw er (leaves (sym (rw (lt-leb n 1 h)) ∙ on g x (inArea n x call)))
+
+  chosen :
+      d .good ≡ true → (x : List ℕ) (n : ℕ) → n ≤ 1 → (call : VdpState → RenderArea → Called) {a : RenderArea} → a ≡ areaFrom n
+      → call (d .vdp) a ≡ onBlock b x (inArea n x call)
+  chosen g x n h call ea = ap (call (d .vdp)) ea ∙ sym (rw (le-leb n 1 h)) ∙ on g x (inArea n x call)
+
+  pub step-ten : d .good ≡ false → (m frame : List ℕ) (n : ℕ) {r : ℕ} → r ≡ refusalNumber BlockMalformed → Leaves (stepCall b m frame n) r b frame
+  unfolding stepCall
+  step-ten g m frame n er = ten g frame (inArea n frame (stepOn m frame)) er
+
+  pub step-eleven : d .good ≡ true → (m frame : List ℕ) (n : ℕ) → 1 < n → {r : ℕ} → r ≡ refusalNumber UnknownArea → Leaves (stepCall b m frame n) r b frame
+  unfolding stepCall
+  step-eleven g m frame n h er = eleven g frame n h (stepOn m frame) er
+
+  pub step-done :
+      d .good ≡ true → (m frame : List ℕ) (n : ℕ) → n ≤ 1 → {a : RenderArea} {s : Stepped} {frame′ b′ : List ℕ} {w : ℕ} → a ≡ areaFrom n
+      → FrameStepLeaves a m (d .vdp) frame s frame′ → b′ ≡ encoded (s .vdp) b → w ≡ stepWord s → Leaves (stepCall b m frame n) w b′ frame′
+  unfolding stepCall
+  step-done g m frame n h {s = s} ea l eb ew =
+      along (chosen g frame n h (stepOn m frame) ea)
+      (record {
+        word = ew ∙ ap stepWord (l .answer);
+        block = kept g (s .vdp) eb ∙ ap (λ (x : Stepped). blockOf (x .vdp)) (l .answer);
+        lent = l .bytes;
+      })
+
+  pub row-ten : d .good ≡ false → (m row : List ℕ) (n : ℕ) {r : ℕ} → r ≡ refusalNumber BlockMalformed → Leaves (rowStepCall b m row n) r b row
+  unfolding rowStepCall
+  row-ten g m row n er = ten g row (inArea n row (rowStepOn m row)) er
+
+  pub row-eleven : d .good ≡ true → (m row : List ℕ) (n : ℕ) → 1 < n → {r : ℕ} → r ≡ refusalNumber UnknownArea → Leaves (rowStepCall b m row n) r b row
+  unfolding rowStepCall
+  row-eleven g m row n h er = eleven g row n h (rowStepOn m row) er
+
+  pub row-done :
+      d .good ≡ true → (m row : List ℕ) (n : ℕ) → n ≤ 1 → {a : RenderArea} {s : Stepped} {row′ b′ : List ℕ} {w : ℕ} → a ≡ areaFrom n
+      → RowStepLeaves a m (d .vdp) row s row′ → b′ ≡ encoded (s .vdp) b → w ≡ stepWord s → Leaves (rowStepCall b m row n) w b′ row′
+  unfolding rowStepCall
+  row-done g m row n h {s = s} ea l eb ew =
+      along (chosen g row n h (rowStepOn m row) ea)
+      (record {
+        word = ew ∙ ap stepWord (l .answer);
+        block = kept g (s .vdp) eb ∙ ap (λ (x : Stepped). blockOf (x .vdp)) (l .answer);
+        lent = l .bytes;
       })

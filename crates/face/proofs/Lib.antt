@@ -2,3 +2,5 @@
 pub mod Laws
 pub mod Exact
 pub mod Behind
+pub mod Shapes
+pub mod Blocks

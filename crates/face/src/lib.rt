@@ -3,7 +3,13 @@ ghost use mathlib.Core.List.{[]};
 ghost use mathlib.Core.Path.{_≡_};
 ghost use Prim.Native.Nat.{_+_, _*_, _<_};
 ghost use Rattle.vdp.specs.Refusals.{refusalNumber};
-ghost use Rattle.face.specs.Face.{newCall, outCall, inputCall, Leaves};
+ghost use Rattle.step.specs.Step.{interruptNumber, reportNumber};
+ghost use Rattle.face.specs.Face.{rowBits, stepWord, areaFrom, newCall, outCall, inputCall, stepCall, rowStepCall, Leaves};
+use picture::RenderArea;
+use step::DisplayRefresh;
+use step::DrawnRow;
+use step::Stepped;
+use step::VdpInt;
 use vdp::Refusal;
 use vdp::VdpState;
 
@@ -24,6 +30,59 @@ fn number(r: Refusal) -> u32
         Refusal::PixelLength => 9,
         Refusal::BlockMalformed => 10,
         Refusal::UnknownArea => 11,
+    }
+}
+
+// The parts of a step's answer: interrupt, report, and the row with the drawn bit.
+fn interrupt_number(i: VdpInt) -> u32
+    ensures { λ n. ⌜ (n ≡ interruptNumber i) × (n < 2) ⌝ }
+{
+    match i {
+        VdpInt::NoInterrupt => 0,
+        VdpInt::InterruptGenerated => 1,
+    }
+}
+
+fn report_number(r: DisplayRefresh) -> u32
+    ensures { λ n. ⌜ (n ≡ reportNumber r) × (n < 3) ⌝ }
+{
+    match r {
+        DisplayRefresh::NoDisplay => 0,
+        DisplayRefresh::ScreenDone => 1,
+        DisplayRefresh::ScreenDoneNoRefresh => 2,
+    }
+}
+
+fn row_bits(r: DrawnRow) -> u32
+    ensures { λ n. ⌜ (n ≡ rowBits r) × (n < 33554432) ⌝ }
+{
+    match r {
+        DrawnRow::NoRow => 0,
+        DrawnRow::Drawn(y) => 65536 * (y as u32) + 16777216,
+    }
+}
+
+fn word_of(s: Stepped) -> u32
+    ensures { λ r. ⌜ r ≡ stepWord s ⌝ }
+{
+    let refusal = s.refusal;
+    let interrupt = s.interrupt;
+    let report = s.report;
+    let row = s.row;
+    number(refusal)
+        + 256 * interrupt_number(interrupt)
+        + 512 * report_number(report)
+        + row_bits(row)
+}
+
+// The area of a number that is not above 1.
+fn area_from(n: u8) -> RenderArea
+    ensures { λ r. ⌜ r ≡ areaFrom n ⌝ }
+{
+    if n == 0 {
+        RenderArea::VisibleOnly
+    } else {
+        RenderArea::EffectiveArea
     }
 }
 
@@ -71,4 +130,42 @@ pub extern "C" fn vdp_input(state: &mut [u8], vram: &[u8], port: u16) -> u32
     block::encode(next, state);
     let refusal = a.refusal;
     number(refusal) + 256 * (a.byte as u32)
+}
+
+// A step, whose row goes to its place in the frame.
+#[no_mangle]
+pub extern "C" fn vdp_step(state: &mut [u8], vram: &[u8], frame: &mut [u8], area: u8) -> u32
+    ensures { λ r. ⌜ Leaves (stepCall (now (state .entry)) (now (vram .entry)) (now (frame .entry)) area) r (now (state .exit)) (now (frame .exit)) ⌝ }
+{
+    let d = block::decode(state);
+    if !d.good {
+        return number(Refusal::BlockMalformed);
+    }
+    if 1 < area {
+        return number(Refusal::UnknownArea);
+    }
+    let vdp = d.vdp;
+    let s = step::frame_step(vdp, vram, frame, area_from(area));
+    let next = s.vdp;
+    block::encode(next, state);
+    word_of(s)
+}
+
+// A step, whose row goes to the first bytes of the row buffer.
+#[no_mangle]
+pub extern "C" fn vdp_row_step(state: &mut [u8], vram: &[u8], row: &mut [u8], area: u8) -> u32
+    ensures { λ r. ⌜ Leaves (rowStepCall (now (state .entry)) (now (vram .entry)) (now (row .entry)) area) r (now (state .exit)) (now (row .exit)) ⌝ }
+{
+    let d = block::decode(state);
+    if !d.good {
+        return number(Refusal::BlockMalformed);
+    }
+    if 1 < area {
+        return number(Refusal::UnknownArea);
+    }
+    let vdp = d.vdp;
+    let s = step::row_step(vdp, vram, row, area_from(area));
+    let next = s.vdp;
+    block::encode(next, state);
+    word_of(s)
 }

@@ -1,0 +1,70 @@
+-- A step keeps the shape that the block asks of a device.
+-- Assumes nothing.
+use mathlib.Core.Path.{_≡_}
+use mathlib.Core.Bool.{Bool}
+use mathlib.Core.List.{List}
+use Prim.Native.Nat.{ℕ, _+_, _*_, _<_, _≤_}
+use native.Mathlib.Decide.{decLt}
+use native.Mathlib.Omega.{arith}
+use lib.Dec.{leb}
+use lib.ListN.{length, List·getD-eq-default}
+use Rattle.laws.specs.Lists.{at}
+use Rattle.laws.proofs.Tests.{either}
+use Rattle.colour.specs.Colour.{colour, coloursOf}
+use Rattle.colour.proofs.Laws.{length-colours, colours-at}
+use Rattle.picture.specs.declared.RenderArea.{RenderArea}
+use Rattle.vdp.specs.declared.VdpState.{VdpState}
+use Rattle.vdp.specs.Refusals.{whole}
+use Rattle.block.specs.Block.{Shape}
+use Rattle.block.proofs.Shapes.{carried}
+use Rattle.step.specs.declared.DrawnRow.{DrawnRow}
+use Rattle.step.specs.declared.DrawnRow.the-variants.{NoRow, Drawn}
+use Rattle.step.specs.declared.Stepped.{Stepped}
+use Rattle.step.specs.Step.{lineOf, advance, rowOn, coloursNow, drawnBy, draw, endScreen, stepped, stepWith}
+
+-- a colour of two bytes fits 32 bits
+colour-low : (a b : ℕ) → a < 256 → colour a b < 4294967296
+unfolding colour
+colour-low a b h = omega arith
+
+colours-low : (p : List ℕ) → ((i : ℕ) → at p i < 256) → (i : ℕ) → at (coloursOf p) i < 4294967296
+colours-low p h i =
+    elim (decLt i 32) [
+      | yes l ↦ rw (colours-at p i l) (colour-low (at p (2 * i)) (at p (2 * i + 1)) (h (2 * i)))
+      | no l ↦ let n : length (coloursOf p) ≤ i = omega (arith, length-colours p) in rw (List·getD-eq-default (coloursOf p) 0 n) (omega arith)
+    ]
+
+-- the colours that a step draws with
+record Coloured (cache : List ℕ) : Type 0 where
+  size : length cache ≡ 32
+  low : (i : ℕ) → at cache i < 4294967296
+
+coloured : (d : VdpState) → Shape d → Coloured (coloursNow d)
+coloured d g =
+    either Coloured (d .«cram_dirty»)
+    (λ _. record { size = length-colours (d .cram); low = colours-low (d .cram) (g .byte) })
+    (λ _. record { size = g .cache; low = g .colour })
+
+drawn-shape : (r : DrawnRow) (a : RenderArea) (m : List ℕ) (d : VdpState) → Shape d → Shape (drawnBy r a m d)
+unfolding drawnBy
+drawn-shape NoRow a m d g = g
+drawn-shape (Drawn y) a m d g =
+    let c = coloured d g in
+    record { registers = g .registers; palette = g .palette; cache = c .size; byte = g .byte; latched = g .latched; colour = c .low }
+
+ended-shape : (d : VdpState) → Shape d → Shape (endScreen d)
+unfolding endScreen
+ended-shape d g = carried g _ _ _ _ _ _ _
+
+pub step-shape : (a : RenderArea) (m : List ℕ) (d : VdpState) → Shape d → Shape (stepped a m d .vdp)
+unfolding stepped
+step-shape a m d g = carried (ended-shape (draw a m (advance d)) (drawn-shape (rowOn a (lineOf (advance d))) a m (advance d) (carried g _ _ _ _ _ _ _))) _ _ _ _ _ _ _
+
+abbrev ShapeS : Stepped → Type 0
+ShapeS s = Shape (s .vdp)
+
+-- a step with any buffer, refused or not
+pub with-shape : (need : ℕ) (a : RenderArea) (m : List ℕ) (size : ℕ) (d : VdpState) → Shape d → Shape (stepWith need a m size d .vdp)
+unfolding stepWith
+with-shape need a m size d g =
+    either ShapeS (whole m) (λ _. either ShapeS (leb need size) (λ _. step-shape a m d g) (λ _. g)) (λ _. g)
