@@ -1,2 +1,5 @@
 -- Laws that belong to no one function.
 pub mod Lines
+pub mod Turns
+pub mod Runs
+pub mod Outputs

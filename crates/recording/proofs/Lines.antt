@@ -50,6 +50,12 @@ decimal-short n =
     (λ _. either P (ltb n 100) (λ _. lit≤ tt)
     (λ _. either P (ltb n 1000) (λ _. lit≤ tt) (λ _. either P (ltb n 10000) (λ _. lit≤ tt) (λ _. lit≤ tt))))
 
+-- what was written, said in another way
+pub put-as :
+    (o : List ℕ) (at : ℕ) {x y o′ : List ℕ} {r : ℕ} → x ≡ y → (r ≡ at + length x) × (o′ ≡ written o at x)
+    → (r ≡ at + length y) × (o′ ≡ written o at y)
+put-as o at e h = (h .0 ∙ ap (λ (l : List ℕ). at + length l) e, h .1 ∙ ap (written o at) e)
+
 -- the line of an answer, by its cases: what was written is that line
 pub wrote-line : (f : Refusal) {n : ℕ} → n ≡ refusalNumber f → numbered (0x77 ∷ 0x20 ∷ []) n ≡ lineOf (Wrote f)
 unfolding lineOf
@@ -58,13 +64,21 @@ wrote-line f e = ap (numbered (0x77 ∷ 0x20 ∷ [])) e
 pub line-done :
     (o : List ℕ) (at : ℕ) {a b : Answer} {x o′ : List ℕ} {r : ℕ} → a ≡ b → x ≡ lineOf b → (r ≡ at + length x) × (o′ ≡ written o at x)
     → (r ≡ at + length (lineOf a)) × (o′ ≡ written o at (lineOf a))
-line-done o at {a} {b} {x} e f h =
-    let g : x ≡ lineOf a = f ∙ ap lineOf (sym e) in
-    (h .0 ∙ ap (λ (l : List ℕ). at + length l) g, h .1 ∙ ap (written o at) g)
+line-done o at e f h = put-as o at (f ∙ ap lineOf (sym e)) h
 
 pub no-line : (o : List ℕ) (at : ℕ) {a : Answer} → a ≡ Nothing → (at ≡ at + length (lineOf a)) × (o ≡ written o at (lineOf a))
 unfolding lineOf
 no-line o at e = line-done o at {x = []} e refl (omega arith, sym (written-nil o at))
+
+-- a text from the start of o on, and one more piece of it
+pub grow :
+    (o l m : List ℕ) {n n′ : ℕ} {o′ o″ : List ℕ} → length l ≤ length o → n ≡ length l → o′ ≡ written o 0 l
+    → (n′ ≡ n + length m) × (o″ ≡ written o′ n m) → (n′ ≡ length (l ++ m)) × (o″ ≡ written o 0 (l ++ m))
+grow o l m {n} {n′} {o′} {o″} room en eo p =
+    let b : n ≡ 0 + length l = omega arith in (
+      p .0 ∙ ap (λ (k : ℕ). k + length m) en ∙ sym (length-append l m),
+      p .1 ∙ ap (λ (y : List ℕ). written y n m) eo ∙ written-on o 0 l m b (omega arith),
+    )
 
 -- three texts, side by side
 pub three-writes :

@@ -1,6 +1,10 @@
-// A recording of port calls and steps: its records, and the text that it prints.
+// A recording of port calls and steps: its records, what it does, the text that it prints and the picture that it draws.
+mod output;
 mod record;
+mod run;
 mod text;
 
+pub use output::snapshot;
+pub use output::trace;
 pub use record::Record;
 pub use record::record_at;

@@ -35,7 +35,7 @@ fn digit(n: usize) -> u8
 }
 
 // The bytes of src into out at `at`, and the place behind them.
-fn put_all(out: &mut [u8], at: usize, src: &[u8]) -> usize
+pub fn put_all(out: &mut [u8], at: usize, src: &[u8]) -> usize
     requires { ⌜ at + length (now src) ≤ length (now out) ⌝ }
     ensures { λ r. ⌜ r ≡ at + length (now (src .entry)) ⌝ }
     ensures { λ _. ⌜ now (out .exit) ≡ written (now (out .entry)) at (now (src .entry)) ⌝ }
@@ -124,7 +124,7 @@ fn report_number(report: DisplayRefresh) -> usize
 }
 
 // A word with a space after it, a number, and the end of the line.
-fn put_numbered(out: &mut [u8], at: usize, word: &[u8], n: usize) -> usize
+pub fn put_numbered(out: &mut [u8], at: usize, word: &[u8], n: usize) -> usize
     requires { ⌜ at + length (now word) + 6 ≤ length (now out) ⌝ }
     ensures { λ r. ⌜ r ≡ at + length (numbered (now (word .entry)) n) ⌝ }
     ensures { λ _. ⌜ now (out .exit) ≡ written (now (out .entry)) at (numbered (now (word .entry)) n) ⌝ }

@@ -1,0 +1,198 @@
+-- A whole recording, record by record: what bounds hold, and how the world and the text grow.
+-- Assumes nothing.
+use mathlib.Core.Path.{_≡_, refl, sym, ap, _∙_}
+use mathlib.Core.List.{List, [], _∷_, _++_}
+use Prim.Native.Nat.{ℕ, zero, suc, _+_, _-_, _*_, _/_, _%_, _<_, _≤_}
+use native.Mathlib.Numerals.{add-one}
+use native.Mathlib.Omega.{arith}
+use borrow.Author.Tests.{ltb-false}
+use lib.Dec.{ltb, leb, eqb, lit≤}
+use lib.ListN.{length, length-append}
+use Rattle.laws.specs.Lists.{at, written}
+use Rattle.laws.proofs.Tests.{either}
+use Rattle.picture.specs.declared.RenderArea.{RenderArea}
+use Rattle.picture.specs.declared.RenderArea.the-variants.{VisibleOnly, EffectiveArea}
+use Rattle.vdp.specs.declared.Refusal.{Refusal}
+use Rattle.vdp.specs.Refusals.{refusalNumber}
+use Rattle.vdp.specs.Ports.{portWrite, portRead}
+use Rattle.step.specs.declared.Stepped.{Stepped}
+use Rattle.step.specs.declared.VdpInt.{VdpInt}
+use Rattle.step.specs.declared.VdpInt.the-variants.{NoInterrupt, InterruptGenerated}
+use Rattle.step.specs.declared.DisplayRefresh.{DisplayRefresh}
+use Rattle.step.specs.declared.DisplayRefresh.the-variants.{NoDisplay, ScreenDone, ScreenDoneNoRefresh}
+use Rattle.step.specs.Step.{interruptNumber, reportNumber, rowStep, frameStep}
+use Rattle.recording.specs.declared.record.Record.{Record}
+use Rattle.recording.specs.declared.record.Record.the-variants.{Write, Read, Step, Bad, End}
+use Rattle.recording.specs.declared.text.Answer.{Answer}
+use Rattle.recording.specs.declared.text.Answer.the-variants as Says
+use Rattle.recording.specs.declared.run.Run.{Run}
+use Rattle.recording.specs.declared.run.Turned.{Turned}
+use Rattle.recording.specs.Record.{recordAt, marked}
+use Rattle.recording.specs.Text.{digitOf, decimal, hexDigit, lineOf}
+use Rattle.recording.specs.Run.{World, Turn, held, stepAnswer, rowTurn, frameTurn, turnBy, turnOf, after, lines, TurnLeaves}
+use Rattle.recording.proofs.Lines.{decimal-short, one, grow}
+
+-- ---- how long a record is, and how long its line
+abbrev pub size : Record → ℕ
+size (Write p v) = 4
+size (Read p) = 3
+size (Step a) = 3
+size Bad = 0
+size End = 0
+
+-- a record lies in the recording
+pub fits : (s : List ℕ) (k : ℕ) → size (recordAt s k) ≤ length s - k
+unfolding recordAt marked
+fits s k =
+    let n = length s - k in
+    let m = 256 * at s k + at s (k + 1) in
+    let P : Record → Type 0 = λ r. size r ≤ n in
+    either P (leb (length s) k) (λ _. omega arith)
+    (λ _.
+    either P (ltb n 3) (λ _. omega arith)
+    (λ e.
+    let h : 3 ≤ n = ltb-false n 3 e in
+    either P (eqb m 0x5057) (λ _. either P (ltb n 4) (λ _. omega arith) (λ f. ltb-false n 4 f))
+    (λ _.
+    either P (eqb m 0x5052) (λ _. h)
+    (λ _. either P (eqb m 0x4C53) (λ _. either P (ltb 1 (at s (k + 2))) (λ _. omega arith) (λ _. h)) (λ _. omega arith)))))
+
+pub wrote-short : (f : Refusal) → length (lineOf (Says.Wrote f)) ≤ 8
+unfolding lineOf
+wrote-short f = simp length-append (omega (arith, decimal-short (refusalNumber f)))
+
+pub gave-short : (f : Refusal) (b : ℕ) → length (lineOf (Says.Gave f b)) ≤ 11
+unfolding lineOf
+gave-short f b = simp length-append (omega (arith, decimal-short (refusalNumber f)))
+
+interrupt-one : (i : VdpInt) → interruptNumber i < 10
+interrupt-one NoInterrupt = lit≤ tt
+interrupt-one InterruptGenerated = lit≤ tt
+
+report-one : (d : DisplayRefresh) → reportNumber d < 10
+report-one NoDisplay = lit≤ tt
+report-one ScreenDone = lit≤ tt
+report-one ScreenDoneNoRefresh = lit≤ tt
+
+-- the line of a step behind its refusal
+abbrev rest : ℕ → VdpInt → DisplayRefresh → List ℕ
+rest c i d = 0x20 ∷ hexDigit (c / 16) ∷ hexDigit (c % 16) ∷ 0x20 ∷ digitOf (interruptNumber i) ∷ 0x20 ∷ digitOf (reportNumber d) ∷ 0x0A ∷ []
+
+stepped-line :
+    (f : Refusal) (c : ℕ) (i : VdpInt) (d : DisplayRefresh) → lineOf (Says.Stepped f c i d) ≡ 0x73 ∷ 0x20 ∷ (decimal (refusalNumber f) ++ rest c i d)
+unfolding lineOf
+stepped-line f c i d = rw (one (interruptNumber i) (interrupt-one i), one (reportNumber d) (report-one d))
+
+pub stepped-short : (f : Refusal) (c : ℕ) (i : VdpInt) (d : DisplayRefresh) → length (lineOf (Says.Stepped f c i d)) ≤ 15
+stepped-short f c i d =
+    let n = refusalNumber f in
+    let k = ap length (stepped-line f c i d) ∙ ap (λ (m : ℕ). suc (suc m)) (length-append (decimal n) (rest c i d)) in
+    omega (arith, decimal-short n)
+
+-- ---- both ways to make a step move one record and three bytes on, and print a short line
+pub record Moves (step : RenderArea → World → Turn) : Type 0 where
+  pub place : (a : RenderArea) (w : World) → step a w .world .run .at ≡ w .run .at + 3
+  pub counts : (a : RenderArea) (w : World) → step a w .world .run .count ≡ w .run .count + 1
+  pub short : (a : RenderArea) (w : World) → length (lineOf (step a w .answer)) ≤ 15
+
+answer-short : (s : Stepped) → length (lineOf (stepAnswer s)) ≤ 15
+answer-short s = stepped-short (s .refusal) (s .vdp .raster .«v_counter») (s .interrupt) (s .report)
+
+pub row-moves : Moves rowTurn
+unfolding rowTurn
+row-moves =
+    record {
+      place = λ a w. refl;
+      counts = λ a w. refl;
+      short = λ a w. answer-short (rowStep a (w .vram) (length (w .row)) (w .run .vdp));
+    }
+
+pub frame-moves : Moves frameTurn
+unfolding frameTurn
+frame-moves = record { place = place; counts = counts; short = short }
+  where
+    place : (a : RenderArea) (w : World) → frameTurn a w .world .run .at ≡ w .run .at + 3
+    place VisibleOnly w = refl
+    place EffectiveArea w = row-moves .place EffectiveArea w
+
+    counts : (a : RenderArea) (w : World) → frameTurn a w .world .run .count ≡ w .run .count + 1
+    counts VisibleOnly w = refl
+    counts EffectiveArea w = row-moves .counts EffectiveArea w
+
+    short : (a : RenderArea) (w : World) → length (lineOf (frameTurn a w .answer)) ≤ 15
+    short VisibleOnly w = answer-short (frameStep VisibleOnly (w .vram) (length (w .frame)) (w .run .vdp))
+    short EffectiveArea w = row-moves .short EffectiveArea w
+
+-- ---- a run stays in its recording, and prints at most five bytes for each byte that it has read
+pub record Small (n : ℕ) (r : Run) (t : List ℕ) : Type 0 where
+  pub inside : r .at ≤ n
+  pub counted : r .count ≤ r .at
+  pub short : length t ≤ 5 * r .at
+
+still : (n : ℕ) (r : Run) (t : List ℕ) → Small n r t → Small n r (t ++ lineOf Says.Nothing)
+unfolding lineOf
+still n r t g = record { inside = g .inside; counted = g .counted; short = simp length-append (omega (arith, g .short)) }
+
+pub small-start : (n : ℕ) (r : Run) → r .at ≡ 0 → r .count ≡ 0 → Small n r []
+small-start n r e f = record { inside = omega arith; counted = omega arith; short = omega arith }
+
+module _ {step : RenderArea → World → Turn} (moves : Moves step) where
+  small-by :
+      (x : Record) (n : ℕ) (w : World) (t : List ℕ) → size x ≤ n - w .run .at → Small n (w .run) t
+      → Small n (turnBy x step w .world .run) (t ++ lineOf (turnBy x step w .answer))
+  unfolding turnBy
+  small-by (Write p v) n w t h g =
+      let i = g .inside in
+      let k = g .counted in
+      let s = g .short in
+      record { inside = omega arith; counted = omega arith; short = simp length-append (omega (arith, wrote-short (portWrite (w .run .vdp) (w .vram) p v .answer .refusal))) }
+  small-by (Read p) n w t h g =
+      let i = g .inside in
+      let k = g .counted in
+      let s = g .short in
+      let a = portRead (w .run .vdp) (w .vram) p in
+      record { inside = omega arith; counted = omega arith; short = simp length-append (omega (arith, gave-short (a .refusal) (a .byte))) }
+  small-by (Step a) n w t h g =
+      let i = g .inside in
+      let k = g .counted in
+      let s = g .short in
+      let p = moves .place a w in
+      let c = moves .counts a w in
+      record { inside = omega arith; counted = omega arith; short = simp length-append (omega (arith, moves .short a w)) }
+  small-by Bad n w t h g = still n (w .run) t g
+  small-by End n w t h g = still n (w .run) t g
+
+  pub small : (i : ℕ) (s : List ℕ) (w : World) → Small (length s) (w .run) [] → Small (length s) (after step i s w .run) (lines step i s w)
+  unfolding after lines turnOf
+  small zero s w g = g
+  small (suc i) s w g =
+      let x = after step i s w in
+      small-by (recordAt s (x .run .at)) (length s) x (lines step i s w) (fits s (x .run .at)) (small i s w g)
+
+  pub ran-small :
+      (i : ℕ) (s : List ℕ) (w : World) {x : World} → x ≡ after step i s w → w .run .at ≡ 0 → w .run .count ≡ 0
+      → Small (length s) (x .run) (lines step i s w)
+  ran-small i s w e p q = rw e (small i s w (small-start (length s) (w .run) p q))
+
+-- ---- one turn of the code's loop
+module _ (step : RenderArea → World → Turn) (s : List ℕ) (w : World) (i : ℕ) {x : World} (e : x ≡ after step i s w) where
+  pub world-more : {t : Turned} {vram row frame : List ℕ} → TurnLeaves (turnOf step s x) t vram row frame → held (t .run) vram row frame ≡ after step (i + 1) s w
+  unfolding after
+  world-more h = h .world ∙ ap (λ (y : World). turnOf step s y .world) e ∙ rw add-one
+
+  line-is : {t : Turned} {vram row frame : List ℕ} → TurnLeaves (turnOf step s x) t vram row frame → lines step i s w ++ lineOf (t .answer) ≡ lines step (i + 1) s w
+  unfolding lines
+  line-is h =
+      ap (λ (a : Answer). lines step i s w ++ lineOf a) (h .answer)
+      ∙ ap (λ (y : World). lines step i s w ++ lineOf (turnOf step s y .answer)) e
+      ∙ rw add-one
+
+  pub text-more :
+      (o : List ℕ) {t : Turned} {vram row frame : List ℕ} {n n′ : ℕ} {o′ o″ : List ℕ} → TurnLeaves (turnOf step s x) t vram row frame
+      → length (lines step i s w) ≤ length o → n ≡ length (lines step i s w) → o′ ≡ written o 0 (lines step i s w)
+      → (n′ ≡ n + length (lineOf (t .answer))) × (o″ ≡ written o′ n (lineOf (t .answer)))
+      → (n′ ≡ length (lines step (i + 1) s w)) × (o″ ≡ written o 0 (lines step (i + 1) s w))
+  text-more o {t} h room en eo p =
+      let q = line-is h in
+      let g = grow o (lines step i s w) (lineOf (t .answer)) room en eo p in
+      (g .0 ∙ ap length q, g .1 ∙ ap (written o 0) q)

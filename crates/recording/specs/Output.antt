@@ -1,0 +1,89 @@
+-- Document 01, "Added faces": the bytes that `trace` prints, and the picture that `snapshot` writes.
+-- Assumes nothing.
+use mathlib.Core.Path.{_≡_}
+use mathlib.Core.Bool.{Bool, cond, _&&_}
+use mathlib.Core.List.{List, [], _∷_, _++_}
+use Prim.Native.Nat.{ℕ, zero, suc, _+_, _*_}
+use lib.Dec.{ltb, leb}
+use lib.ListN.{length}
+use Rattle.laws.specs.Lists.{at, written}
+use Rattle.picture.specs.declared.RenderArea.{RenderArea}
+use Rattle.recording.specs.declared.run.Run.{Run}
+use Rattle.recording.specs.Text.{endLine, badLine, longLine}
+use Rattle.recording.specs.Run.{World, Turn, rowTurn, frameTurn, lines, ran, start}
+
+-- "reads standard input, up to 65,535 bytes (more: it prints only `long`)"
+abbrev pub tooLong : List ℕ → Bool
+tooLong s = ltb 65535 (length s)
+
+-- whether a run came to the end of the recording; if not, it stands at a bad record
+abbrev pub ended : List ℕ → Run → Bool
+ended s run = leb (length s) (run .at)
+
+-- "At the close `end` and the record count; at an unknown mark, area above 1 or cut record, `bad` and the offset of that record's first byte"
+unfoldable pub lastLine : List ℕ → Run → List ℕ
+lastLine s run = cond (ended s run) (endLine (run .count)) (badLine (run .at))
+
+unfoldable pub text : List ℕ → World → List ℕ
+text s w = lines rowTurn (length s) s w ++ lastLine s (ran rowTurn s w .run)
+
+-- WHAT `trace` PRINTS of the recording s, from the world w on
+unfoldable pub printed : List ℕ → World → List ℕ
+printed s w = cond (tooLong s) longLine (text s w)
+
+-- red, green and blue of the first n pixels of a frame
+unfoldable pub pixels : ℕ → List ℕ → List ℕ
+pixels zero frame = []
+pixels (suc n) frame = pixels n frame ++ (at frame (4 * n) ∷ at frame (4 * n + 1) ∷ at frame (4 * n + 2) ∷ [])
+
+-- "P6", "160 144", "255", each on a line of its own
+abbrev pub header : List ℕ
+header = 0x50 ∷ 0x36 ∷ 0x0A ∷ 0x31 ∷ 0x36 ∷ 0x30 ∷ 0x20 ∷ 0x31 ∷ 0x34 ∷ 0x34 ∷ 0x0A ∷ 0x32 ∷ 0x35 ∷ 0x35 ∷ 0x0A ∷ []
+
+-- the visible frame as a binary PPM: 160 x 144 pixels
+unfoldable pub ppm : List ℕ → List ℕ
+ppm frame = header ++ pixels 23040 frame
+
+unfoldable pub drawn : List ℕ → Run → List ℕ → List ℕ
+drawn s run frame = cond (ended s run) (ppm frame) (badLine (run .at))
+
+-- WHAT `snapshot` WRITES of the recording s, from the world w on: the picture, or the one line of a bad or long recording
+unfoldable pub pictured : List ℕ → World → List ℕ
+pictured s w = cond (tooLong s) longLine (drawn s (ran frameTurn s w .run) (ran frameTurn s w .frame))
+
+-- What a call leaves: a number of bytes at the start of its buffer, and the buffers of the run.
+pub record Left : Type 0 where
+  pub len : ℕ
+  pub out : List ℕ
+  pub vram : List ℕ
+  pub row : List ℕ
+  pub frame : List ℕ
+
+abbrev pub left : World → ℕ → List ℕ → Left
+left w n out = record { len = n; out = out; vram = w .vram; row = w .row; frame = w .frame }
+
+-- with room: these bytes, and what the recording does, which is nothing where it is too long; without: nothing at all
+unfoldable pub leaves : Bool → (RenderArea → World → Turn) → List ℕ → List ℕ → World → List ℕ → Left
+leaves room step bytes s w out =
+    cond room (left (cond (tooLong s) w (ran step s w)) (length bytes) (written out 0 bytes)) (left w 0 out)
+
+-- room for five bytes of text for each byte of the longest recording, and the last line; for a picture; for a frame
+unfoldable pub traced : List ℕ → World → List ℕ → Left
+traced s w out = leaves (leb 327700 (length out)) rowTurn (printed s w) s w out
+
+unfoldable pub snapped : List ℕ → World → List ℕ → Left
+snapped s w out = leaves (leb 69135 (length out) && leb 92160 (length (w .frame))) frameTurn (pictured s w) s w out
+
+-- What `trace` promises of its answer n and of the buffers after it, and what `snapshot` does.
+pub record TraceLeaves (s vram row out : List ℕ) (n : ℕ) (vram′ row′ out′ : List ℕ) : Type 0 where
+  pub count : n ≡ traced s (start vram row []) out .len
+  pub bytes : out′ ≡ traced s (start vram row []) out .out
+  pub memory : vram′ ≡ traced s (start vram row []) out .vram
+  pub pixels : row′ ≡ traced s (start vram row []) out .row
+
+pub record SnapshotLeaves (s vram row frame out : List ℕ) (n : ℕ) (vram′ row′ frame′ out′ : List ℕ) : Type 0 where
+  pub count : n ≡ snapped s (start vram row frame) out .len
+  pub bytes : out′ ≡ snapped s (start vram row frame) out .out
+  pub memory : vram′ ≡ snapped s (start vram row frame) out .vram
+  pub pixels : row′ ≡ snapped s (start vram row frame) out .row
+  pub picture : frame′ ≡ snapped s (start vram row frame) out .frame

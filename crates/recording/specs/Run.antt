@@ -1,0 +1,100 @@
+-- Document 01, "Added faces": what a recording does, record by record. Both programs follow a recording by these definitions.
+-- Assumes nothing.
+use mathlib.Core.Path.{_≡_}
+use mathlib.Core.List.{List, [], _++_}
+use Prim.Native.Nat.{ℕ, zero, suc, _+_}
+use lib.ListN.{length}
+use Rattle.picture.specs.declared.RenderArea.{RenderArea}
+use Rattle.picture.specs.declared.RenderArea.the-variants.{VisibleOnly, EffectiveArea}
+use Rattle.vdp.specs.declared.VdpState.{VdpState}
+use Rattle.vdp.specs.Device.{fresh}
+use Rattle.vdp.specs.Ports.{portWrite, portRead}
+use Rattle.step.specs.declared.Stepped.{Stepped}
+use Rattle.step.specs.Step.{rowStep, frameStep}
+use Rattle.step.specs.Frame.{rowAfter, frameAfter}
+use Rattle.recording.specs.declared.record.Record.{Record}
+use Rattle.recording.specs.declared.record.Record.the-variants.{Write, Read, Step, Bad, End}
+use Rattle.recording.specs.declared.text.Answer.{Answer}
+use Rattle.recording.specs.declared.text.Answer.the-variants as Says
+use Rattle.recording.specs.declared.run.Run.{Run}
+use Rattle.recording.specs.declared.run.Turned.{Turned}
+use Rattle.recording.specs.Record.{recordAt}
+use Rattle.recording.specs.Text.{lineOf}
+
+-- What one who follows a recording holds: the device and its place in the recording (`Run`), and the lent buffers. The trace has no frame.
+pub record World : Type 0 where
+  pub run : Run
+  pub vram : List ℕ
+  pub row : List ℕ
+  pub frame : List ℕ
+
+abbrev pub held : Run → List ℕ → List ℕ → List ℕ → World
+held run vram row frame = record { run = run; vram = vram; row = row; frame = frame }
+
+abbrev pub start : List ℕ → List ℕ → List ℕ → World
+start vram row frame = held (record { vdp = fresh; at = 0; count = 0 }) vram row frame
+
+-- What a record does: the answer of its call, and the world after it.
+pub record Turn : Type 0 where
+  pub answer : Answer
+  pub world : World
+
+-- the run after a call, one record and k bytes on
+abbrev pub on : Run → ℕ → VdpState → Run
+on run k d = record { vdp = d; at = run .at + k; count = run .count + 1 }
+
+-- "`s` refusal counter interrupt report"
+abbrev pub stepAnswer : Stepped → Answer
+stepAnswer s = Says.Stepped (s .refusal) (s .vdp .raster .«v_counter») (s .interrupt) (s .report)
+
+-- a step into the row buffer, as the trace makes all of its steps
+unfoldable pub rowTurn : RenderArea → World → Turn
+rowTurn a w =
+    let s = rowStep a (w .vram) (length (w .row)) (w .run .vdp) in
+    record {
+      answer = stepAnswer s;
+      world = held (on (w .run) 3 (s .vdp)) (w .vram) (rowAfter a (w .vram) (w .run .vdp) (w .row)) (w .frame);
+    }
+
+-- a step as the snapshot makes it: of the visible area into the frame, of the effective area as in the trace
+unfoldable pub frameTurn : RenderArea → World → Turn
+frameTurn VisibleOnly w =
+    let s = frameStep VisibleOnly (w .vram) (length (w .frame)) (w .run .vdp) in
+    record {
+      answer = stepAnswer s;
+      world = held (on (w .run) 3 (s .vdp)) (w .vram) (w .row) (frameAfter VisibleOnly (w .vram) (w .run .vdp) (w .frame));
+    }
+frameTurn EffectiveArea w = rowTurn EffectiveArea w
+
+-- a record of the recording, with steps made as `step` makes them; at a bad record and at the end nothing happens
+unfoldable pub turnBy : Record → (RenderArea → World → Turn) → World → Turn
+turnBy (Write port value) step w =
+    let a = portWrite (w .run .vdp) (w .vram) port value in
+    record { answer = Says.Wrote (a .answer .refusal); world = held (on (w .run) 4 (a .answer .vdp)) (a .vram) (w .row) (w .frame) }
+turnBy (Read port) step w =
+    let a = portRead (w .run .vdp) (w .vram) port in
+    record { answer = Says.Gave (a .refusal) (a .byte); world = held (on (w .run) 3 (a .vdp)) (w .vram) (w .row) (w .frame) }
+turnBy (Step area) step w = step area w
+turnBy Bad step w = record { answer = Says.Nothing; world = w }
+turnBy End step w = record { answer = Says.Nothing; world = w }
+
+unfoldable pub turnOf : (RenderArea → World → Turn) → List ℕ → World → Turn
+turnOf step s w = turnBy (recordAt s (w .run .at)) step w
+
+-- n records of the recording s, from the world w on: what they leave, and the lines that they print
+unfoldable pub after : (RenderArea → World → Turn) → ℕ → List ℕ → World → World
+after step zero s w = w
+after step (suc n) s w = turnOf step s (after step n s w) .world
+
+unfoldable pub lines : (RenderArea → World → Turn) → ℕ → List ℕ → World → List ℕ
+lines step zero s w = []
+lines step (suc n) s w = lines step n s w ++ lineOf (turnOf step s (after step n s w) .answer)
+
+-- the whole recording: one record for each of its bytes is enough, since at its end, and at a bad record, nothing happens any more
+unfoldable pub ran : (RenderArea → World → Turn) → List ℕ → World → World
+ran step s w = after step (length s) s w
+
+-- What a turn of the code promises of its answer r and of the buffers after it.
+pub record TurnLeaves (t : Turn) (r : Turned) (vram row frame : List ℕ) : Type 0 where
+  pub answer : r .answer ≡ t .answer
+  pub world : held (r .run) vram row frame ≡ t .world
