@@ -3,40 +3,38 @@
 use mathlib.Core.Path.{_≡_, refl, sym, ap, _∙_}
 use mathlib.Core.Logic.{_≢_}
 use mathlib.Core.Bool.{Bool, true, false, cond, _&&_, _||_, or-false}
-use mathlib.Core.List.{List, _++_}
+use mathlib.Core.List.{List}
 use Prim.Native.Nat.{ℕ, _+_, _*_, _<_, _≤_}
 use native.Mathlib.Omega.{arith}
 use lib.Bits.{bitOr}
 use lib.Dec.{eqb, leb}
 use lib.ListN.{length, take, drop, length-append, length-drop}
 use lib.Seq.{take-at, drop-at}
-use borrow.Author.Tests.{eq-eqb, ne-eqb, le-leb, lt-leb, leb-true}
+use borrow.Author.Tests.{eq-eqb, ne-eqb, le-leb, lt-leb, eqb-true, leb-true}
 use Rattle.laws.specs.Bits.{bit}
-use Rattle.laws.specs.Lists.{rowOf, withRow}
+use Rattle.laws.specs.Lists.{rowOf}
 use Rattle.laws.proofs.Bits.{bit-or}
 use Rattle.laws.proofs.Frames.{row-length, row-here, row-other, row-past}
 use Rattle.laws.proofs.Tables.{length-table}
 use Rattle.laws.proofs.Tests.{either, split, both}
+use Rattle.dump.specs.Dump.{dumped}
 use Rattle.picture.specs.declared.RenderArea.{RenderArea}
 use Rattle.picture.specs.declared.RenderArea.the-variants.{VisibleOnly, EffectiveArea}
-use Rattle.picture.specs.Picture.{Row}
-use Rattle.picture.specs.Area.{columns, rows, rowSize, frameSize, rowBytes, statusBits}
+use Rattle.picture.specs.Area.{rows, rowSize, frameSize, rowBytes, statusBits}
 use Rattle.raster.specs.declared.Raster.{Raster}
 use Rattle.raster.specs.Raster.{advanced, lineInterrupt, counted, ticked}
 use Rattle.vdp.specs.declared.VdpState.{VdpState}
-use Rattle.vdp.specs.declared.Latch.{Latch}
-use Rattle.vdp.specs.declared.WriteDest.{WriteDest}
 use Rattle.vdp.specs.declared.Refusal.the-variants.{Accepted, VramLength, PixelLength}
 use Rattle.vdp.specs.Device.{device}
 use Rattle.vdp.specs.Refusals.{whole, first}
-use Rattle.step.specs.declared.VdpInt.{VdpInt}
 use Rattle.step.specs.declared.VdpInt.the-variants.{NoInterrupt, InterruptGenerated}
 use Rattle.step.specs.declared.DrawnRow.{DrawnRow}
 use Rattle.step.specs.declared.DrawnRow.the-variants.{NoRow, Drawn}
 use Rattle.step.specs.declared.Stepped.{Stepped}
 use Rattle.step.specs.Step.{register, lineOf, advance, rowOn, coloursNow, rowPicture, drawnBy, atEnd, endScreen, reportOf, interruptOf, countLine, stepped, refusedStep, stepWith, stepLines}
 use Rattle.step.specs.Frame.{drawnBytes, rowWith, frameWith, rowAfter, frameAfter}
-use Rattle.step.proofs.Rows.{row-low, row-fits, frame-rows}
+use Rattle.step.specs.Dump.{dumpSize, dumpRefusal, dumpLines, dumpAfter}
+use Rattle.step.proofs.Rows.{row-low, frame-rows}
 
 -- ---- refusals
 module _ (need : ℕ) (a : RenderArea) (vram : List ℕ) (size : ℕ) (d : VdpState) where
@@ -307,3 +305,30 @@ module _ (a : RenderArea) (vram : List ℕ) (d : VdpState) (f : List ℕ) where
   frame-step-here y m h e =
       rw (eq-eqb (length vram) 16384 m, le-leb (frameSize a) (length f) h, e)
       (row-here (rowSize a) (rows a) y (drawnBytes a vram (advance d) y) f (row-low a _ y e) (drawn-length a vram (advance d) y) (rw (← frame-rows a) h))
+
+-- ---- the tile dump
+module _ (vram : List ℕ) (size : ℕ) where
+  -- a dump is refused by the first line of its table that holds
+  pub dump-exact : dumpRefusal vram size ≡ first (dumpLines vram size)
+  unfolding dumpRefusal
+  dump-exact = split (whole vram) (λ e. split (eqb size dumpSize) (λ f. simp (e, f)) (λ f. simp (e, f))) (λ e. simp e)
+
+module _ (d : VdpState) (vram pixels : List ℕ) where
+  abbrev dumpTest : Bool
+  dumpTest = whole vram && eqb (length pixels) dumpSize
+
+  -- the pixels that a refused dump leaves, and those of an accepted one
+  pub dump-refused : (whole vram && eqb (length pixels) dumpSize) ≡ false → dumpAfter d vram pixels ≡ pixels
+  unfolding dumpAfter
+  dump-refused t = rw t
+
+  pub dump-accepted : length vram ≡ 16384 → length pixels ≡ 131072 → dumpAfter d vram pixels ≡ dumped vram (d .reg) (d .«color_cache») pixels
+  unfolding dumpAfter
+  dump-accepted m n = rw (eq-eqb (length vram) 16384 m, eq-eqb (length pixels) 131072 n)
+
+  pub dump-length : length (dumpAfter d vram pixels) ≡ length pixels
+  unfolding dumpAfter dumped
+  dump-length =
+      either (λ (l : List ℕ). length l ≡ length pixels) dumpTest
+      (λ t. length-table 131072 _ ∙ sym (eqb-true (length pixels) 131072 (both (whole vram) (eqb (length pixels) 131072) t .1)))
+      (λ t. refl)

@@ -2,4 +2,5 @@
 pub mod Rows
 pub mod Steps
 pub mod Views
+pub mod Dumps
 pub mod Laws

@@ -1,7 +1,7 @@
 -- Document 01, "Added faces": what a step leaves in a row buffer and in a frame, and the view of a frame's row.
 -- Assumes nothing.
 use mathlib.Core.Path.{_≡_}
-use mathlib.Core.Bool.{Bool, cond, _&&_}
+use mathlib.Core.Bool.{cond, _&&_}
 use mathlib.Core.List.{List, [], _++_}
 use Prim.Native.Nat.{ℕ}
 use lib.Dec.{ltb, leb}

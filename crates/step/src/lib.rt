@@ -5,6 +5,7 @@ ghost use lib.ListN.{length};
 ghost use Rattle.picture.specs.Area.{rowSize};
 ghost use Rattle.picture.specs.declared.RenderArea.the-variants.{VisibleOnly, EffectiveArea};
 ghost use Rattle.step.specs.Step.{lineOf, advance, rowOn, coloursNow, drawnBy, endScreen, reportOf, interruptOf, countLine, refusedStep};
+ghost use Rattle.step.specs.Dump.{DumpLeaves};
 ghost use Rattle.step.specs.Frame.{rowWith, RowStepLeaves, FrameStepLeaves, rowView};
 use picture::RenderArea;
 use vdp::Refusal;
@@ -267,9 +268,9 @@ pub fn row_view<'a>(frame: &'a [u8], area: RenderArea, row: usize) -> &'a [u8]
             if frame.len() < 92160 {
                 return &frame[0..0];
             }
-            let a = row * 640;
-            let e = a + 640;
-            &frame[a..e]
+            let start = row * 640;
+            let end = start + 640;
+            &frame[start..end]
         }
         RenderArea::EffectiveArea => {
             if 224 <= row {
@@ -278,9 +279,33 @@ pub fn row_view<'a>(frame: &'a [u8], area: RenderArea, row: usize) -> &'a [u8]
             if frame.len() < 229376 {
                 return &frame[0..0];
             }
-            let a = row * 1024;
-            let e = a + 1024;
-            &frame[a..e]
+            let start = row * 1024;
+            let end = start + 1024;
+            &frame[start..end]
         }
     }
+}
+
+// The cached colours as they stand, dirty or not.
+fn cache_of(vdp: VdpState) -> [u32; 32]
+    ensures { λ r. ⌜ r ≡ vdp .«color_cache» ⌝ }
+{
+    let colours = vdp.color_cache;
+    colours
+}
+
+// All tiles, side by side. It draws with the cache as it stands, and leaves the device.
+pub fn dump_tileset(vdp: VdpState, vram: &[u8], pixels: &mut [u8]) -> Refusal
+    ensures { λ r. ⌜ DumpLeaves vdp (now (vram .entry)) (now (pixels .entry)) r (now (pixels .exit)) ⌝ }
+{
+    if vram.len() != 16384 {
+        return Refusal::VramLength;
+    }
+    if pixels.len() != 131072 {
+        return Refusal::PixelLength;
+    }
+    let reg = vdp.reg;
+    let colours = cache_of(vdp);
+    dump::dump_tileset(pixels, vram, &colours, reg);
+    Refusal::Accepted
 }

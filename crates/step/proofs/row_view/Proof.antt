@@ -42,12 +42,12 @@ returns-2 : tie.Need-returns-2
 returns-2 c = no-frame (c .before .before .before .before .before .args .frame .now) (c .before .before .before .before .before .args .row) (c .before .before .before .enum-told .given .1) (c .before .before .if1 .left) (c .before .if2 .taken)
 
 -- src/lib.rt:293:21
-mul-a : tie.Need-mul-a
-mul-a c = search needs
+mul-start : tie.Need-mul-start
+mul-start c = search needs
 
 -- src/lib.rt:294:21
-add-e : tie.Need-add-e
-add-e c = search needs
+add-end : tie.Need-add-end
+add-end c = search needs
 
 -- src/lib.rt:295:13
 sub-result-3 : tie.Need-sub-result-3
@@ -98,12 +98,12 @@ returns-4 : tie.Need-returns-4
 returns-4 c = no-frame (c .before .before .before .before .before .args .frame .now) (c .before .before .before .before .before .args .row) (c .before .before .before .enum-told2 .given .1) (c .before .before .if3 .left) (c .before .if4 .taken)
 
 -- src/lib.rt:304:21
-mul-a-2 : tie.Need-mul-a-2
-mul-a-2 c = search needs
+mul-start-2 : tie.Need-mul-start-2
+mul-start-2 c = search needs
 
 -- src/lib.rt:305:21
-add-e-2 : tie.Need-add-e-2
-add-e-2 c = search needs
+add-end-2 : tie.Need-add-end-2
+add-end-2 c = search needs
 
 -- src/lib.rt:306:13
 sub-result-6 : tie.Need-sub-result-6
@@ -138,8 +138,8 @@ row-view-spec =
     part-result-start-2
     part-result-end-2
     returns-2
-    mul-a
-    add-e
+    mul-start
+    add-end
     sub-result-3
     part-result-start-3
     part-result-end-3
@@ -152,8 +152,8 @@ row-view-spec =
     part-result-start-5
     part-result-end-5
     returns-4
-    mul-a-2
-    add-e-2
+    mul-start-2
+    add-end-2
     sub-result-6
     part-result-start-6
     part-result-end-6
