@@ -1,10 +1,10 @@
 #!/bin/sh
-# native-lib.sh CRATE OUT.o [EDIT]: the library CRATE as an object for this very machine; for measuring and for memory checkers, not for shipping.
+# native-lib.sh CRATE OUT.o: the library CRATE as an object for this very machine; for measuring and for memory checkers, not for shipping.
 # rt makes x86-64 code only. It lowers a library, with all that it depends on, to one LLVM module and hands that to its clang. This script
 # runs `rt staticlib CRATE` with a clang that also keeps the module, and compiles that module for this machine, optimised as rt does it.
-# EDIT, a sed script, damages the module's text first: an unproved copy, to show that a test notices. It must change something.
+# The module's text stays beside it as OUT.ll (oracle/damaged.sh makes damaged copies of it).
 set -eu
-[ $# -eq 2 ] || [ $# -eq 3 ] || { echo "usage: native-lib.sh CRATE OUT.o [EDIT]" >&2; exit 2; }
+[ $# -eq 2 ] || { echo "usage: native-lib.sh CRATE OUT.o" >&2; exit 2; }
 cd "$(dirname "$0")/.."
 crate=$1
 case $2 in /*) out=$2 ;; *) out=$PWD/$2 ;; esac
@@ -42,11 +42,5 @@ RATTLE_HOME=$work/kit rt staticlib "$crate" >"$work/said" 2>&1 || {
 
 # The module as text, without what ties it to x86-64, then for this machine.
 "$clang" --target=x86_64-unknown-linux-gnu -S -emit-llvm -O0 -Xclang -disable-llvm-passes -x ir "$work/module.bc" -o "$work/module.ll"
-sed -e '/^target datalayout/d' -e '/^target triple/d' -e 's/"target-cpu"="x86-64"//' -e 's/"probe-stack"="inline-asm"//' "$work/module.ll" >"$work/plain.ll"
-if [ $# -eq 3 ]; then
-    cp "$work/plain.ll" "$work/proved.ll"
-    sed -e "$3" "$work/proved.ll" >"$work/plain.ll"
-    ! cmp -s "$work/proved.ll" "$work/plain.ll" || { echo "native-lib.sh: the edit changes nothing: $3" >&2; exit 1; }
-fi
-"$clang" --target="$machine-unknown-linux-gnu" -O3 -fPIE -ffunction-sections -fdata-sections -Wno-override-module \
-    -Xclang -fmerge-functions -mllvm -mergefunc-use-aliases -c -x ir "$work/plain.ll" -o "$out"
+sed -e '/^target datalayout/d' -e '/^target triple/d' -e 's/"target-cpu"="x86-64"//' -e 's/"probe-stack"="inline-asm"//' "$work/module.ll" >"${out%.o}.ll"
+sh tools/native-module.sh "${out%.o}.ll" "$out"
