@@ -25,8 +25,9 @@ use Rattle.block.specs.Block.{wellFormed, stateOf, head, small, colourBytes, bl
 use Rattle.block.proofs.Whole.{long}
 use Rattle.block.proofs.RoundTrip.{block-back}
 use Rattle.step.specs.Step.{stepped, refusedStep, stepWith}
+use Rattle.step.specs.Dump.{dumpRefusal, dumpAfter}
 use Rattle.step.specs.Frame.{rowAfter, frameAfter}
-use Rattle.face.specs.Face.{Called, stepWord, refused, areaFrom, newCall, outCall, inputCall, steppedTo, stepCall, rowStepCall}
+use Rattle.face.specs.Face.{Called, stepWord, refused, areaFrom, newCall, outCall, inputCall, steppedTo, stepCall, rowStepCall, dumpCall}
 use Rattle.face.specs.Refused.{refusalIn, blockLeft, LeftBehind}
 use Rattle.face.proofs.Exact.{number-low, alone, low-byte, step-byte}
 
@@ -166,3 +167,14 @@ module _ (b : List ℕ) (bytes : (i : ℕ) → at b i < 256) where
       (λ _. step-left w (rowSize (areaFrom n)) (areaFrom n) m row _)
       (λ _. whole-refused UnknownArea row refl))
       (λ _. whole-refused BlockMalformed row refl)
+
+  pub dump-behind : (m pixels : List ℕ) → LeftBehind b pixels (dumpCall b m pixels)
+  unfolding dumpCall dumpRefusal dumpAfter
+  dump-behind m pixels =
+      either (LeftBehind b pixels) (wellFormed b)
+      (λ _. split (whole m)
+      (λ e. split (eqb (length pixels) 131072)
+      (λ f. simp (e, f) (record { word = λ h. absurd (h refl); block = λ h. absurd (h refl); lent = λ h. absurd (h refl) }))
+      (λ f. simp (e, f) (whole-refused PixelLength pixels refl)))
+      (λ e. simp e (whole-refused VramLength pixels refl)))
+      (λ _. whole-refused BlockMalformed pixels refl)

@@ -9,7 +9,7 @@ use Rattle.vdp.specs.declared.VdpState.{VdpState}
 use Rattle.vdp.specs.Device.{fresh}
 use Rattle.block.specs.Block.{blockOf, Shape}
 use Rattle.block.proofs.RoundTrip.{good-block, state-back}
-use Rattle.face.specs.Face.{Called, onArea, newCall, outOn, outCall, inputOn, inputCall, stepOn, stepCall, rowStepOn, rowStepCall}
+use Rattle.face.specs.Face.{Called, onArea, newCall, outOn, outCall, inputOn, inputCall, stepOn, stepCall, rowStepOn, rowStepCall, dumpOn, dumpCall}
 
 pub new-on : (b : List ℕ) → length b ≡ 219 → newCall b ≡ record { word = 0; block = blockOf fresh; lent = [] }
 unfolding newCall
@@ -31,3 +31,7 @@ module _ (s : VdpState) (g : Shape s) where
   pub row-on : (m row : List ℕ) (n : ℕ) → rowStepCall (blockOf s) m row n ≡ onArea n (blockOf s) row (rowStepOn m row s)
   unfolding rowStepCall
   row-on m row n = rw (good-block s g, state-back s g)
+
+  pub dump-on : (m pixels : List ℕ) → dumpCall (blockOf s) m pixels ≡ dumpOn (blockOf s) m pixels s
+  unfolding dumpCall
+  dump-on m pixels = rw (good-block s g, state-back s g)

@@ -11,21 +11,21 @@ use borrow.Author.Tests.{eqb-false, leb-true, leb-false, not-true}
 use lib.Dec.{eqb, leb}
 use lib.ListN.{length}
 use Rattle.laws.proofs.Tests.{split, both, clash}
-use Rattle.picture.specs.declared.RenderArea.{RenderArea}
 use Rattle.picture.specs.Area.{rowSize, frameSize}
-use Rattle.vdp.specs.declared.VdpState.{VdpState}
 use Rattle.vdp.specs.declared.Refusal.{Refusal}
 use Rattle.vdp.specs.declared.Refusal.the-variants.{Accepted, UnknownPort, HorizontalCounter, HighRegister, NothingChosen, PaletteRead, NoPaletteByte, OutsideMemory, VramLength, PixelLength, BlockMalformed, UnknownArea}
-use Rattle.vdp.specs.Refusals.{refusalNumber, Line, first, line, whole, writeLines, readLines}
+use Rattle.vdp.specs.Refusals.{refusalNumber, Line, first, line, writeLines, readLines}
 use Rattle.vdp.specs.Ports.{portWrite, portRead}
 use Rattle.vdp.proofs.Exact.{write-exact, read-exact}
 use Rattle.block.specs.Block.{wellFormed, stateOf}
 use Rattle.step.specs.declared.DrawnRow.{DrawnRow}
 use Rattle.step.specs.declared.DrawnRow.the-variants.{NoRow, Drawn}
 use Rattle.step.specs.declared.Stepped.{Stepped}
-use Rattle.step.specs.Step.{stepped, stepWith, rowStep, frameStep}
-use Rattle.face.specs.Face.{rowBits, stepWord, areaFrom, newCall, outCall, inputCall, stepCall, rowStepCall}
-use Rattle.face.specs.Refused.{refusalIn, malformed, newLines, outLines, inputLines, stepLines}
+use Rattle.step.specs.Dump.{dumpRefusal, dumpLines}
+use Rattle.step.specs.Step.{stepLines, rowStep, frameStep}
+use Rattle.step.proofs.Laws as Steps
+use Rattle.face.specs.Face.{rowBits, stepWord, areaFrom, newCall, outCall, inputCall, stepCall, rowStepCall, dumpCall}
+use Rattle.face.specs.Refused.{refusalIn, malformed, newLines, outLines, inputLines, stepCallLines, dumpCallLines}
 
 pub number-low : (r : Refusal) → refusalNumber r < 12
 number-low Accepted = omega arith
@@ -75,35 +75,36 @@ pub step-byte : (s : Stepped) → refusalIn (stepWord s) ≡ refusalNumber (s .r
 unfolding stepWord
 step-byte s = omega (arith, number-low (s .refusal), row-byte (s .row))
 
-with-exact :
-    (need : ℕ) (a : RenderArea) (m : List ℕ) (size : ℕ) (d : VdpState)
-    → stepWith need a m size d .refusal ≡ first (line (not (whole m)) VramLength ∷ line (not (leb need size)) PixelLength ∷ [])
-unfolding stepWith stepped
-with-exact need a m size d = split (whole m) (λ e. split (leb need size) (λ f. simp (e, f)) (λ f. simp (e, f))) (λ e. simp e)
-
 pub step-exact :
     (b m frame : List ℕ) (n : ℕ)
-    → refusalIn (stepCall b m frame n .word) ≡ refusalNumber (first (stepLines (frameSize (areaFrom n)) b m (length frame) n))
+    → refusalIn (stepCall b m frame n .word) ≡ refusalNumber (first (stepCallLines (frameSize (areaFrom n)) b m (length frame) n))
 unfolding stepCall
 step-exact b m frame n =
     split (wellFormed b)
     (λ e. split (leb n 1)
     (λ f.
     let s = frameStep (areaFrom n) m (length frame) (stateOf b) in
-    simp (e, f) (step-byte s ∙ ap refusalNumber (with-exact (frameSize (areaFrom n)) (areaFrom n) m (length frame) (stateOf b))))
+    simp (e, f) (step-byte s ∙ ap refusalNumber (Steps.step-exact (frameSize (areaFrom n)) (areaFrom n) m (length frame) (stateOf b))))
     (λ f. simp (e, f)))
     (λ e. simp e)
 
 pub row-exact :
-    (b m row : List ℕ) (n : ℕ) → refusalIn (rowStepCall b m row n .word) ≡ refusalNumber (first (stepLines (rowSize (areaFrom n)) b m (length row) n))
+    (b m row : List ℕ) (n : ℕ) → refusalIn (rowStepCall b m row n .word) ≡ refusalNumber (first (stepCallLines (rowSize (areaFrom n)) b m (length row) n))
 unfolding rowStepCall
 row-exact b m row n =
     split (wellFormed b)
     (λ e. split (leb n 1)
     (λ f.
     let s = rowStep (areaFrom n) m (length row) (stateOf b) in
-    simp (e, f) (step-byte s ∙ ap refusalNumber (with-exact (rowSize (areaFrom n)) (areaFrom n) m (length row) (stateOf b))))
+    simp (e, f) (step-byte s ∙ ap refusalNumber (Steps.step-exact (rowSize (areaFrom n)) (areaFrom n) m (length row) (stateOf b))))
     (λ f. simp (e, f)))
+    (λ e. simp e)
+
+pub dump-exact : (b m pixels : List ℕ) → refusalIn (dumpCall b m pixels .word) ≡ refusalNumber (first (dumpCallLines b m (length pixels)))
+unfolding dumpCall
+dump-exact b m pixels =
+    split (wellFormed b)
+    (λ e. simp e (alone (dumpRefusal m (length pixels)) ∙ ap refusalNumber (Steps.dump-exact m (length pixels))))
     (λ e. simp e)
 
 -- ---- 10 exactly where the block is malformed
@@ -136,31 +137,29 @@ pub input-ten : (b m : List ℕ) (p : ℕ) → (refusalIn (inputCall b m p .word
 input-ten b m p = ten-exactly b (readLines (stateOf b) m p) (inputCall b m p .word) refl (input-exact b m p)
 
 -- ---- 11 exactly where the block is well formed and the area number is above 1
-tail : (b m : List ℕ) (need size n : ℕ) → List Line
-tail b m need size n = line (not (leb n 1)) UnknownArea ∷ line (not (whole m)) VramLength ∷ line (not (leb need size)) PixelLength ∷ []
-
 eleven-exactly :
-    (b m : List ℕ) (need size n w : ℕ) → refusalIn w ≡ refusalNumber (first (stepLines need b m size n)) → (refusalIn w ≡ 11) ↔ ((wellFormed b ≡ true) × (1 < n))
+    (b m : List ℕ) (need size n w : ℕ) → refusalIn w ≡ refusalNumber (first (stepCallLines need b m size n)) → (refusalIn w ≡ 11) ↔ ((wellFormed b ≡ true) × (1 < n))
 eleven-exactly b m need size n w e =
     split (wellFormed b)
     (λ t. split (leb n 1)
     (λ l. (
-      λ q. absurd (never 11 (line (not (whole m)) VramLength ∷ line (not (leb need size)) PixelLength ∷ []) (λ z. omega arith) refl (sym (simp (t, l) at e) ∙ q)),
+      λ q. absurd (never 11 (stepLines need m size) (λ z. omega arith) refl (sym (simp (t, l) at e) ∙ q)),
       λ h. let k = leb-true n 1 l in absurd (omega (arith, h .1)),
     ))
     (λ l. (λ q. (t, leb-false n 1 l), λ h. simp (t, l) at e)))
     (λ f. (λ q. absurd (let k = simp f at e in omega (arith, k, q)), λ h. clash (sym (h .0) ∙ f)))
 
 pub step-ten : (b m frame : List ℕ) (n : ℕ) → (refusalIn (stepCall b m frame n .word) ≡ 10) ↔ (wellFormed b ≡ false)
-unfolding tail
-step-ten b m frame n = ten-exactly b (tail b m (frameSize (areaFrom n)) (length frame) n) (stepCall b m frame n .word) refl (step-exact b m frame n)
+step-ten b m frame n = ten-exactly b (line (not (leb n 1)) UnknownArea ∷ stepLines (frameSize (areaFrom n)) m (length frame)) (stepCall b m frame n .word) refl (step-exact b m frame n)
 
 pub row-ten : (b m row : List ℕ) (n : ℕ) → (refusalIn (rowStepCall b m row n .word) ≡ 10) ↔ (wellFormed b ≡ false)
-unfolding tail
-row-ten b m row n = ten-exactly b (tail b m (rowSize (areaFrom n)) (length row) n) (rowStepCall b m row n .word) refl (row-exact b m row n)
+row-ten b m row n = ten-exactly b (line (not (leb n 1)) UnknownArea ∷ stepLines (rowSize (areaFrom n)) m (length row)) (rowStepCall b m row n .word) refl (row-exact b m row n)
 
 pub step-eleven : (b m frame : List ℕ) (n : ℕ) → (refusalIn (stepCall b m frame n .word) ≡ 11) ↔ ((wellFormed b ≡ true) × (1 < n))
 step-eleven b m frame n = eleven-exactly b m (frameSize (areaFrom n)) (length frame) n (stepCall b m frame n .word) (step-exact b m frame n)
 
 pub row-eleven : (b m row : List ℕ) (n : ℕ) → (refusalIn (rowStepCall b m row n .word) ≡ 11) ↔ ((wellFormed b ≡ true) × (1 < n))
 row-eleven b m row n = eleven-exactly b m (rowSize (areaFrom n)) (length row) n (rowStepCall b m row n .word) (row-exact b m row n)
+
+pub dump-ten : (b m pixels : List ℕ) → (refusalIn (dumpCall b m pixels .word) ≡ 10) ↔ (wellFormed b ≡ false)
+dump-ten b m pixels = ten-exactly b (dumpLines m (length pixels)) (dumpCall b m pixels .word) refl (dump-exact b m pixels)

@@ -10,6 +10,7 @@ use Rattle.picture.specs.declared.RenderArea.{RenderArea}
 use Rattle.vdp.specs.declared.VdpState.{VdpState}
 use Rattle.vdp.specs.declared.Written.{Written}
 use Rattle.vdp.specs.declared.ReadBack.{ReadBack}
+use Rattle.vdp.specs.declared.Refusal.{Refusal}
 use Rattle.vdp.specs.declared.Refusal.the-variants.{Accepted, BlockMalformed, UnknownArea}
 use Rattle.vdp.specs.Device.{fresh}
 use Rattle.vdp.specs.Refusals.{refusalNumber}
@@ -18,8 +19,9 @@ use Rattle.block.specs.declared.Decoded.{Decoded}
 use Rattle.block.specs.Block.{wellFormed, stateOf, blockOf, decoded, encoded}
 use Rattle.block.proofs.Whole.{good-is, device-is, encoded-is}
 use Rattle.step.specs.declared.Stepped.{Stepped}
+use Rattle.step.specs.Dump.{DumpLeaves}
 use Rattle.step.specs.Frame.{RowStepLeaves, FrameStepLeaves}
-use Rattle.face.specs.Face.{Called, Leaves, refused, stepWord, onBlock, areaFrom, onArea, newCall, outOn, outCall, inputOn, inputCall, stepOn, stepCall, rowStepOn, rowStepCall}
+use Rattle.face.specs.Face.{Called, Leaves, refused, stepWord, onBlock, areaFrom, onArea, newCall, outOn, outCall, inputOn, inputCall, stepOn, stepCall, rowStepOn, rowStepCall, dumpOn, dumpCall}
 
 -- what is left, by a path from it to what the definition says
 leaves : {c k : Called} → c ≡ k → Leaves k (c .word) (c .block) (c .lent)
@@ -151,3 +153,15 @@ module _ (b : List ℕ) {d : Decoded} (e : d ≡ decoded b) where
         block = kept g (s .vdp) eb ∙ ap (λ (x : Stepped). blockOf (x .vdp)) (l .answer);
         lent = l .bytes;
       })
+
+  -- ---- the dump
+  pub dump-ten : d .good ≡ false → (m pixels : List ℕ) {n : ℕ} → n ≡ refusalNumber BlockMalformed → Leaves (dumpCall b m pixels) n b pixels
+  unfolding dumpCall
+  dump-ten g m pixels en = ten g pixels (dumpOn b m pixels) en
+
+  pub dump-done :
+      d .good ≡ true → (m pixels : List ℕ) {r : Refusal} {pixels′ : List ℕ} {n : ℕ} → DumpLeaves (d .vdp) m pixels r pixels′ → n ≡ refusalNumber r
+      → Leaves (dumpCall b m pixels) n b pixels′
+  unfolding dumpCall
+  dump-done g m pixels l en =
+      along (on g pixels (dumpOn b m pixels)) (record { word = en ∙ ap refusalNumber (l .refusal); block = refl; lent = l .bytes })

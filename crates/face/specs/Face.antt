@@ -20,6 +20,7 @@ use Rattle.step.specs.declared.DrawnRow.{DrawnRow}
 use Rattle.step.specs.declared.DrawnRow.the-variants.{NoRow, Drawn}
 use Rattle.step.specs.declared.Stepped.{Stepped}
 use Rattle.step.specs.Step.{interruptNumber, reportNumber, rowStep, frameStep}
+use Rattle.step.specs.Dump.{dumpRefusal, dumpAfter}
 use Rattle.step.specs.Frame.{rowAfter, frameAfter}
 
 -- What a call answers and leaves: its word, the block, and the bytes of the one other buffer that it may write (video memory of a port write, pixels of a
@@ -90,6 +91,13 @@ rowStepOn m row s a = steppedTo (rowStep a m (length row) s) (rowAfter a m s row
 
 unfoldable pub rowStepCall : List ℕ → List ℕ → List ℕ → ℕ → Called
 rowStepCall b m row n = onBlock b row (λ s. onArea n b row (rowStepOn m row s))
+
+-- the dump only reads the block
+abbrev pub dumpOn : List ℕ → List ℕ → List ℕ → VdpState → Called
+dumpOn b m pixels s = record { word = refusalNumber (dumpRefusal m (length pixels)); block = b; lent = dumpAfter s m pixels }
+
+unfoldable pub dumpCall : List ℕ → List ℕ → List ℕ → Called
+dumpCall b m pixels = onBlock b pixels (dumpOn b m pixels)
 
 -- ---- What a call promises: its answer r, and what the block and the other buffer hold after it, b′ and x′.
 pub record Leaves (c : Called) (r : ℕ) (b′ x′ : List ℕ) : Type 0 where

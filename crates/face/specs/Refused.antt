@@ -7,9 +7,11 @@ use mathlib.Core.List.{List, [], _∷_}
 use Prim.Native.Nat.{ℕ, _%_, _<_}
 use lib.Dec.{eqb, leb}
 use lib.ListN.{length, set}
-use Rattle.vdp.specs.declared.Refusal.the-variants.{VramLength, PixelLength, BlockMalformed, UnknownArea}
-use Rattle.vdp.specs.Refusals.{Line, line, whole, writeLines, readLines}
+use Rattle.vdp.specs.declared.Refusal.the-variants.{BlockMalformed, UnknownArea}
+use Rattle.vdp.specs.Refusals.{Line, line, writeLines, readLines}
 use Rattle.block.specs.Block.{blockSize, wellFormed, stateOf}
+use Rattle.step.specs.Dump.{dumpLines}
+use Rattle.step.specs.Step.{stepLines}
 use Rattle.face.specs.Face.{Called}
 
 -- "refusal in bits 0 to 7"
@@ -29,10 +31,12 @@ outLines b m p v = malformed b ∷ writeLines (stateOf b) m p v
 abbrev pub inputLines : List ℕ → List ℕ → ℕ → List Line
 inputLines b m p = malformed b ∷ readLines (stateOf b) m p
 
--- a step with a pixel buffer of `size` bytes, of which it needs `need`
-abbrev pub stepLines : ℕ → List ℕ → List ℕ → ℕ → ℕ → List Line
-stepLines need b m size n =
-    malformed b ∷ line (not (leb n 1)) UnknownArea ∷ line (not (whole m)) VramLength ∷ line (not (leb need size)) PixelLength ∷ []
+-- a step with a pixel buffer of `size` bytes, of which it needs `need`, and a dump
+abbrev pub stepCallLines : ℕ → List ℕ → List ℕ → ℕ → ℕ → List Line
+stepCallLines need b m size n = malformed b ∷ line (not (leb n 1)) UnknownArea ∷ stepLines need m size
+
+abbrev pub dumpCallLines : List ℕ → List ℕ → ℕ → List Line
+dumpCallLines b m size = malformed b ∷ dumpLines m size
 
 -- ---- the column "Left behind", of the block: "all unchanged", or of 3 to 7 "command latch empty", which stands in bytes 21 and 22
 abbrev pub blockLeft : ℕ → List ℕ → List ℕ

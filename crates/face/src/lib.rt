@@ -4,7 +4,7 @@ ghost use mathlib.Core.Path.{_≡_};
 ghost use Prim.Native.Nat.{_+_, _*_, _<_};
 ghost use Rattle.vdp.specs.Refusals.{refusalNumber};
 ghost use Rattle.step.specs.Step.{interruptNumber, reportNumber};
-ghost use Rattle.face.specs.Face.{rowBits, stepWord, areaFrom, newCall, outCall, inputCall, stepCall, rowStepCall, Leaves};
+ghost use Rattle.face.specs.Face.{rowBits, stepWord, areaFrom, newCall, outCall, inputCall, stepCall, rowStepCall, dumpCall, Leaves};
 use picture::RenderArea;
 use step::DisplayRefresh;
 use step::DrawnRow;
@@ -168,4 +168,17 @@ pub extern "C" fn vdp_row_step(state: &mut [u8], vram: &[u8], row: &mut [u8], ar
     let next = s.vdp;
     block::encode(next, state);
     word_of(s)
+}
+
+// All tiles into the pixels; the block is only read.
+#[no_mangle]
+pub extern "C" fn vdp_dump_tileset(state: &[u8], vram: &[u8], pixels: &mut [u8]) -> u32
+    ensures { λ r. ⌜ Leaves (dumpCall (now (state .entry)) (now (vram .entry)) (now (pixels .entry))) r (now (state .entry)) (now (pixels .exit)) ⌝ }
+{
+    let d = block::decode(state);
+    if !d.good {
+        return number(Refusal::BlockMalformed);
+    }
+    let vdp = d.vdp;
+    number(step::dump_tileset(vdp, vram, pixels))
 }
