@@ -5,18 +5,15 @@ use mathlib.Core.Logic.{_↔_, _≢_}
 use mathlib.Core.Bool.{Bool, true, false, cond, not, _&&_, _||_}
 use mathlib.Core.List.{List, [], _∷_}
 use Prim.Native.Nat.{ℕ, zero, suc, _+_, _-_, _*_, _≤_, _<_, _∣_}
-use native.Mathlib.Nat.{add-zero, add-suc}
+use native.Mathlib.Nat.{add-zero, add-suc, add-comm}
 use native.Mathlib.Omega.{arith}
 use lib.Dec.{eqb, ltb, leb}
 use lib.ListN.{length, drop}
 use borrow.Author.Tests.{eq-eqb, eqb-true, le-leb, leb-true, lt-ltb, ltb-true}
 use Rattle.laws.specs.Bits.{bit}
-use Rattle.laws.specs.Lists.{rowOf, withRow}
+use Rattle.laws.specs.Lists.{rowOf}
 use Rattle.laws.specs.Once.{ExactlyOnce}
-use Rattle.laws.proofs.Tests.{both}
-use Rattle.laws.proofs.Tables.{length-table}
 use Rattle.laws.proofs.Once.{once-iff}
-use Rattle.laws.proofs.Frames.{row-length, row-here, row-other, row-past}
 use Rattle.colour.specs.Colour.{coloursOf}
 use Rattle.picture.specs.declared.RenderArea.{RenderArea}
 use Rattle.picture.specs.declared.RenderArea.the-variants.{VisibleOnly, EffectiveArea}
@@ -33,47 +30,19 @@ use Rattle.step.specs.declared.VdpInt.the-variants.{NoInterrupt, InterruptGener
 use Rattle.step.specs.declared.DisplayRefresh.the-variants.{NoDisplay, ScreenDone, ScreenDoneNoRefresh}
 use Rattle.step.specs.declared.DrawnRow.{DrawnRow}
 use Rattle.step.specs.declared.DrawnRow.the-variants.{NoRow, Drawn}
-use Rattle.step.specs.Step.{register, lineOf, advance, rowOn, reportOf, interruptOf, coloursNow, stepped, frameStep}
-use Rattle.step.specs.Frame.{drawnBytes, frameWith, frameAfter, FrameStepLeaves}
+use Rattle.step.specs.Step.{register, lineOf, advance, rowOn, reportOf, interruptOf, coloursNow, rowPicture, stepped, frameStep}
+use Rattle.step.specs.Frame.{drawnBytes, frameAfter, FrameStepLeaves}
+use Rattle.step.proofs.Rows.{row-low, row-line, row-at}
+use Rattle.step.proofs.Laws.{stepped-raster, frame-step-length, frame-step-past, frame-step-other, frame-step-here}
 use Rattle.demands.specs.Pass.{Run, after, now, until, through, ready, answer, lineSet, frameAt, latched, pictureAt, rowAtEnd, LineInterruptsEvery, Demand3}
 use Rattle.demands.proofs.Counter.{line}
 use Rattle.demands.proofs.Lines.{line-once, line-law}
-use Rattle.demands.proofs.Steps.{stepped-raster, stepped-interrupt, colours-now, taken, room}
+use Rattle.demands.proofs.Steps.{colours-now, line-alone, Taken, taken, is-stepped}
 use Rattle.demands.proofs.Sound.{Sound, sound, scroll-is, then-raster}
 
--- ---- the sizes of an area
-frame-rows : (a : RenderArea) → frameSize a ≡ rowSize a * rows a
-frame-rows VisibleOnly = refl
-frame-rows EffectiveArea = refl
-
-row-columns : (a : RenderArea) → columns a * 4 ≡ rowSize a
-row-columns VisibleOnly = refl
-row-columns EffectiveArea = refl
-
-drawn-length : (a : RenderArea) (vram : List ℕ) (d : VdpState) (y : ℕ) → length (drawnBytes a vram d y) ≡ rowSize a
-unfolding drawnBytes rowBytes
-drawn-length a vram d y = length-table (columns a * 4) _ ∙ row-columns a
-
 -- ---- row y is drawn by the step that sets its line, and by no other
-row-line : (a : RenderArea) (n y : ℕ) → rowOn a n ≡ Drawn y → (n ≡ y + firstLine a) × (y < rows a)
-unfolding rowOn
-row-line a n y = go (leb (firstLine a) n) (ltb n (firstLine a + rows a)) refl refl
-  where
-    go :
-        (b c : Bool) → leb (firstLine a) n ≡ b → ltb n (firstLine a + rows a) ≡ c →
-        cond (b && c) (Drawn (n - firstLine a)) NoRow ≡ Drawn y → (n ≡ y + firstLine a) × (y < rows a)
-    go true true eb ec e =
-        let is : n - firstLine a ≡ y = cc in
-        let low : firstLine a ≤ n = leb-true (firstLine a) n eb in
-        let high : n < firstLine a + rows a = ltb-true n (firstLine a + rows a) ec in
-        (omega arith, omega arith)
-    go true false eb ec e = absurd (let z : _≡_ {A = ℕ} 0 1 = cc in omega arith)
-    go false c eb ec e = absurd (let z : _≡_ {A = ℕ} 0 1 = cc in omega arith)
-
-line-row : (a : RenderArea) (n y : ℕ) → y < rows a → n ≡ y + firstLine a → rowOn a n ≡ Drawn y
-unfolding rowOn
-line-row a n y h e =
-    rw (le-leb (firstLine a) n (omega arith), lt-ltb n (firstLine a + rows a) (omega arith)) (ap Drawn (omega arith))
+pub line-row : (a : RenderArea) (n y : ℕ) → y < rows a → n ≡ y + firstLine a → rowOn a n ≡ Drawn y
+line-row a n y h e = row-at a n (omega arith) (omega arith) ∙ ap Drawn (omega arith)
 
 -- ---- the screen end is reported by the step that sets line C1, and by no other
 end-line : (d : VdpState) → (lineOf d ≡ 193) ↔ (reportOf d ≢ NoDisplay)
@@ -93,52 +62,26 @@ end-line d = (there, λ f. back (eqb (lineOf d) 193) refl f)
     back true e f = eqb-true (lineOf d) 193 e
     back false e f = absurd (f refl)
 
--- ---- what a step keeps of a frame: its length, each row but its own, and the bytes past the rows
-record KeptBut (a : RenderArea) (o : DrawnRow) (frame frame′ : List ℕ) : Type 0 where
-  size : length frame′ ≡ length frame
-  others : (z : ℕ) → o ≢ Drawn z → rowOf (rowSize a) z frame′ ≡ rowOf (rowSize a) z frame
-  past : drop (frameSize a) frame′ ≡ drop (frameSize a) frame
-
-module _ (a : RenderArea) (vram : List ℕ) (d : VdpState) (frame : List ℕ) (big : frameSize a ≤ length frame) where
-  fits : rowSize a * rows a ≤ length frame
-  fits = rw (frame-rows a) at big
-
-  kept-but : (o : DrawnRow) → rowOn a (lineOf d) ≡ o → KeptBut a o frame (frameWith o a vram d frame)
-  unfolding frameWith
-  kept-but NoRow e = record { size = refl; others = λ z h. refl; past = refl }
-  kept-but (Drawn y) e =
-      let bytes = drawnBytes a vram d y in
-      let n = drawn-length a vram d y in
-      let h = row-line a (lineOf d) y e .1 in
-      record {
-        size = row-length (rowSize a) (rows a) y bytes frame h n fits;
-        others = λ z f. row-other (rowSize a) (rows a) y bytes frame h n fits z (λ q. f (ap Drawn (sym q)));
-        past = rw (frame-rows a) (row-past (rowSize a) (rows a) y bytes frame h n fits);
-      }
-
-  there : (y : ℕ) → rowOn a (lineOf d) ≡ Drawn y → rowOf (rowSize a) y (frameWith (rowOn a (lineOf d)) a vram d frame) ≡ drawnBytes a vram d y
-  unfolding frameWith
-  there y e =
-      rw e
-      (row-here (rowSize a) (rows a) y (drawnBytes a vram d y) frame (row-line a (lineOf d) y e .1) (drawn-length a vram d y) fits)
-
 module _ {a : RenderArea} (r : Run a) where
   abbrev dev : ℕ → VdpState
   dev i = ready r i
 
   -- each step of a run is an accepted one
-  steps : (i : ℕ) → answer r i ≡ stepped a (r .vram i) (dev i)
-  unfolding answer
-  steps i = taken (frameSize a) a (r .vram i) (length (r .frame)) (dev i) (r .accepted i (dev i))
+  accepted : (i : ℕ) → Taken (frameSize a) a (r .vram i) (length (r .frame)) (dev i)
+  accepted i = taken (frameSize a) a (r .vram i) (length (r .frame)) (dev i) (r .accepted i (dev i))
 
-  after-step : (i : ℕ) → now (through r i) ≡ answer r i .vdp
+  pub steps : (i : ℕ) → answer r i ≡ stepped a (r .vram i) (dev i)
+  unfolding answer
+  steps i = is-stepped (frameSize a) a (r .vram i) (length (r .frame)) (dev i) (r .accepted i (dev i))
+
+  pub after-step : (i : ℕ) → now (through r i) ≡ answer r i .vdp
   unfolding now after answer ready
   after-step i = refl
 
-  raster-left : (i : ℕ) → answer r i .vdp .raster ≡ ticked (register (dev i)) (dev i .raster)
+  pub raster-left : (i : ℕ) → answer r i .vdp .raster ≡ ticked (register (dev i)) (dev i .raster)
   raster-left i = ap (λ (s : Stepped). s .vdp .raster) (steps i) ∙ stepped-raster a (r .vram i) (dev i)
 
-  raster-next : (i : ℕ) → dev (suc i) .raster ≡ ticked (register (dev i)) (dev i .raster)
+  pub raster-next : (i : ℕ) → dev (suc i) .raster ≡ ticked (register (dev i)) (dev i .raster)
   unfolding ready until
   raster-next i = then-raster (r .between (suc i)) (through r i) ∙ ap (λ (d : VdpState). d .raster) (after-step i) ∙ raster-left i
 
@@ -154,7 +97,7 @@ module _ {a : RenderArea} (r : Run a) where
       ∙ sym (ap (λ (d : VdpState). d .raster .«vertical_scroll») (after-step i))
       ∙ scroll-is (through r i)
 
-  line-of : (i : ℕ) → lineSet r i ≡ line (dev i .raster)
+  pub line-of : (i : ℕ) → lineSet r i ≡ line (dev i .raster)
   unfolding ticked counted advanced
   line-of i = ap (λ (x : Raster). x .«v_counter») (raster-left i)
 
@@ -162,14 +105,14 @@ module _ {a : RenderArea} (r : Run a) where
   unfolding stepped
   row-of i = ap (λ (s : Stepped). s .row) (steps i)
 
-  row-on : (i : ℕ) → answer r i .row ≡ rowOn a (line (dev i .raster))
+  pub row-on : (i : ℕ) → answer r i .row ≡ rowOn a (line (dev i .raster))
   unfolding advanced
   row-on i = row-of i
 
   no-other : (i y : ℕ) → answer r i .row ≡ Drawn y → y < rows a
-  no-other i y e = row-line a (line (dev i .raster)) y (sym (row-on i) ∙ e) .1
+  no-other i y e = row-low a (line (dev i .raster)) y (sym (row-on i) ∙ e)
 
-  lines : (q : ℕ) → q < jumpTo → ExactlyOnce passLength (λ i. line (dev i .raster) ≡ q)
+  pub lines : (q : ℕ) → q < jumpTo → ExactlyOnce passLength (λ i. line (dev i .raster) ≡ q)
   lines q h = line-once (λ i. dev i .raster) (λ i. register (dev i)) raster-next (ready-sound 0 .within) q h
 
   report-of : (i : ℕ) → answer r i .report ≡ reportOf (advance (dev i))
@@ -181,47 +124,29 @@ module _ {a : RenderArea} (r : Run a) where
   end-once = once-iff (λ i. rw (report-of i) (end-line (advance (dev i)))) (lines 193 (omega arith))
 
   -- ---- the frame
-  frame-next :
-      (i : ℕ) → length (frameAt r i) ≡ length (r .frame) →
-      frameAt r (suc i) ≡ frameWith (rowOn a (lineOf (advance (dev i)))) a (r .vram i) (advance (dev i)) (frameAt r i)
-  unfolding frameAt frameAfter
-  frame-next i e =
-      rw (e, room (frameSize a) a (r .vram i) (length (r .frame)) (dev i) (r .accepted i (dev i)))
-
-  whole-frame : frameSize a ≤ length (r .frame)
-  whole-frame =
-      leb-true (frameSize a) (length (r .frame))
-      (both (whole (r .vram 0)) (leb (frameSize a) (length (r .frame)))
-      (room (frameSize a) a (r .vram 0) (length (r .frame)) (dev 0) (r .accepted 0 (dev 0))) .1)
-
-  kept-if : (i : ℕ) → length (frameAt r i) ≡ length (r .frame) → KeptBut a (answer r i .row) (frameAt r i) (frameAt r (suc i))
-  kept-if i e =
-      rw (frame-next i e, row-of i)
-      (kept-but a (r .vram i) (advance (dev i)) (frameAt r i) (omega (arith, whole-frame)) (rowOn a (lineOf (advance (dev i)))) refl)
-
   pub same-length : (i : ℕ) → length (frameAt r i) ≡ length (r .frame)
   unfolding frameAt
   same-length zero = refl
-  same-length (suc i) = kept-if i (same-length i) .size ∙ same-length i
+  same-length (suc i) = frame-step-length a (r .vram i) (dev i) (frameAt r i) ∙ same-length i
 
-  kept : (i : ℕ) → KeptBut a (answer r i .row) (frameAt r i) (frameAt r (suc i))
-  kept i = kept-if i (same-length i)
+  row-kept : (i y : ℕ) → answer r i .row ≢ Drawn y → rowOf (rowSize a) y (frameAt r (suc i)) ≡ rowOf (rowSize a) y (frameAt r i)
+  unfolding frameAt
+  row-kept i y n = frame-step-other a (r .vram i) (dev i) (frameAt r i) y (λ e. n (row-of i ∙ e))
 
   past-kept : (i : ℕ) → drop (frameSize a) (frameAt r i) ≡ drop (frameSize a) (r .frame)
   unfolding frameAt
   past-kept zero = refl
-  past-kept (suc i) = kept i .past ∙ past-kept i
+  past-kept (suc i) = frame-step-past a (r .vram i) (dev i) (frameAt r i) ∙ past-kept i
 
   -- the row that step i draws, in the frame just after it
   just-drawn :
       (i y : ℕ) → answer r i .row ≡ Drawn y →
       rowOf (rowSize a) y (frameAt r (suc i)) ≡ rowBytes (coloursOf (dev i .cram)) (columns a) (pictureAt r i y)
-  unfolding drawnBytes
+  unfolding frameAt drawnBytes
   just-drawn i y e =
-      let d = advance (dev i) in
-      ap (rowOf (rowSize a) y) (frame-next i (same-length i))
-      ∙ there a (r .vram i) d (frameAt r i) (omega (arith, whole-frame, same-length i)) y (sym (row-of i) ∙ e)
-      ∙ rw (colours-now d (ready-sound i .clean), scroll-at i)
+      let size : frameSize a ≤ length (frameAt r i) = omega (arith, accepted i .room, same-length i) in
+      frame-step-here a (r .vram i) (dev i) (frameAt r i) y (accepted i .memory) size (sym (row-of i) ∙ e)
+      ∙ rw (colours-now (advance (dev i)) (ready-sound i .clean), scroll-at i)
 
   -- a row that n steps from step i on do not draw
   undrawn :
@@ -230,7 +155,7 @@ module _ {a : RenderArea} (r : Run a) where
   undrawn y i zero h = rw (add-zero i)
   undrawn y i (suc n) h =
       rw (add-suc i n)
-      (kept (i + n) .others y (h (i + n) (omega arith) (omega arith)) ∙ undrawn y i n (λ j l u. h j l (omega arith)))
+      (row-kept (i + n) y (h (i + n) (omega arith) (omega arith)) ∙ undrawn y i n (λ j l u. h j l (omega arith)))
 
   -- what the frame step's contract says of each step
   pub by-contract : (i : ℕ) → FrameStepLeaves a (r .vram i) (dev i) (frameAt r i) (answer r i) (frameAt r (suc i))
@@ -241,7 +166,7 @@ module _ {a : RenderArea} (r : Run a) where
     row-once : (y : ℕ) → y < rows a → ExactlyOnce passLength (λ i. answer r i .row ≡ Drawn y)
     row-once y h =
         once-iff
-        (λ i. rw (row-on i) (line-row a (line (dev i .raster)) y h, λ e. row-line a (line (dev i .raster)) y e .0))
+        (λ i. rw (row-on i) (line-row a (line (dev i .raster)) y h, λ e. row-line a (line (dev i .raster)) y e ∙ add-comm (firstLine a) y))
         (lines (y + firstLine a) (omega arith))
 
     row-bytes :
@@ -263,15 +188,15 @@ module _ {a : RenderArea} (r : Run a) where
         (k : ℕ) → k ≤ 193 → (lineSet r (i + k) ≡ k) × ((answer r (i + k) .interrupt ≡ InterruptGenerated) ↔ (N + 1 ∣ k + 2))
     line-interrupts i N b every k h =
         let law = line-law (λ i. dev i .raster) (λ i. register (dev i)) raster-next i N (sym (line-of i) ∙ b) every k h in
-        let s = stepped-interrupt a (r .vram (i + k)) (dev (i + k)) (every k h .frame-off) in
+        let s = line-alone a (r .vram (i + k)) (dev (i + k)) (every k h .frame-off) in
         (line-of (i + k) ∙ law .0, rw (steps (i + k)) (λ e. law .1 .0 (s .0 e), λ v. s .1 (law .1 .1 v)))
 
     pub demand3 : Demand3 r
     demand3 =
         record {
           row-once = row-once;
-          no-other = no-other;
-          row-kept = λ i y. kept i .others y;
+          no-other = λ i y e. omega (arith, no-other i y e);
+          row-kept = row-kept;
           past-kept = past-kept;
           end-once = end-once;
           row-bytes = row-bytes;

@@ -5,3 +5,7 @@ pub mod Kept
 pub mod Steps
 pub mod Sound
 pub mod Demand3
+pub mod Always
+pub mod Split
+pub mod Author
+pub mod Outcome

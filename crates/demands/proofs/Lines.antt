@@ -30,19 +30,21 @@ starts-at x e =
 abbrev count : (ℕ → ℕ) → Raster → ℕ
 count g x = cond (starts x) (g 10 - 1) (x .«line_interrupt_counter»)
 
+-- a step from a line before the jump sets the next one
+pub line-next : (x : Raster) (k : ℕ) → x .«v_counter» ≡ k → suc k < jumpTo → line x ≡ suc k
+unfolding jumps
+line-next x k e h =
+    let u : up x ≡ suc k = omega arith in
+    rw (ne-eqb (up x) jumpLine (λ f. omega arith)) u
+
 -- a step from a line below 193 sets the next one, and starts no pass
 record Onward (x : Raster) (k : ℕ) : Type 0 where
   sets : line x ≡ suc k
   starts-not : starts x ≡ false
 
 onward : (x : Raster) (k : ℕ) → x .«v_counter» ≡ k → k < 193 → Onward x k
-unfolding starts jumps
-onward x k e h =
-    let u : up x ≡ suc k = omega arith in
-    record {
-      sets = rw (ne-eqb (up x) jumpLine (λ f. omega arith)) u;
-      starts-not = ne-eqb (up x) 0 (λ f. omega arith);
-    }
+unfolding starts
+onward x k e h = record { sets = line-next x k e (omega arith); starts-not = ne-eqb (up x) 0 (λ f. omega arith) }
 
 -- the count at line k, with register 10 at N
 record Counting (N k c : ℕ) : Type 0 where

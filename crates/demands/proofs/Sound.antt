@@ -21,7 +21,8 @@ use Rattle.demands.specs.Pass.{Call, out, input, step-frame, step-row, d
 use Rattle.demands.proofs.Counter.{InPass, tick, line, jump-above}
 use Rattle.demands.proofs.Lines.{starts-at}
 use Rattle.demands.proofs.Kept.{Clean, write-keeps, read-keeps}
-use Rattle.demands.proofs.Steps.{stepped-raster, stepped-addr, stepped-dest, stepped-clean, refused}
+use Rattle.step.proofs.Laws.{stepped-raster, stepped-addr, stepped-dest}
+use Rattle.demands.proofs.Steps.{stepped-clean, refused-raster}
 
 pub record Sound (d : VdpState) : Type 0 where
   pub clean : Clean d
@@ -115,8 +116,8 @@ quiet : (c : Call) (d : VdpState) → NoStep c → after c d .raster ≡ d .rast
 unfolding after
 quiet (out p v m) d n = write-keeps d m p v .raster
 quiet (input p m) d n = read-keeps d m p .raster
-quiet (step-frame a vram k) d n = ap (λ (x : VdpState). x .raster) (refused (frameSize a) a vram k d (n d))
-quiet (step-row a vram k) d n = ap (λ (x : VdpState). x .raster) (refused (rowSize a) a vram k d (n d))
+quiet (step-frame a vram k) d n = refused-raster (frameSize a) a vram k d (n d)
+quiet (step-row a vram k) d n = refused-raster (rowSize a) a vram k d (n d)
 quiet (dump-tiles vram k) d n = refl
 
 pub then-raster : (cs : List Between) (h : History) → now (then cs h) .raster ≡ now h .raster

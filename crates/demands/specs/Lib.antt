@@ -1,2 +1,7 @@
 -- The demands, as statements.
 pub mod Pass
+pub mod Always
+pub mod Split
+pub mod Author
+pub mod Outcome
+pub mod Examples

@@ -16,6 +16,7 @@ use Rattle.picture.specs.Picture.{Row}
 use Rattle.picture.specs.Area.{columns, rows, rowSize, frameSize, pictureOf, rowBytes}
 use Rattle.raster.specs.Raster.{passLength}
 use Rattle.vdp.specs.declared.VdpState.{VdpState}
+use Rattle.vdp.specs.declared.Refusal.{Refusal}
 use Rattle.vdp.specs.declared.Refusal.the-variants.{Accepted}
 use Rattle.vdp.specs.Device.{fresh}
 use Rattle.vdp.specs.Ports.{portWrite, portRead}
@@ -25,6 +26,7 @@ use Rattle.step.specs.declared.DisplayRefresh.the-variants.{NoDisplay}
 use Rattle.step.specs.declared.DrawnRow.the-variants.{Drawn}
 use Rattle.step.specs.Step.{register, lineOf, rowStep, frameStep}
 use Rattle.step.specs.Frame.{frameAfter}
+use Rattle.step.specs.Dump.{dumpRefusal}
 
 -- ---- calls, from a fresh device on
 -- A call, with the video memory lent to it; `size` is the length of the pixel buffer lent to it.
@@ -42,6 +44,14 @@ after (input port vram) d = portRead d vram port .vdp
 after (step-frame a vram size) d = frameStep a vram size d .vdp
 after (step-row a vram size) d = rowStep a vram size d .vdp
 after (dump-tiles vram size) d = d
+
+-- the refusal that it gives, 0 among them
+unfoldable pub refusalOf : Call → VdpState → Refusal
+refusalOf (out port value vram) d = portWrite d vram port value .answer .refusal
+refusalOf (input port vram) d = portRead d vram port .refusal
+refusalOf (step-frame a vram size) d = frameStep a vram size d .refusal
+refusalOf (step-row a vram size) d = rowStep a vram size d .refusal
+refusalOf (dump-tiles vram size) d = dumpRefusal vram size
 
 -- the calls made so far, the last one first, and the device after them: "Start from a fresh device"
 abbrev pub History : Type 0

@@ -1,0 +1,90 @@
+-- What always holds, proved from what each call keeps.
+-- Assumes nothing.
+use mathlib.Core.Path.{_≡_, subst}
+use mathlib.Core.Logic.{_≢_}
+use mathlib.Core.Bool.{Bool, true, false, not, _&&_}
+use mathlib.Core.List.{List, [], _∷_}
+use Prim.Native.Nat.{ℕ, _≤_, _<_}
+use native.Mathlib.Omega.{arith}
+use lib.Dec.{ltb}
+use borrow.Author.Tests.{ltb-false, not-true}
+use Rattle.laws.proofs.Tests.{either, both}
+use Rattle.picture.specs.declared.RenderArea.{RenderArea}
+use Rattle.picture.specs.Area.{rowSize, frameSize}
+use Rattle.raster.specs.Raster.{jumpLine, jumpTo}
+use Rattle.vdp.specs.declared.VdpState.{VdpState}
+use Rattle.vdp.specs.declared.Refusal.{Refusal}
+use Rattle.vdp.specs.Refusals.{refusalNumber, Line, first, size, isPort, writeLines, readLines}
+use Rattle.vdp.specs.Ports.{portWrite, portRead}
+use Rattle.vdp.proofs.Exact.{write-exact, read-exact}
+use Rattle.vdp.proofs.Invariant.{Aimed}
+use Rattle.step.specs.Step.{stepWith, stepLines}
+use Rattle.step.specs.Dump.{dumpLines}
+use Rattle.step.proofs.Laws.{step-exact, dump-exact}
+use Rattle.demands.specs.Pass.{Call, out, input, step-frame, step-row, dump-tiles, refusalOf, History, now}
+use Rattle.demands.specs.Always.{Always}
+use Rattle.demands.proofs.Counter.{Within}
+use Rattle.demands.proofs.Sound.{Sound, sound}
+
+abbrev NotSeven : Refusal → Type 0
+NotSeven r = refusalNumber r ≢ 7
+
+-- a table of which no line that holds gives 7
+abbrev Silent : List Line → Type 0
+Silent [] = Unit {0}
+Silent (l ∷ ls) = (l .holds ≡ true → NotSeven (l .refusal)) × Silent ls
+
+first-not : (ls : List Line) → Silent ls → NotSeven (first ls)
+first-not [] s = omega arith
+first-not (l ∷ ls) s = either NotSeven (l .holds) (s .0) (λ _. first-not ls (s .1))
+
+module _ (d : VdpState) (m : List ℕ) (p : ℕ) (aimed : Aimed d) where
+  -- the line of 7 does not hold
+  inside : (b : Bool) → (b && not (ltb (d .addr) (size (d .dest)))) ≡ true → ⊥
+  inside b e =
+      let out = not-true (ltb (d .addr) (size (d .dest))) (both b (not (ltb (d .addr) (size (d .dest)))) e .1) in
+      omega (arith, ltb-false (d .addr) (size (d .dest)) out)
+
+  write-not : (v : ℕ) → NotSeven (portWrite d m p v .answer .refusal)
+  write-not v =
+      rw (write-exact d m p v)
+      (first-not (writeLines d m p v)
+      (λ _. omega arith, (λ _. omega arith, (λ _. omega arith, (λ _. omega arith, (λ e. absurd (inside (isPort 0xBE p) e), (λ _. omega arith, tt)))))))
+
+  read-not : NotSeven (portRead d m p .refusal)
+  read-not =
+      rw (read-exact d m p)
+      (first-not (readLines d m p)
+      (λ _. omega arith, (λ _. omega arith, (λ _. omega arith, (λ _. omega arith, (λ _. omega arith, (λ e. absurd (inside (isPort 0xBE p) e), tt)))))))
+
+step-not : (need : ℕ) (a : RenderArea) (vram : List ℕ) (n : ℕ) (d : VdpState) → NotSeven (stepWith need a vram n d .refusal)
+step-not need a vram n d =
+    rw (step-exact need a vram n d) (first-not (stepLines need vram n) (λ _. omega arith, (λ _. omega arith, tt)))
+
+not-seven : (c : Call) (d : VdpState) → Aimed d → NotSeven (refusalOf c d)
+unfolding refusalOf
+not-seven (out p v m) d h = write-not d m p h v
+not-seven (input p m) d h = read-not d m p h
+not-seven (step-frame a vram n) d h = step-not (frameSize a) a vram n d
+not-seven (step-row a vram n) d h = step-not (rowSize a) a vram n d
+not-seven (dump-tiles vram n) d h =
+    rw (dump-exact vram n) (first-not (dumpLines vram n) (λ _. omega arith, (λ _. omega arith, tt)))
+
+early : (J T : ℕ) (b : Bool) (c : ℕ) → Within J T b c → b ≡ false → c < J
+early J T b c w e = subst (λ (x : Bool). Within J T x c) e w
+
+late : (J T : ℕ) (b : Bool) (c : ℕ) → Within J T b c → b ≡ true → T ≤ c
+late J T b c w e = subst (λ (x : Bool). Within J T x c) e w .0
+
+pub always : (h : History) → Always (now h)
+always h =
+    let d = now h in
+    let x = d .raster in
+    let s = sound h in
+    record {
+      clean = s .clean;
+      before-jump = early jumpLine jumpTo (x .«v_counter_jumped») (x .«v_counter») (s .within);
+      after-jump = late jumpLine jumpTo (x .«v_counter_jumped») (x .«v_counter») (s .within);
+      in-memory = s .aimed;
+      no-seven = λ c. not-seven c d (s .aimed);
+    }

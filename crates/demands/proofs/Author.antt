@@ -1,0 +1,175 @@
+-- The author's program, answered.
+-- Assumes nothing.
+use mathlib.Core.Path.{_≡_, refl, sym, _∙_, ap, subst}
+use mathlib.Core.Logic.{_≢_}
+use mathlib.Core.Bool.{true}
+use mathlib.Core.List.{List, [], _∷_}
+use Prim.Native.Nat.{ℕ, zero, suc, _+_, _-_, _%_, _≤_}
+use native.Mathlib.Nat.{add-suc}
+use native.Mathlib.Omega.{arith}
+use lib.ListN.{length, set, replicate, length-replicate}
+use borrow.Author.Tests.{eq-eqb, ne-eqb}
+use Rattle.colour.proofs.Laws.{colours-at}
+use Rattle.picture.specs.declared.RenderArea.the-variants.{VisibleOnly}
+use Rattle.picture.specs.Area.{frameSize}
+use Rattle.raster.specs.Raster.{jumps}
+use Rattle.vdp.specs.declared.VdpState.{VdpState}
+use Rattle.vdp.specs.declared.Written.{Written}
+use Rattle.vdp.specs.declared.WriteDest.the-variants.{Cram}
+use Rattle.vdp.specs.declared.Latch.{Latch}
+use Rattle.vdp.specs.declared.Latch.the-variants.{Empty, Held}
+use Rattle.vdp.specs.declared.Refusal.the-variants.{Accepted}
+use Rattle.vdp.specs.Device.{fresh, withCommand, unlatched, withDest, withAddr, withPaletteByte}
+use Rattle.vdp.specs.Refusals.{whole}
+use Rattle.vdp.specs.Ports.{commandBy, commandWrite, dataWrite, stored, portWrite}
+use Rattle.step.specs.Step.{frameStep}
+use Rattle.demands.specs.Pass.{Run, after, now, then, until, through, ready, answer, lineSet}
+use Rattle.demands.specs.Split.{Split}
+use Rattle.demands.specs.Author.{recolour, asked, newPalette, Answered}
+use Rattle.step.proofs.Laws.{stepped-cram, stepped-command}
+use Rattle.demands.proofs.Steps.{taken, accepts}
+use Rattle.demands.proofs.Demand3.{steps, after-step, line-of}
+use Rattle.demands.proofs.Split.{rising, other-colours, which-pixels}
+
+-- the palette, and that no command byte is latched
+record Holds (d : VdpState) (p : List ℕ) : Type 0 where
+  cram : d .cram ≡ p
+  latch : d .«cmd_byte1» ≡ Empty
+
+-- ---- the four writes, on any device with no byte latched
+module _ (m : List ℕ) (w : whole m ≡ true) where
+  command : (d : VdpState) (v : ℕ) → portWrite d m 0xBF v .answer ≡ commandWrite d m v
+  unfolding portWrite
+  command d v = rw w
+
+  byte : (d : VdpState) (v : ℕ) → portWrite d m 0xBE v .answer ≡ dataWrite d m v .answer
+  unfolding portWrite
+  byte d v = rw w
+
+  abbrev told : VdpState → ℕ → ℕ → VdpState
+  told d p v = portWrite d m p v .answer .vdp
+
+  abbrev aimed : VdpState → VdpState
+  aimed d = withAddr (withDest (unlatched d) Cram) 6
+
+  first : (d : VdpState) → d .«cmd_byte1» ≡ Empty → told d 0xBF 0x06 ≡ withCommand d (Held 6)
+  first d e = ap (λ (r : Written). r .vdp) (command d 6) ∙ ap (λ (l : Latch). commandBy l d m 6 .vdp) e
+
+  chosen : (d : VdpState) → d .«cmd_byte1» ≡ Empty → told (told d 0xBF 0x06) 0xBF 0xC0 ≡ aimed d
+  chosen d e =
+      ap (λ (x : VdpState). told x 0xBF 0xC0) (first d e) ∙ ap (λ (r : Written). r .vdp) (command (withCommand d (Held 6)) 0xC0)
+
+  low-byte : (d : VdpState) (low : ℕ) → told (aimed d) 0xBE low ≡ withAddr (withPaletteByte (aimed d) (Held low)) 7
+  low-byte d low = ap (λ (r : Written). r .vdp) (byte (aimed d) low)
+
+  high-byte :
+      (d : VdpState) (low high : ℕ) → told (withAddr (withPaletteByte (aimed d) (Held low)) 7) 0xBE high
+      ≡ withAddr (stored (withAddr (withPaletteByte (aimed d) (Held low)) 7) 7 low (high % 16)) 8
+  high-byte d low high = ap (λ (r : Written). r .vdp) (byte (withAddr (withPaletteByte (aimed d) (Held low)) 7) high)
+
+  recoloured : (d : VdpState) (p : List ℕ) (low high : ℕ) → Holds d p → Holds (told (told (told (told d 0xBF 0x06) 0xBF 0xC0) 0xBE low) 0xBE high) (set (set p 6 low) 7 (high % 16))
+  recoloured d p low high k =
+      let e =
+      ap (λ (x : VdpState). told (told x 0xBE low) 0xBE high) (chosen d (k .latch))
+      ∙ ap (λ (x : VdpState). told x 0xBE high) (low-byte d low)
+      ∙ high-byte d low high
+      in
+      subst (λ (x : VdpState). Holds x (set (set p 6 low) 7 (high % 16))) (sym e)
+      record { cram = ap (λ (q : List ℕ). set (set q 6 low) 7 (high % 16)) (k .cram); latch = refl }
+
+-- ---- the run
+module _
+    (vram : ℕ → List ℕ) (frame : List ℕ) (accepted : (i : ℕ) (d : VdpState) → frameStep VisibleOnly (vram i) (length frame) d .refusal ≡ Accepted) (low high : ℕ)
+  where
+    abbrev r : Run VisibleOnly
+    r = asked vram frame accepted low high
+
+    abbrev old : List ℕ
+    old = fresh .cram
+
+    abbrev new : List ℕ
+    new = newPalette vram frame accepted low high
+
+    -- a step keeps both; and but for step 90 nothing is called before it
+    step-holds : (i : ℕ) (p : List ℕ) → Holds (ready r i) p → Holds (answer r i .vdp) p
+    step-holds i p k =
+        rw (steps r i)
+        record {
+          cram = stepped-cram VisibleOnly (vram i) (ready r i) ∙ k .cram;
+          latch = stepped-command VisibleOnly (vram i) (ready r i) ∙ k .latch;
+        }
+
+    nothing : (i : ℕ) → suc i ≢ 90 → ready r (suc i) ≡ answer r i .vdp
+    unfolding ready until then
+    nothing i n = rw (ne-eqb (suc i) 90 n) (after-step r i)
+
+    early : (i : ℕ) → i ≤ 89 → Holds (ready r i) old
+    unfolding ready until then now
+    early zero h = record { cram = refl; latch = refl }
+    early (suc i) h =
+        subst (λ (d : VdpState). Holds d old) (sym (nothing i (λ e. omega arith))) (step-holds i old (early i (omega arith)))
+
+    whole-90 : whole (vram 90) ≡ true
+    whole-90 =
+        eq-eqb (length (vram 90)) 16384
+        (taken (frameSize VisibleOnly) VisibleOnly (vram 90) (length frame) fresh (accepted 90 fresh) .memory)
+
+    written : Holds (ready r 90) new
+    unfolding ready until then now after
+    written =
+        recoloured (vram 90) whole-90 (now (through r 89)) old low high
+        (subst (λ (d : VdpState). Holds d old) (sym (after-step r 89)) (step-holds 89 old (early 89 (omega arith))))
+
+    late : (k : ℕ) → Holds (ready r (90 + k)) new
+    late zero = written
+    late (suc k) =
+        rw (add-suc 90 k)
+        (subst (λ (d : VdpState). Holds d new) (sym (nothing (90 + k) (λ e. omega arith))) (step-holds (90 + k) new (late k)))
+
+    first-line : lineSet r 0 ≡ 1
+    unfolding ready until then now jumps
+    first-line = line-of r 0
+
+    the-split : Split r 90 old new
+    the-split =
+        record {
+          from-top = omega (arith, first-line);
+          low = omega arith;
+          high = omega arith;
+          step = 89;
+          in-pass = omega arith;
+          sets = rising r 89 (omega (arith, first-line)) ∙ ap (λ (n : ℕ). n + 89) first-line;
+          until-then = λ i h. early i h .cram;
+          from-then = λ i h _.
+              let e : 90 + (i - 90) ≡ i = omega arith in
+              subst (λ (n : ℕ). ready r n .cram ≡ new) e (late (i - 90) .cram);
+        }
+
+    pub answered : Answered vram frame accepted low high
+    answered =
+        record {
+          split = the-split;
+          pixels = which-pixels the-split (omega arith) 3 (other-colours 3 old low (high % 16));
+          new-colour = colours-at new 3 (omega arith);
+        }
+
+-- such runs there are: with zeroed memory, on a zeroed frame
+zeros : List ℕ
+zeros = replicate 92160 0
+
+frame-length : length zeros ≡ 92160
+unfolding zeros
+frame-length = length-replicate {A = ℕ} 92160 0
+
+memory : List ℕ
+memory = replicate 16384 0
+
+memory-length : length memory ≡ 16384
+unfolding memory
+memory-length = length-replicate {A = ℕ} 16384 0
+
+zeros-accepted : (i : ℕ) (d : VdpState) → frameStep VisibleOnly memory (length zeros) d .refusal ≡ Accepted
+zeros-accepted i d = accepts (frameSize VisibleOnly) VisibleOnly memory (length zeros) d memory-length (omega (arith, frame-length))
+
+zeros-answered : (low high : ℕ) → Answered (λ i. memory) zeros zeros-accepted low high
+zeros-answered low high = answered (λ i. memory) zeros zeros-accepted low high

@@ -1,0 +1,203 @@
+-- One outcome for every public contract: each theorem names the contract that the toolchain generates from the function's own clauses.
+-- Assumes nothing.
+use mathlib.Core.Path.{_≡_, refl, sym, _∙_}
+use denote.Ref.{now}
+use Rattle.demands.specs.Outcome.{OneOutcome, OneOutcomeSeen, PaintedRow}
+use Rattle.bitmap.proofs.Bitmap.new as bitmap-new
+use Rattle.bitmap.proofs.Bitmap.set as bitmap-set
+use Rattle.bitmap.proofs.Bitmap.get as bitmap-get
+use Rattle.colour.proofs.rgb
+use Rattle.colour.proofs.palette_recompute
+use Rattle.raster.proofs.Raster.advance
+use Rattle.raster.proofs.Raster.line_interrupt_is_up
+use Rattle.raster.proofs.Raster.line_interrupt_update
+use Rattle.tile.proofs.wide
+use Rattle.tile.proofs.smaller
+use Rattle.tile.proofs.weight
+use Rattle.tile.proofs.is_set
+use Rattle.tile.proofs.character_line
+use Rattle.tile.proofs.character_line_sprite
+use Rattle.tile.proofs.character_line_sprite_bitmap
+use Rattle.background.proofs.names_at
+use Rattle.background.proofs.render_background_line
+use Rattle.row.proofs.render_line
+use Rattle.vdp.proofs.VdpState.new
+use Rattle.vdp.proofs.VdpState.out
+use Rattle.vdp.proofs.VdpState.input
+use Rattle.step.proofs.row_step
+use Rattle.step.proofs.frame_step
+use Rattle.step.proofs.row_view
+use Rattle.sprites.proofs.render_sprites_line
+use Rattle.dump.proofs.dump_tileset as dump_rows
+use Rattle.step.proofs.dump_tileset
+use Rattle.block.proofs.well_formed
+use Rattle.block.proofs.decode
+use Rattle.block.proofs.encode
+use Rattle.face.proofs.vdp_new
+use Rattle.face.proofs.vdp_out
+use Rattle.face.proofs.vdp_input
+use Rattle.face.proofs.vdp_step
+use Rattle.face.proofs.vdp_row_step
+use Rattle.face.proofs.vdp_dump_tileset
+use Rattle.recording.proofs.record_at
+use Rattle.recording.proofs.trace
+use Rattle.recording.proofs.snapshot
+
+-- ---- bitmap
+pub bitmap-new-once : OneOutcome 0 bitmap-new.Kinds.ps bitmap-new.Kinds.r bitmap-new.Reads.Asked bitmap-new.Reads.Learnt
+bitmap-new-once κs a q z z′ w w′ e f = (λ i. record { bits = (e ∙ sym f) i }, refl)
+
+pub bitmap-set-once : OneOutcome 0 bitmap-set.Kinds.ps bitmap-set.Kinds.r bitmap-set.Reads.Asked bitmap-set.Reads.Learnt
+bitmap-set-once κs a q z z′ w w′ e f = (λ i. record { bits = (e ∙ sym f) i }, refl)
+
+pub bitmap-get-once : OneOutcome 0 bitmap-get.Kinds.ps bitmap-get.Kinds.r bitmap-get.Reads.Asked bitmap-get.Reads.Learnt
+bitmap-get-once κs a q z z′ w w′ e f = (e ∙ sym f, refl)
+
+-- ---- colour
+pub rgb-once : OneOutcome 0 rgb.Kinds.ps rgb.Kinds.r rgb.Reads.Asked rgb.Reads.Learnt
+rgb-once κs a q z z′ w w′ e f = (e ∙ sym f, refl)
+
+pub palette-recompute-once : OneOutcome 0 palette_recompute.Kinds.ps palette_recompute.Kinds.r palette_recompute.Reads.Asked palette_recompute.Reads.Learnt
+palette-recompute-once κs a q z z′ w w′ e f = (e ∙ sym f, refl)
+
+-- ---- raster
+pub advance-once : OneOutcome 0 advance.Kinds.ps advance.Kinds.r advance.Reads.Asked advance.Reads.Learnt
+advance-once κs a q z z′ w w′ e f = (e ∙ sym f, refl)
+
+pub line-interrupt-is-up-once : OneOutcome 0 line_interrupt_is_up.Kinds.ps line_interrupt_is_up.Kinds.r line_interrupt_is_up.Reads.Asked line_interrupt_is_up.Reads.Learnt
+line-interrupt-is-up-once κs a q z z′ w w′ e f = (e ∙ sym f, refl)
+
+pub line-interrupt-update-once : OneOutcome 0 line_interrupt_update.Kinds.ps line_interrupt_update.Kinds.r line_interrupt_update.Reads.Asked line_interrupt_update.Reads.Learnt
+line-interrupt-update-once κs a q z z′ w w′ e f = (e ∙ sym f, refl)
+
+-- ---- tile
+pub wide-once : OneOutcome 0 wide.Kinds.ps wide.Kinds.r wide.Reads.Asked wide.Reads.Learnt
+wide-once κs a q z z′ w w′ e f = (e .0 ∙ sym (f .0), refl)
+
+pub smaller-once : OneOutcome 0 smaller.Kinds.ps smaller.Kinds.r smaller.Reads.Asked smaller.Reads.Learnt
+smaller-once κs a q z z′ w w′ e f = (e ∙ sym f, refl)
+
+pub weight-once : OneOutcome 0 weight.Kinds.ps weight.Kinds.r weight.Reads.Asked weight.Reads.Learnt
+weight-once κs a q z z′ w w′ e f = (e .0 ∙ sym (f .0), refl)
+
+pub is-set-once : OneOutcome 0 is_set.Kinds.ps is_set.Kinds.r is_set.Reads.Asked is_set.Reads.Learnt
+is-set-once κs a q z z′ w w′ e f = (e ∙ sym f, refl)
+
+pub character-line-once : OneOutcome 3 character_line.Kinds.ps character_line.Kinds.r character_line.Reads.Asked character_line.Reads.Learnt
+character-line-once κs a q z z′ w w′ e f = (e .1 ∙ sym (f .1), λ i. ((e .0 ∙ sym (f .0)) i, w .1))
+
+pub character-line-sprite-once : OneOutcome 3 character_line_sprite.Kinds.ps character_line_sprite.Kinds.r character_line_sprite.Reads.Asked character_line_sprite.Reads.Learnt
+character-line-sprite-once κs a q z z′ w w′ e f = (
+  λ i. record {
+    marks = (e .1 .0 ∙ sym (f .1 .0)) i;
+    drawn = (e .1 .1 ∙ sym (f .1 .1)) i;
+    held = (e .1 .2 ∙ sym (f .1 .2)) i;
+  },
+  λ i. ((e .0 ∙ sym (f .0)) i, w .1),
+)
+
+pub character-line-sprite-bitmap-once : OneOutcome 1 character_line_sprite_bitmap.Kinds.ps character_line_sprite_bitmap.Kinds.r character_line_sprite_bitmap.Reads.Asked character_line_sprite_bitmap.Reads.Learnt
+character-line-sprite-bitmap-once κs a q z z′ w w′ e f = (e ∙ sym f, refl)
+
+-- ---- background
+pub names-at-once : OneOutcome 0 names_at.Kinds.ps names_at.Kinds.r names_at.Reads.Asked names_at.Reads.Learnt
+names-at-once κs a q z z′ w w′ e f = (e .0 ∙ sym (f .0), refl)
+
+pub render-background-line-once : OneOutcome 3 render_background_line.Kinds.ps render_background_line.Kinds.r render_background_line.Reads.Asked render_background_line.Reads.Learnt
+render-background-line-once κs a q z z′ w w′ e f =
+    (λ i. record { bits = (e .1 ∙ sym (f .1)) i }, λ i. ((e .0 ∙ sym (f .0)) i, w .1))
+
+-- ---- sprites
+-- the contract speaks of a row that is painted in the colours, as `row` lends it
+pub render-sprites-line-once :
+    OneOutcome 3 render_sprites_line.Kinds.ps render_sprites_line.Kinds.r
+    (λ κs a. PaintedRow (now (a .0)) (now (a .1 .1 .0)) (a .1 .1 .1 .1 .1 .1 .0) (a .1 .1 .1 .1 .1 .1 .1 .0 .bits)) render_sprites_line.Reads.Learnt
+render-sprites-line-once κs a q z z′ w w′ e f =
+    let x = e (q .row₀) (q .mask) (q .colour) (q .is-mask) (q .is-painted) in
+    let y = f (q .row₀) (q .mask) (q .colour) (q .is-mask) (q .is-painted) in
+    (λ i. record { hit = (x .struck ∙ sym (y .struck)) i; ninth = (x .many ∙ sym (y .many)) i }, λ i. ((x .bytes ∙ sym (y .bytes)) i, w .1))
+
+-- ---- row
+pub render-line-once : OneOutcome 3 render_line.Kinds.ps render_line.Kinds.r render_line.Reads.Asked render_line.Reads.Learnt
+render-line-once κs a q z z′ w w′ e f = (e .status ∙ sym (f .status), λ i. ((e .bytes ∙ sym (f .bytes)) i, w .1))
+
+-- ---- vdp
+pub new-once : OneOutcome 0 new.Kinds.ps new.Kinds.r new.Reads.Asked new.Reads.Learnt
+new-once κs a q z z′ w w′ e f = (e ∙ sym f, refl)
+
+pub out-once : OneOutcome 1 out.Kinds.ps out.Kinds.r out.Reads.Asked out.Reads.Learnt
+out-once κs a q z z′ w w′ e f = (e .answer ∙ sym (f .answer), λ i. (tt, ((e .memory ∙ sym (f .memory)) i, w .1 .1)))
+
+pub input-once : OneOutcome 1 input.Kinds.ps input.Kinds.r input.Reads.Asked input.Reads.Learnt
+input-once κs a q z z′ w w′ e f = (e ∙ sym f, refl)
+
+-- ---- step
+pub row-step-once : OneOutcome 2 row_step.Kinds.ps row_step.Kinds.r row_step.Reads.Asked row_step.Reads.Learnt
+row-step-once κs a q z z′ w w′ e f = (e .answer ∙ sym (f .answer), λ i. (tt, (tt, ((e .bytes ∙ sym (f .bytes)) i, w .1 .1 .1))))
+
+pub frame-step-once : OneOutcome 2 frame_step.Kinds.ps frame_step.Kinds.r frame_step.Reads.Asked frame_step.Reads.Learnt
+frame-step-once κs a q z z′ w w′ e f = (e .answer ∙ sym (f .answer), λ i. (tt, (tt, ((e .bytes ∙ sym (f .bytes)) i, w .1 .1 .1))))
+
+pub dump-tileset-once : OneOutcome 2 dump_tileset.Kinds.ps dump_tileset.Kinds.r dump_tileset.Reads.Asked dump_tileset.Reads.Learnt
+dump-tileset-once κs a q z z′ w w′ e f = (e .refusal ∙ sym (f .refusal), λ i. (tt, (tt, ((e .bytes ∙ sym (f .bytes)) i, tt))))
+
+-- its answer is a part of the frame that it is lent: the bytes are told, and no contract tells an address
+pub row-view-once : OneOutcomeSeen 1 row_view.Kinds.ps row_view.Kinds.r row_view.Reads.Asked row_view.Reads.Learnt (λ κs z. now z)
+row-view-once κs a q z z′ w w′ e f = (e ∙ sym f, refl)
+
+-- ---- dump
+pub dump-rows-once : OneOutcome 3 dump_rows.Kinds.ps dump_rows.Kinds.r dump_rows.Reads.Asked dump_rows.Reads.Learnt
+dump-rows-once κs a q z z′ w w′ e f = (refl, λ i. ((e ∙ sym f) i, w .1))
+
+-- ---- block
+pub well-formed-once : OneOutcome 1 well_formed.Kinds.ps well_formed.Kinds.r well_formed.Reads.Asked well_formed.Reads.Learnt
+well-formed-once κs a q z z′ w w′ e f = (e ∙ sym f, refl)
+
+pub decode-once : OneOutcome 1 decode.Kinds.ps decode.Kinds.r decode.Reads.Asked decode.Reads.Learnt
+decode-once κs a q z z′ w w′ e f = (e ∙ sym f, refl)
+
+pub encode-once : OneOutcome 1 encode.Kinds.ps encode.Kinds.r encode.Reads.Asked encode.Reads.Learnt
+encode-once κs a q z z′ w w′ e f = (refl, λ i. (tt, ((e ∙ sym f) i, w .1 .1)))
+
+-- ---- face
+pub vdp-new-once : OneOutcome 1 vdp_new.Kinds.ps vdp_new.Kinds.r vdp_new.Reads.Asked vdp_new.Reads.Learnt
+vdp-new-once κs a q z z′ w w′ e f = (e .word ∙ sym (f .word), λ i. ((e .block ∙ sym (f .block)) i, w .1))
+
+pub vdp-out-once : OneOutcome 2 vdp_out.Kinds.ps vdp_out.Kinds.r vdp_out.Reads.Asked vdp_out.Reads.Learnt
+vdp-out-once κs a q z z′ w w′ e f = (e .word ∙ sym (f .word), λ i. ((e .block ∙ sym (f .block)) i, ((e .lent ∙ sym (f .lent)) i, w .1 .1)))
+
+pub vdp-input-once : OneOutcome 2 vdp_input.Kinds.ps vdp_input.Kinds.r vdp_input.Reads.Asked vdp_input.Reads.Learnt
+vdp-input-once κs a q z z′ w w′ e f = (e .word ∙ sym (f .word), λ i. ((e .block ∙ sym (f .block)) i, w .1))
+
+pub vdp-step-once : OneOutcome 3 vdp_step.Kinds.ps vdp_step.Kinds.r vdp_step.Reads.Asked vdp_step.Reads.Learnt
+vdp-step-once κs a q z z′ w w′ e f =
+    (e .word ∙ sym (f .word), λ i. ((e .block ∙ sym (f .block)) i, (tt, ((e .lent ∙ sym (f .lent)) i, w .1 .1 .1))))
+
+pub vdp-row-step-once : OneOutcome 3 vdp_row_step.Kinds.ps vdp_row_step.Kinds.r vdp_row_step.Reads.Asked vdp_row_step.Reads.Learnt
+vdp-row-step-once κs a q z z′ w w′ e f =
+    (e .word ∙ sym (f .word), λ i. ((e .block ∙ sym (f .block)) i, (tt, ((e .lent ∙ sym (f .lent)) i, w .1 .1 .1))))
+
+pub vdp-dump-tileset-once : OneOutcome 3 vdp_dump_tileset.Kinds.ps vdp_dump_tileset.Kinds.r vdp_dump_tileset.Reads.Asked vdp_dump_tileset.Reads.Learnt
+vdp-dump-tileset-once κs a q z z′ w w′ e f = (e .word ∙ sym (f .word), λ i. (tt, (tt, ((e .lent ∙ sym (f .lent)) i, tt))))
+
+-- ---- recording
+pub record-at-once : OneOutcome 1 record_at.Kinds.ps record_at.Kinds.r record_at.Reads.Asked record_at.Reads.Learnt
+record-at-once κs a q z z′ w w′ e f = (e ∙ sym f, refl)
+
+pub trace-once : OneOutcome 4 trace.Kinds.ps trace.Kinds.r trace.Reads.Asked trace.Reads.Learnt
+trace-once κs a q z z′ w w′ e f = (
+  e .0 .count ∙ sym (f .0 .count),
+  λ i. (tt, ((e .0 .memory ∙ sym (f .0 .memory)) i, ((e .0 .pixels ∙ sym (f .0 .pixels)) i, ((e .0 .bytes ∙ sym (f .0 .bytes)) i, tt)))),
+)
+
+pub snapshot-once : OneOutcome 5 snapshot.Kinds.ps snapshot.Kinds.r snapshot.Reads.Asked snapshot.Reads.Learnt
+snapshot-once κs a q z z′ w w′ e f = (
+  e .0 .count ∙ sym (f .0 .count),
+  λ i. (
+    tt,
+    (
+      (e .0 .memory ∙ sym (f .0 .memory)) i,
+      ((e .0 .pixels ∙ sym (f .0 .pixels)) i, ((e .0 .picture ∙ sym (f .0 .picture)) i, ((e .0 .bytes ∙ sym (f .0 .bytes)) i, tt))),
+    ),
+  ),
+)

@@ -1,0 +1,21 @@
+-- What always holds of a device that was made fresh, after any calls.
+-- Assumes nothing.
+use mathlib.Core.Path.{_≡_}
+use mathlib.Core.Logic.{_≢_}
+use mathlib.Core.Bool.{true, false}
+use Prim.Native.Nat.{_≤_, _<_}
+use Rattle.colour.specs.Colour.{coloursOf}
+use Rattle.raster.specs.Raster.{jumpLine, jumpTo}
+use Rattle.vdp.specs.declared.VdpState.{VdpState}
+use Rattle.vdp.specs.Refusals.{refusalNumber, size}
+use Rattle.demands.specs.Pass.{Call, refusalOf}
+
+pub record Always (d : VdpState) : Type 0 where
+  -- the cached colours are those of the palette whenever the record is not dirty
+  pub clean : d .«cram_dirty» ≡ false → d .«color_cache» ≡ coloursOf (d .cram)
+  -- the counter is at most D9 before its jump, and at least D5 after
+  pub before-jump : d .raster .«v_counter_jumped» ≡ false → d .raster .«v_counter» < jumpLine
+  pub after-jump : d .raster .«v_counter_jumped» ≡ true → jumpTo ≤ d .raster .«v_counter»
+  -- the address lies in its memory, and no call is refused by 7
+  pub in-memory : d .addr < size (d .dest)
+  pub no-seven : (c : Call) → refusalNumber (refusalOf c d) ≢ 7

@@ -1,0 +1,39 @@
+-- "Prove that two outcomes allowed by it are the same": said of the contract itself, as the toolchain generates it from a function's clauses.
+-- Assumes nothing.
+use mathlib.Core.Path.{_≡_}
+use mathlib.Core.Bool.{Bool}
+use mathlib.Core.List.{List}
+use Prim.Native.Nat.{ℕ}
+use contract.Lifetimes.{Lfts}
+use denote.Triple.Clauses.{Lasts, atExit}
+use borrow.Fn.Kind.{PK, RK}
+use borrow.Fn.Kinds.{In, Out, Dens, resT, endedOf}
+use Rattle.laws.specs.Lists.{at}
+use Rattle.laws.specs.Paint.{painted}
+use Rattle.bitmap.specs.Mask.{bytesOf}
+
+module _ (n : ℕ) (ps : List (PK n)) (r : RK n) where
+  -- For any arguments a that meet `asked`: two answers z, z′, each with what the lent buffers hold at exit, w, w′, of which a caller learns what the
+  -- contract tells, `learnt`, are the same.
+  abbrev pub OneOutcome : In n ps → Out n ps r → Type 0
+  OneOutcome asked learnt =
+      (κs : Lfts n) (a : Dens κs ps) → asked κs a →
+      (z z′ : resT r κs .Denot) (w w′ : Lasts (endedOf n ps r) κs a) →
+      learnt κs a z (atExit (endedOf n ps r) κs a w) → learnt κs a z′ (atExit (endedOf n ps r) κs a w′) →
+      (z ≡ z′) × (w ≡ w′)
+
+  -- the same of what is seen of the answer
+  abbrev pub OneOutcomeSeen : In n ps → Out n ps r → ((κs : Lfts n) → resT r κs .Denot → List ℕ) → Type 0
+  OneOutcomeSeen asked learnt see =
+      (κs : Lfts n) (a : Dens κs ps) → asked κs a →
+      (z z′ : resT r κs .Denot) (w w′ : Lasts (endedOf n ps r) κs a) →
+      learnt κs a z (atExit (endedOf n ps r) κs a w) → learnt κs a z′ (atExit (endedOf n ps r) κs a w′) →
+      (see κs z ≡ see κs z′) × (w ≡ w′)
+
+-- What the line of sprites is lent: a row that is painted in the colours, and a mask that is a mask's bytes.
+pub record PaintedRow (row colours : List ℕ) (width : ℕ) (prio : List ℕ) : Type 0 where
+  pub row₀ : List ℕ
+  pub colour : ℕ → ℕ
+  pub mask : ℕ → Bool
+  pub is-mask : prio ≡ bytesOf mask
+  pub is-painted : row ≡ painted row₀ 0 width (λ x. at colours (colour x))

@@ -1,0 +1,76 @@
+-- THE AUTHOR'S QUESTION: "If the program changes colour 3 when the line counter reads 90, which pixels change?"
+-- Assumes nothing.
+use mathlib.Core.Path.{_≡_}
+use mathlib.Core.Logic.{_≢_}
+use mathlib.Core.List.{List, [], _∷_}
+use Prim.Native.Nat.{ℕ, suc, _+_, _-_, _≤_, _<_}
+use Rattle.laws.specs.Lists.{at, rowOf}
+use Rattle.laws.specs.Paint.{byteOfColour}
+use Rattle.colour.specs.Colour.{coloursOf}
+use Rattle.picture.specs.declared.RenderArea.{RenderArea}
+use Rattle.picture.specs.declared.RenderArea.the-variants.{VisibleOnly}
+use Rattle.picture.specs.Area.{columns, rows, firstLine, rowBytes}
+use Rattle.raster.specs.Raster.{passLength}
+use Rattle.step.specs.declared.DrawnRow.the-variants.{Drawn}
+use Rattle.step.specs.Step.{lineOf}
+use Rattle.demands.specs.Pass.{Run, ready, answer, lineSet, rowAtEnd, pictureAt}
+
+-- The palette of a pass changes once, between the step that sets line L and the next; all else goes as it goes.
+pub record Split {a : RenderArea} (r : Run a) (L : ℕ) (old new : List ℕ) : Type 0 where
+  -- the pass begins no later than at the first row, line 24, so that its rows come from the top down
+  pub from-top : lineSet r 0 ≤ firstLine a
+  -- L is the line of a row
+  pub low : firstLine a ≤ L
+  pub high : L < firstLine a + rows a
+  -- the step that sets it
+  pub step : ℕ
+  pub in-pass : step < passLength
+  pub sets : lineSet r step ≡ L
+  -- the palette at each step of the pass
+  pub until-then : (i : ℕ) → i ≤ step → ready r i .cram ≡ old
+  pub from-then : (i : ℕ) → step < i → i < passLength → ready r i .cram ≡ new
+
+pub record ColourSplit {a : RenderArea} {r : Run a} {L : ℕ} {old new : List ℕ} (s : Split r L old new) : Type 0 where
+  -- after that step and until the next the counter reads L
+  pub reads : lineOf (ready r (suc (s .step))) ≡ L
+  -- "The step that set the counter to 90 has already drawn row 66": row L - 24
+  pub drew : answer r (s .step) .row ≡ Drawn (L - firstLine a)
+  -- "So row 66 keeps the old colour": each row y up to L - 24, drawn at its own step i
+  pub keeps :
+      (i y : ℕ) → i < passLength → answer r i .row ≡ Drawn y → y + firstLine a ≤ L →
+      rowAtEnd r y ≡ rowBytes (coloursOf old) (columns a) (pictureAt r i y)
+  -- "and row 67 is the first with the new one": each row y from L - 23 on
+  pub changes :
+      (i y : ℕ) → i < passLength → answer r i .row ≡ Drawn y → L < y + firstLine a →
+      rowAtEnd r y ≡ rowBytes (coloursOf new) (columns a) (pictureAt r i y)
+
+-- The request's own line: the step that sets 90 draws row 66 with the old palette, the next one row 67 with the new.
+pub record Ninety {r : Run VisibleOnly} {old new : List ℕ} (s : Split r 90 old new) : Type 0 where
+  pub row-66 : rowAtEnd r 66 ≡ rowBytes (coloursOf old) 160 (pictureAt r (s .step) 66)
+  pub row-67 : rowAtEnd r 67 ≡ rowBytes (coloursOf new) 160 (pictureAt r (suc (s .step)) 67)
+
+-- ---- pixel by pixel
+-- the four bytes of pixel x of row y at the end of the pass
+abbrev pub pixelAtEnd : {a : RenderArea} → Run a → (x y : ℕ) → List ℕ
+pixelAtEnd r x y = rowOf 4 x (rowAtEnd r y)
+
+abbrev pub fourBytes : ℕ → List ℕ
+fourBytes c = byteOfColour c 0 ∷ byteOfColour c 1 ∷ byteOfColour c 2 ∷ byteOfColour c 3 ∷ []
+
+-- no colour but c differs from one palette to the other
+abbrev pub OnlyColour : ℕ → List ℕ → List ℕ → Type 0
+OnlyColour c old new = (n : ℕ) → n ≢ c → at (coloursOf new) n ≡ at (coloursOf old) n
+
+-- Where only colour c changes. Pixel x of row y, drawn at step i, has the colour number `pictureAt r i y .colour x`.
+pub record WhichPixels {a : RenderArea} {r : Run a} {L : ℕ} {old new : List ℕ} (s : Split r L old new) (c : ℕ) : Type 0 where
+  -- those of number c in rows from L - 23 on show the new colour
+  pub these :
+      (i x y : ℕ) → i < passLength → answer r i .row ≡ Drawn y → x < columns a → L < y + firstLine a → pictureAt r i y .colour x ≡ c →
+      pixelAtEnd r x y ≡ fourBytes (at (coloursOf new) c)
+  -- those in rows up to L - 24, and those of any other number, show what they show with the old palette
+  pub not-above :
+      (i x y : ℕ) → i < passLength → answer r i .row ≡ Drawn y → x < columns a → y + firstLine a ≤ L →
+      pixelAtEnd r x y ≡ fourBytes (at (coloursOf old) (pictureAt r i y .colour x))
+  pub not-others :
+      (i x y : ℕ) → i < passLength → answer r i .row ≡ Drawn y → x < columns a → pictureAt r i y .colour x ≢ c →
+      pixelAtEnd r x y ≡ fourBytes (at (coloursOf old) (pictureAt r i y .colour x))
