@@ -3,3 +3,5 @@ pub mod Lines
 pub mod Turns
 pub mod Runs
 pub mod Outputs
+pub mod Until
+pub mod Same

@@ -13,7 +13,7 @@ use Rattle.laws.proofs.Tests.{either}
 use Rattle.vdp.specs.declared.Refusal.{Refusal}
 use Rattle.vdp.specs.Refusals.{refusalNumber}
 use Rattle.recording.specs.declared.text.Answer.{Answer}
-use Rattle.recording.specs.declared.text.Answer.the-variants.{Wrote, Gave, Stepped, Nothing}
+use Rattle.recording.specs.declared.text.Answer.the-variants.{Wrote, Nothing}
 use Rattle.recording.specs.Text.{digitOf, decimal, numbered, lineOf}
 
 -- the digits, by the tests that lead to them

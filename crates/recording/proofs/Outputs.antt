@@ -2,7 +2,7 @@
 -- Assumes nothing.
 use mathlib.Core.Path.{_≡_, refl, sym, ap, _∙_}
 use mathlib.Core.Bool.{Bool, true, false, _&&_}
-use mathlib.Core.List.{List, [], _∷_, _++_, append-assoc}
+use mathlib.Core.List.{List, [], _∷_, _++_}
 use Prim.Native.Nat.{ℕ, zero, suc, _+_, _*_, _<_, _≤_}
 use native.Mathlib.Numerals.{add-one}
 use native.Mathlib.Omega.{arith}
@@ -14,7 +14,7 @@ use Rattle.laws.specs.Lists.{at, written}
 use Rattle.picture.specs.declared.RenderArea.{RenderArea}
 use Rattle.recording.specs.declared.run.Run.{Run}
 use Rattle.recording.specs.Text.{numbered, endLine, badLine, longLine}
-use Rattle.recording.specs.Run.{World, Turn, held, start, rowTurn, frameTurn, after, lines, ran}
+use Rattle.recording.specs.Run.{World, Turn, start, rowTurn, frameTurn, after, lines, ran}
 use Rattle.recording.specs.Output.{lastLine, text, printed, pixels, header, ppm, drawn, pictured, Left, left, leaves, traced, snapped, TraceLeaves, SnapshotLeaves}
 use Rattle.laws.proofs.Lists.{written-nil, written-on}
 use Rattle.laws.proofs.Tests.{either}

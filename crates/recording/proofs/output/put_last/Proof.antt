@@ -1,10 +1,4 @@
 use borrow.Author.Needs.{needs}
-use mathlib.Core.Path.{_≡_, refl, sym, ap, _∙_}
-use mathlib.Core.List.{List, [], _∷_, _++_}
-use Prim.Native.Nat.{ℕ, _+_, _-_, _*_, _<_, _≤_}
-use native.Mathlib.Omega.{arith}
-use lib.ListN.{length}
-use Rattle.laws.specs.Lists.{written}
 use Rattle.recording.proofs.Outputs.{last-end, last-bad}
 use Rattle.recording.proofs.Lines.{put-as}
 use Rattle.recording.proofs.output.put_last.Statement.{statement}

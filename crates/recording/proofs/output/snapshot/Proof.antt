@@ -1,12 +1,10 @@
 use borrow.Author.Needs.{needs}
-use mathlib.Core.Path.{_≡_, refl, sym, ap, _∙_}
-use mathlib.Core.List.{List, [], _∷_, _++_}
-use Prim.Native.Nat.{ℕ, _+_, _-_, _*_, _<_, _≤_}
+use mathlib.Core.Path.{_≡_, refl, ap, _∙_}
+use Prim.Native.Nat.{ℕ, _-_, _≤_}
 use native.Mathlib.Omega.{arith}
 use lib.ListN.{length}
-use Rattle.laws.specs.Lists.{written}
 use Rattle.recording.specs.Text.{longLine}
-use Rattle.recording.specs.Run.{held, start, rowTurn, frameTurn, after, lines}
+use Rattle.recording.specs.Run.{held, start, frameTurn, after}
 use Rattle.recording.proofs.Outputs.{drawn-short, snapshot-no-room, snapshot-no-frame, snapshot-long, snapshot-whole, snapshot-leaves, lent}
 use Rattle.recording.proofs.Runs.{frame-moves, ran-small, world-more}
 use Rattle.recording.proofs.output.snapshot.Statement.{statement}

@@ -1,14 +1,13 @@
 use borrow.Author.Needs.{needs}
 use mathlib.Core.Path.{_≡_, refl, sym, ap, _∙_}
-use mathlib.Core.List.{List, [], _∷_, _++_}
-use Prim.Native.Nat.{ℕ, _+_, _-_, _*_, _<_, _≤_}
+use mathlib.Core.List.{[]}
+use Prim.Native.Nat.{ℕ, _-_, _≤_}
 use native.Mathlib.Omega.{arith}
 use lib.ListN.{length}
 use Rattle.laws.specs.Lists.{written}
 use Rattle.laws.proofs.Lists.{written-nil}
 use Rattle.recording.specs.Text.{longLine}
-use Rattle.recording.specs.Output.{lastLine}
-use Rattle.recording.specs.Run.{held, start, rowTurn, frameTurn, after, lines}
+use Rattle.recording.specs.Run.{held, start, rowTurn, after, lines}
 use Rattle.recording.proofs.Outputs.{text-whole, trace-no-room, trace-long, trace-whole, trace-leaves, lent, last-short}
 use Rattle.recording.proofs.Runs.{row-moves, ran-small, world-more, text-more}
 use Rattle.recording.proofs.output.trace.Statement.{statement}

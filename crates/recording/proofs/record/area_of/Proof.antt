@@ -1,5 +1,4 @@
-use borrow.Author.Needs.{needs}
-use borrow.Author.Tests.{lt-ltb, le-ltb, le-leb, lt-leb, eq-eqb, ne-eqb}
+use borrow.Author.Tests.{eq-eqb, ne-eqb}
 use Rattle.recording.proofs.record.area_of.Statement.{statement}
 use Rattle.recording.proofs.record.area_of.Tie as tie
 use Rattle.recording.proofs.record.area_of.Reads as reads

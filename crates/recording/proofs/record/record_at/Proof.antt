@@ -1,6 +1,6 @@
 use borrow.Author.Needs.{needs}
-use borrow.Author.Tests.{lt-ltb, le-ltb, le-leb, lt-leb, eq-eqb, ne-eqb}
-use mathlib.Core.Path.{_≡_, sym, ap, _∙_}
+use borrow.Author.Tests.{lt-ltb, le-ltb, le-leb, lt-leb, ne-eqb}
+use mathlib.Core.Path.{sym}
 use Rattle.recording.specs.Record.{recordAt, marked}
 use Rattle.recording.proofs.record.record_at.Statement.{statement}
 use Rattle.recording.proofs.record.record_at.Tie as tie

@@ -1,7 +1,5 @@
 use borrow.Author.Needs.{needs}
-use mathlib.Core.Path.{_≡_, refl, sym, ap, _∙_}
-use mathlib.Core.List.{[]}
-use Rattle.recording.specs.Run.{held, rowTurn, frameTurn}
+use Rattle.recording.specs.Run.{held, frameTurn}
 use Rattle.recording.proofs.Turns.{row-stepped, frame-stepped, beside-stepped, wrote, gave, went, at-bad, at-end}
 use Rattle.recording.proofs.run.frame_turn.Statement.{statement}
 use Rattle.recording.proofs.run.frame_turn.Tie as tie

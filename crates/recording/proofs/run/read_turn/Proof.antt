@@ -1,5 +1,5 @@
 use borrow.Author.Needs.{needs}
-use mathlib.Core.Path.{_≡_, refl, sym, ap, _∙_}
+use mathlib.Core.Path.{ap, _∙_}
 use Rattle.recording.specs.Run.{on}
 use Rattle.vdp.specs.declared.ReadBack.{ReadBack}
 use Rattle.recording.specs.declared.text.Answer.the-variants as Says

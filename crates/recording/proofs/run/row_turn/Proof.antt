@@ -1,8 +1,7 @@
 use borrow.Author.Needs.{needs}
-use mathlib.Core.Path.{_≡_, refl, sym, ap, _∙_}
 use mathlib.Core.List.{[]}
-use Rattle.recording.specs.Run.{held, rowTurn, frameTurn}
-use Rattle.recording.proofs.Turns.{row-stepped, frame-stepped, beside-stepped, wrote, gave, went, at-bad, at-end}
+use Rattle.recording.specs.Run.{held, rowTurn}
+use Rattle.recording.proofs.Turns.{row-stepped, wrote, gave, went, at-bad, at-end}
 use Rattle.recording.proofs.run.row_turn.Statement.{statement}
 use Rattle.recording.proofs.run.row_turn.Tie as tie
 use Rattle.recording.proofs.run.row_turn.Reads as reads

@@ -1,8 +1,7 @@
 use borrow.Author.Needs.{needs}
-use mathlib.Core.Path.{_≡_, refl, sym, ap, _∙_}
+use mathlib.Core.Path.{ap, _∙_}
 use Rattle.recording.specs.Run.{on}
 use Rattle.vdp.specs.declared.Written.{Written}
-use Rattle.vdp.specs.declared.VdpState.{VdpState}
 use Rattle.recording.specs.declared.text.Answer.the-variants as Says
 use Rattle.recording.proofs.run.write_turn.Statement.{statement}
 use Rattle.recording.proofs.run.write_turn.Tie as tie

@@ -1,5 +1,5 @@
 use borrow.Author.Needs.{needs}
-use borrow.Author.Tests.{lt-ltb, le-ltb, le-leb, lt-leb, eq-eqb, ne-eqb}
+use borrow.Author.Tests.{lt-ltb, le-ltb}
 use Rattle.recording.proofs.text.hex_digit.Statement.{statement}
 use Rattle.recording.proofs.text.hex_digit.Tie as tie
 use Rattle.recording.proofs.text.hex_digit.Reads as reads

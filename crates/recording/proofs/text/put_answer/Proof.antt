@@ -1,5 +1,5 @@
 use borrow.Author.Needs.{needs}
-use mathlib.Core.Path.{_≡_, refl, sym, ap, _∙_}
+use mathlib.Core.Path.{refl}
 use Rattle.recording.proofs.Lines.{wrote-line, line-done, no-line}
 use Rattle.recording.proofs.text.put_answer.Statement.{statement}
 use Rattle.recording.proofs.text.put_answer.Tie as tie

@@ -1,6 +1,6 @@
 use borrow.Author.Needs.{needs}
-use mathlib.Core.Path.{_≡_, refl, sym, ap, _∙_}
-use mathlib.Core.List.{List, [], _∷_}
+use mathlib.Core.Path.{sym, _∙_}
+use mathlib.Core.List.{[], _∷_}
 use lib.Dec.{lit≤}
 use Rattle.recording.proofs.Lines.{digits-put, one, two, three, four, five}
 use Rattle.recording.proofs.text.put_decimal.Statement.{statement}

@@ -1,0 +1,162 @@
+-- The snapshot follows a recording as the trace does: with buffers of the sizes that the programs hold, the device goes through the same states, video
+-- memory has the same bytes, and every call answers the same. Only what is drawn where differs.
+-- Assumes nothing.
+use mathlib.Core.Path.{_≡_, refl, sym, ap, _∙_}
+use mathlib.Core.List.{List, [], _++_}
+use Prim.Native.Nat.{ℕ, zero, suc, _+_, _≤_}
+use native.Mathlib.Omega.{arith}
+use lib.Dec.{ltb}
+use lib.ListN.{length, length-set}
+use Rattle.laws.proofs.Tests.{either}
+use Rattle.picture.specs.declared.RenderArea.{RenderArea}
+use Rattle.picture.specs.declared.RenderArea.the-variants.{VisibleOnly, EffectiveArea}
+use Rattle.vdp.specs.declared.VdpState.{VdpState}
+use Rattle.vdp.specs.declared.ReadBack.{ReadBack}
+use Rattle.vdp.specs.declared.WriteDest.{WriteDest}
+use Rattle.vdp.specs.declared.WriteDest.the-variants.{None, Vram, Cram}
+use Rattle.vdp.specs.Refusals.{whole, isPort}
+use Rattle.vdp.specs.Device.{unlatched}
+use Rattle.vdp.specs.Ports.{After, dataBy, portWrite, portRead}
+use Rattle.step.specs.declared.Stepped.{Stepped}
+use Rattle.step.specs.Step.{stepped, stepWith}
+use Rattle.step.proofs.Laws.{step-accepted, row-step-length, frame-step-length}
+use Rattle.recording.specs.declared.record.Record.{Record}
+use Rattle.recording.specs.declared.record.Record.the-variants.{Write, Read, Step, Bad, End}
+use Rattle.recording.specs.declared.text.Answer.the-variants as Says
+use Rattle.recording.specs.declared.run.Run.{Run}
+use Rattle.recording.specs.Record.{recordAt}
+use Rattle.recording.specs.Text.{lineOf}
+use Rattle.recording.specs.Run.{World, Turn, start, on, stepAnswer, rowTurn, frameTurn, turnBy, turnOf, after, lines}
+
+-- video memory keeps its length
+data-length : (d : WriteDest) (s : VdpState) (m : List ℕ) (v : ℕ) → length (dataBy d s m v .vram) ≡ length m
+data-length None s m v = refl
+data-length Vram s m v = either (λ (a : After). length (a .vram) ≡ length m) (ltb (s .addr) 16384) (λ _. simp length-set) (λ _. refl)
+data-length Cram s m v = refl
+
+write-length : (s : VdpState) (m : List ℕ) (p v : ℕ) → length (portWrite s m p v .vram) ≡ length m
+unfolding portWrite
+write-length s m p v =
+    let P : After → Type 0 = λ a. length (a .vram) ≡ length m in
+    either P (whole m)
+    (λ _.
+    either P (isPort 0xBF p) (λ _. refl) (λ _. either P (isPort 0xBE p) (λ _. data-length (s .dest) (unlatched s) m v) (λ _. refl)))
+    (λ _. refl)
+
+-- two worlds with the same device and video memory, and large enough buffers to draw in
+pub record Alike (t w : World) : Type 0 where
+  pub runs : t .run ≡ w .run
+  pub memory : t .vram ≡ w .vram
+  pub vram : length (t .vram) ≡ 16384
+  pub rows : 1024 ≤ length (t .row)
+  pub rows′ : 1024 ≤ length (w .row)
+  pub frame : 92160 ≤ length (w .frame)
+
+-- one turn of each
+pub record SameTurn (a b : Turn) : Type 0 where
+  pub answer : a .answer ≡ b .answer
+  pub world : Alike (a .world) (b .world)
+
+-- a step that is accepted in both answers the same: that depends on the device and on video memory alone
+same-step :
+    (a : RenderArea) (need need′ size size′ : ℕ) {t w : World} → Alike t w → need ≤ size → need′ ≤ size′
+    → stepWith need a (t .vram) size (t .run .vdp) ≡ stepWith need′ a (w .vram) size′ (w .run .vdp)
+same-step a need need′ size size′ {t} {w} h k k′ =
+    step-accepted need a (t .vram) size (t .run .vdp) (h .vram) k
+    ∙ (λ i. stepped a (h .memory i) (h .runs i .vdp))
+    ∙ sym (step-accepted need′ a (w .vram) size′ (w .run .vdp) (sym (ap length (h .memory)) ∙ h .vram) k′)
+
+-- the answer and the run, from two steps that answer the same
+same-answer : {x y : Stepped} → x ≡ y → stepAnswer x ≡ stepAnswer y
+same-answer e = ap stepAnswer e
+
+same-run : {r q : Run} {x y : Stepped} → r ≡ q → x ≡ y → on r 3 (x .vdp) ≡ on q 3 (y .vdp)
+same-run e f = λ i. on (e i) 3 (f i .vdp)
+
+step-both : (a : RenderArea) {t w : World} → Alike t w → SameTurn (rowTurn a t) (frameTurn a w)
+unfolding rowTurn frameTurn
+step-both VisibleOnly {t} {w} h =
+    let r = h .rows in
+    let f = h .frame in
+    let e = same-step VisibleOnly 640 92160 (length (t .row)) (length (w .frame)) h (omega arith) f in
+    record {
+      answer = same-answer e;
+      world = record {
+        runs = same-run (h .runs) e;
+        memory = h .memory;
+        vram = h .vram;
+        rows = omega (arith, row-step-length VisibleOnly (t .vram) (t .run .vdp) (t .row));
+        rows′ = h .rows′;
+        frame = omega (arith, frame-step-length VisibleOnly (w .vram) (w .run .vdp) (w .frame));
+      };
+    }
+step-both EffectiveArea {t} {w} h =
+    let r = h .rows in
+    let r′ = h .rows′ in
+    let e = same-step EffectiveArea 1024 1024 (length (t .row)) (length (w .row)) h r r′ in
+    record {
+      answer = same-answer e;
+      world = record {
+        runs = same-run (h .runs) e;
+        memory = h .memory;
+        vram = h .vram;
+        rows = omega (arith, row-step-length EffectiveArea (t .vram) (t .run .vdp) (t .row));
+        rows′ = omega (arith, row-step-length EffectiveArea (w .vram) (w .run .vdp) (w .row));
+        frame = h .frame;
+      };
+    }
+
+turn-by : (x : Record) {t w : World} → Alike t w → SameTurn (turnBy x rowTurn t) (turnBy x frameTurn w)
+unfolding turnBy
+turn-by (Write p v) {t} {w} h =
+    let e : portWrite (t .run .vdp) (t .vram) p v ≡ portWrite (w .run .vdp) (w .vram) p v = λ i. portWrite (h .runs i .vdp) (h .memory i) p v in
+    record {
+      answer = ap (λ (a : After). Says.Wrote (a .answer .refusal)) e;
+      world = record {
+        runs = λ i. on (h .runs i) 4 (e i .answer .vdp);
+        memory = ap (λ (a : After). a .vram) e;
+        vram = write-length (t .run .vdp) (t .vram) p v ∙ h .vram;
+        rows = h .rows;
+        rows′ = h .rows′;
+        frame = h .frame;
+      };
+    }
+turn-by (Read p) {t} {w} h =
+    let e : portRead (t .run .vdp) (t .vram) p ≡ portRead (w .run .vdp) (w .vram) p = λ i. portRead (h .runs i .vdp) (h .memory i) p in
+    record {
+      answer = ap (λ (a : ReadBack). Says.Gave (a .refusal) (a .byte)) e;
+      world = record {
+        runs = λ i. on (h .runs i) 3 (e i .vdp);
+        memory = h .memory;
+        vram = h .vram;
+        rows = h .rows;
+        rows′ = h .rows′;
+        frame = h .frame;
+      };
+    }
+turn-by (Step a) h = step-both a h
+turn-by Bad h = record { answer = refl; world = h }
+turn-by End h = record { answer = refl; world = h }
+
+-- one turn, and so all of them
+same-turn : (s : List ℕ) {t w : World} → Alike t w → SameTurn (turnOf rowTurn s t) (turnOf frameTurn s w)
+unfolding turnOf
+same-turn s {t} {w} h = rw (ap (λ (r : Run). recordAt s (r .at)) (h .runs)) (turn-by (recordAt s (w .run .at)) h)
+
+pub alike : (n : ℕ) (s : List ℕ) {t w : World} → Alike t w → Alike (after rowTurn n s t) (after frameTurn n s w)
+unfolding after
+alike zero s h = h
+alike (suc n) s h = same-turn s (alike n s h) .world
+
+pub same-lines : (n : ℕ) (s : List ℕ) {t w : World} → Alike t w → lines rowTurn n s t ≡ lines frameTurn n s w
+unfolding lines
+same-lines zero s h = refl
+same-lines (suc n) s h = λ i. same-lines n s h i ++ lineOf (same-turn s (alike n s h) .answer i)
+
+-- the two programs, as they start: 16,384 bytes of video memory, a row buffer of 1,024 and a frame of 92,160
+pub programs :
+    (n : ℕ) (s vram row frame : List ℕ) → length vram ≡ 16384 → length row ≡ 1024 → length frame ≡ 92160
+    → Alike (after rowTurn n s (start vram row [])) (after frameTurn n s (start vram row frame))
+programs n s vram row frame v r f =
+    alike n s
+    (record { runs = refl; memory = refl; vram = v; rows = omega arith; rows′ = omega arith; frame = omega arith })

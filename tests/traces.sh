@@ -1,0 +1,128 @@
+#!/usr/bin/env bash
+# traces.sh: build/bin/trace and build/bin/snapshot on whole, damaged, empty and long recordings, and the split at line 90.
+# What is expected: of the traces in tests/traces/ the text beside each; of the others what the scope document says, said again here.
+set -u
+cd "$(dirname "$0")/.."
+. tools/cross.sh
+[ -x build/bin/trace ] && [ -x build/bin/snapshot ] || make --no-print-directory build || exit 1
+work=build/test/traces
+mkdir -p $work
+passed=0 failed=0
+
+# tell NAME STATUS: one line for each test.
+tell() {
+    if [ "$2" -eq 0 ]; then
+        printf 'ok: %s\n' "$1"
+        passed=$((passed + 1))
+    else
+        printf 'FAILED: %s\n' "$1"
+        failed=$((failed + 1))
+    fi
+}
+
+# prints NAME TRACE TEXT: the file TRACE prints the file TEXT.
+prints() {
+    $RUN build/bin/trace < "$2" > $work/printed && cmp "$3" $work/printed
+    tell "$1" $?
+}
+
+# says NAME TRACE TEXT: of the file TRACE snapshot writes the file TEXT, and no picture.
+says() {
+    $RUN build/bin/snapshot < "$2" > $work/written && cmp "$3" $work/written
+    tell "$1" $?
+}
+
+# Whole traces.
+for trace in tests/traces/*.trace; do
+    name=$(basename "$trace" .trace)
+    prints "trace $name" "$trace" "${trace%.trace}.text"
+done
+
+# Damaged ones: behind records of 0, 3, 7 and 29 bytes a bad record of each kind, with a whole one behind it where it isn't cut.
+# bad START TEXT RECORDS: behind START, which prints TEXT, RECORDS are bad at once. START and RECORDS are as printf takes them.
+bad() {
+    printf "$1$3" > $work/damaged
+    printf 'bad %s\n' "$(printf "$1" | wc -c | tr -d ' ')" > $work/line
+    { printf "$2"; cat $work/line; } > $work/expected
+    $RUN build/bin/trace < $work/damaged | cmp $work/expected - && $RUN build/bin/snapshot < $work/damaged | cmp $work/line -
+}
+example='PW\277\000PW\277\100PW\276\253PW\277\000PW\277\000PR\276LS\000PR\177'
+damaged() {
+    bad '' '' "$2" && bad 'PR~' 'r 0 00\n' "$2" && bad 'PR~PW\277\000' 'r 0 00\nw 0\n' "$2" &&
+        bad "$example" 'w 0\nw 0\nw 0\nw 0\nw 0\nr 0 AB\ns 0 01 0 0\nr 2 00\n' "$2"
+    tell "bad at 0, 3, 7 and 29: $1" $?
+}
+damaged 'no mark at all' 'XX\000\000LS\000'
+damaged 'the first letter alone right' 'PX\000\000LS\000'
+damaged 'the second letter alone right' 'LW\000\000LS\000'
+damaged 'a mark turned round' 'WP\277\000LS\000'
+damaged 'a mark in small letters' 'pw\277\000LS\000'
+damaged 'an end of line' '\nPR~'
+damaged 'area 2' 'LS\002LS\000'
+damaged 'area 128' 'LS\200LS\000'
+damaged 'area 255' 'LS\377LS\000'
+damaged 'area 0 as a letter' 'LS0LS\000'
+damaged 'a write cut behind P' 'P'
+damaged 'a write cut behind PW' 'PW'
+damaged 'a write cut behind its port' 'PW\277'
+damaged 'a read cut behind PR' 'PR'
+damaged 'a step cut behind L' 'L'
+damaged 'a step cut behind LS' 'LS'
+
+# At the limit: 65,535 bytes of reads of the counter, of steps and of writes; 65,536 bytes and many more.
+yes 'PR~' | tr -d '\n' | head -c 65535 > $work/reads
+{ yes 'r 0 00' | head -n 21845; echo 'end 21845'; } > $work/expected
+prints '65,535 bytes: 21,845 reads' $work/reads $work/expected
+yes 'LS0' | tr -d '\n' | tr 0 '\000' | head -c 65535 > $work/steps
+awk 'BEGIN {
+    for (n = 1; n <= 21845; n++) {
+        line = (line + 1) % 256
+        if (line == 0) jumped = 0
+        if (line == 218 && !jumped) { jumped = 1; line = 213 }
+        printf "s 0 %02X 0 %d\n", line, line == 193 ? 2 : 0
+    }
+    print "end 21845"
+}' > $work/expected
+prints '65,535 bytes: 21,845 steps' $work/steps $work/expected
+{ yes "$(printf 'PW\277@')" | tr -d '\n' | head -c 65532; printf 'PR~'; } > $work/writes
+{ yes 'w 0' | head -n 16383; echo 'r 0 00'; echo 'end 16384'; } > $work/expected
+prints '65,535 bytes: 16,383 writes and a read' $work/writes $work/expected
+printf 'long\n' > $work/expected
+{ cat $work/reads; printf 'P'; } > $work/longer
+prints '65,536 bytes' $work/longer $work/expected
+says '65,536 bytes, snapshot' $work/longer $work/expected
+head -c 200000 /dev/zero > $work/longest
+prints '200,000 bytes' $work/longest $work/expected
+says '200,000 bytes, snapshot' $work/longest $work/expected
+# By a pipe, in small pieces, as a terminal would give it.
+printf 'r 0 00\nr 0 00\nend 2\n' > $work/expected
+{ printf 'P'; sleep 0.2; printf 'R~PR'; sleep 0.2; printf '~'; } | $RUN build/bin/trace | cmp $work/expected -
+tell 'a trace in small pieces' $?
+
+# Snapshots. Nothing drawn: a picture of zeros.
+{ printf 'P6\n160 144\n255\n'; head -c 69120 /dev/zero; } > $work/expected
+says 'no input, snapshot' tests/traces/empty.trace $work/expected
+says 'effective steps draw nothing in the picture' <(tr '\000' '\001' < $work/steps | head -c 900) $work/expected
+
+# The author's question: colour 3 is changed where the line counter reads 90. Row 66 has the old colour, row 67 the new one.
+# row Y: the bytes of the picture's row Y, in hex.
+row() { od -An -v -tx1 -j $((15 + 480 * $1)) -N 480 $work/split90.ppm | tr -d ' \n'; }
+# plain COLOUR: a row of this colour.
+plain() { yes "$1" | head -n 160 | tr -d '\n'; }
+$RUN build/bin/snapshot < tests/traces/split90.trace > $work/split90.ppm
+[ "$(head -c 15 $work/split90.ppm | od -An -v -tx1 | tr -d ' \n')" = 50360a313630203134340a3235350a ] && [ "$(($(wc -c < $work/split90.ppm)))" = 69135 ]
+tell 'split at line 90: the picture is a whole PPM' $?
+[ "$(row 66)" = "$(plain ff0000)" ]
+tell 'split at line 90: row 66 has the old colour' $?
+[ "$(row 67)" = "$(plain 0000ff)" ]
+tell 'split at line 90: row 67 has the new colour' $?
+status=0
+for y in $(seq 0 143); do
+    # every eighth line is ruled in grey, which stays
+    if [ $((y % 8)) = 0 ]; then colour=666666; elif [ "$y" -le 66 ]; then colour=ff0000; else colour=0000ff; fi
+    [ "$(row "$y")" = "$(plain $colour)" ] || { echo "row $y"; status=1; }
+done
+tell 'split at line 90: all other rows' $status
+
+printf '%s passed, %s failed\n' "$passed" "$failed"
+[ "$failed" -eq 0 ]

@@ -1,0 +1,65 @@
+#!/usr/bin/env python3
+"""Writes the traces of this folder, but for split90.trace, which split90.py writes. The text beside each says what it must print."""
+import pathlib
+
+FOLDER = pathlib.Path(__file__).parent
+
+
+def write(port, *values):
+    return b"".join(bytes([0x50, 0x57, port, value]) for value in values)  # PW port value
+
+
+def read(port, times=1):
+    return bytes([0x50, 0x52, port]) * times  # PR port
+
+
+def steps(count, area=0):
+    return bytes([0x4C, 0x53, area]) * count  # LS area
+
+
+BF, BE, LINE = 0xBF, 0xBE, 0x7E
+EXAMPLE = write(BF, 0x00, 0x40) + write(BE, 0xAB) + write(BF, 0x00, 0x00) + read(BE) + steps(1) + read(0x7F)
+
+traces = {
+    # the scope document's example, and no input at all
+    "example": EXAMPLE,
+    "empty": b"",
+    # its marked examples P1 to P3, P5 to P7 and P12
+    "p1": steps(1) + read(LINE),
+    "p2": write(BF, 0x00, 0x00) + write(BE, 0x42) + read(BE, 2),
+    "p3": write(BF, 0xFE, 0x7F) + write(BE, 0xA1, 0xB2) + write(BF, 0xFE, 0x3F) + read(BE, 2),
+    "p5": write(BF, 0x01, 0xC0) + write(BE, 0x77),
+    "p6": write(BF, 0x00, 0x8A) + write(BF, 0x00, 0x8B),
+    "p7": steps(261) + read(LINE),
+    "p12": write(BF, 0x10, 0x80) + write(BF, 0x03, 0x8A) + steps(261 + 14),
+    # every refusal that a trace can meet, 1 to 6, and ports by their low byte
+    "refusals": write(0x00, 0x00)
+    + read(0x00)
+    + read(0x7F)
+    + write(LINE, 0x00)
+    + write(BF, 0x00, 0x8B)
+    + write(BE, 0x00)
+    + read(BE)
+    + write(BF, 0x01, 0xC0)
+    + read(BE)
+    + write(BE, 0x00),
+    # frame and line interrupts, the status byte and both reports
+    "interrupts": write(BF, 0x60, 0x81) + steps(0xC2) + read(BF, 2) + steps(1) + write(BF, 0x00, 0x81) + steps(260) + read(BF),
+    # both areas, turn by turn
+    "areas": b"".join(steps(1, line % 2) for line in range(300)),
+    # a sprite met by another, and a ninth on the line: status bits 5 and 6
+    "sprites": write(BF, 0x00, 0x40)
+    + write(BE, *[0xFF] * 32)
+    + write(BF, 0x00, 0x7F)
+    + write(BE, *[99] * 9, 0xD0)
+    + write(BF, 0x80, 0x7F)
+    + write(BE, *[100, 0] * 9)
+    + write(BF, 0x00, 0x86)
+    + steps(100)
+    + read(BF)
+    + steps(1)
+    + read(BF, 2),
+}
+
+for name, trace in traces.items():
+    (FOLDER / f"{name}.trace").write_bytes(trace)
