@@ -1,10 +1,12 @@
 // The step: into a row buffer, or into a frame of which it lends one row. And the view of a frame's row, and the dump of all tiles.
 ghost use mathlib.Core.Path.{_≡_};
+ghost use mathlib.Core.Bool.{cond};
 ghost use Prim.Native.Nat.{_≤_};
 ghost use lib.ListN.{length};
+ghost use Rattle.colour.specs.Colour.{coloursOf};
 ghost use Rattle.picture.specs.Area.{rowSize};
 ghost use Rattle.picture.specs.declared.RenderArea.the-variants.{VisibleOnly, EffectiveArea};
-ghost use Rattle.step.specs.Step.{lineOf, advance, rowOn, coloursNow, drawnBy, endScreen, reportOf, interruptOf, countLine, refusedStep};
+ghost use Rattle.step.specs.Step.{lineOf, advance, rowOn, drawnBy, endScreen, reportOf, interruptOf, countLine, refusedStep};
 ghost use Rattle.step.specs.Dump.{DumpLeaves};
 ghost use Rattle.step.specs.Frame.{rowWith, RowStepLeaves, FrameStepLeaves, rowView};
 use picture::RenderArea;
@@ -79,13 +81,13 @@ fn row_on(area: RenderArea, line: u8) -> DrawnRow
     }
 }
 
-// The colours to draw with: rebuilt where the cache is dirty.
-fn colours_now(vdp: VdpState) -> [u32; 32]
-    ensures { λ r. ⌜ r ≡ coloursNow vdp ⌝ }
+// The colours to draw with: made anew from the palette, or the cache as it stands.
+fn colours_of(vdp: VdpState, rebuilt: bool) -> [u32; 32]
+    ensures { λ r. ⌜ r ≡ cond rebuilt (coloursOf (vdp .cram)) (vdp .«color_cache») ⌝ }
 {
     let cram = vdp.cram;
     let color_cache = vdp.color_cache;
-    if vdp.cram_dirty {
+    if rebuilt {
         return colour::palette_recompute(cram);
     }
     color_cache
@@ -102,7 +104,7 @@ fn draw(vdp: VdpState, vram: &[u8], row: &mut [u8], area: RenderArea, drawn: Dra
     };
     let reg = vdp.reg;
     let raster = vdp.raster;
-    let colours = colours_now(vdp);
+    let colours = colours_of(vdp, vdp.cram_dirty);
     let bits = row::render_line(row, vram, &colours, area, reg, raster.vertical_scroll, line);
     let mut next = vdp.with_cache(colours);
     next.status = vdp.status | bits;
@@ -286,14 +288,6 @@ pub fn row_view<'a>(frame: &'a [u8], area: RenderArea, row: usize) -> &'a [u8]
     }
 }
 
-// The cached colours as they stand, dirty or not.
-fn cache_of(vdp: VdpState) -> [u32; 32]
-    ensures { λ r. ⌜ r ≡ vdp .«color_cache» ⌝ }
-{
-    let colours = vdp.color_cache;
-    colours
-}
-
 // All tiles, side by side. It draws with the cache as it stands, and leaves the device.
 pub fn dump_tileset(vdp: VdpState, vram: &[u8], pixels: &mut [u8]) -> Refusal
     ensures { λ r. ⌜ DumpLeaves vdp (now (vram .entry)) (now (pixels .entry)) r (now (pixels .exit)) ⌝ }
@@ -305,7 +299,7 @@ pub fn dump_tileset(vdp: VdpState, vram: &[u8], pixels: &mut [u8]) -> Refusal
         return Refusal::PixelLength;
     }
     let reg = vdp.reg;
-    let colours = cache_of(vdp);
+    let colours = colours_of(vdp, false);
     dump::dump_tileset(pixels, vram, &colours, reg);
     Refusal::Accepted
 }

@@ -7,7 +7,7 @@ use Rattle.step.proofs.draw.Tie as tie
 use Rattle.step.proofs.draw.Reads as reads
 use Rattle.step.proofs.draw.Lts as lts
 use Rattle.row.proofs.render_line.Reads as render-line-reads
-use Rattle.step.proofs.colours_now.Reads as colours-now-reads
+use Rattle.step.proofs.colours_of.Reads as colours-of-reads
 use Rattle.vdp.proofs.VdpState.with_cache.Reads as with-cache-reads
 
 -- src/lib.rt:99:25
@@ -23,8 +23,8 @@ returns : tie.Need-returns
 returns c = drawn-none (c .before .before .before .before .args .area) (c .before .before .before .before .args .vram .now) (c .before .before .before .before .args .vdp) (c .before .before .before .before .args .row .now) (c .enum-told .given .1)
 
 -- src/lib.rt:104:19
-colours-now-requires : tie.Need-colours-now-requires
-colours-now-requires c κs = search needs
+colours-of-requires : tie.Need-colours-of-requires
+colours-of-requires c κs = search needs
 
 -- src/lib.rt:105:9
 render-line-requires : tie.Need-render-line-requires
@@ -40,7 +40,7 @@ same-length c = search needs
 
 -- src/lib.rt:94:1
 returns-2 : tie.Need-returns-2
-returns-2 c = drawn-one (c .before .before .before .before .before .before .before .before .before .before .before .before .before .before .before .args .area) (c .before .before .before .before .before .before .before .before .before .before .before .before .before .before .before .args .vram .now) (c .before .before .before .before .before .before .before .before .before .before .before .before .before .before .before .args .vdp) (c .before .before .before .before .before .before .before .before .before .before .before .before .before .before .before .args .row .now) _ (c .before .before .before .before .before .before .before .before .before .before .before .drawn .given .1) (c .before .before .before .before .before .before .before .colours-now .ensures) (c .before .with-cache .ensures) (c .before .before .before .before .render-line .ensures .bytes) (c .before .before .before .before .render-line .ensures .status)
+returns-2 c = drawn-one (c .before .before .before .before .before .before .before .before .before .before .before .before .before .before .before .args .area) (c .before .before .before .before .before .before .before .before .before .before .before .before .before .before .before .args .vram .now) (c .before .before .before .before .before .before .before .before .before .before .before .before .before .before .before .args .vdp) (c .before .before .before .before .before .before .before .before .before .before .before .before .before .before .before .args .row .now) _ (c .before .before .before .before .before .before .before .before .before .before .before .drawn .given .1) (c .before .before .before .before .before .before .before .colours-of .ensures) (c .before .with-cache .ensures) (c .before .before .before .before .render-line .ensures .bytes) (c .before .before .before .before .render-line .ensures .status)
 
 pub draw-spec : {M : Type 1} → statement M
 draw-spec =
@@ -49,7 +49,7 @@ draw-spec =
     enum-known-drawn
     enum-told
     returns
-    colours-now-requires
+    colours-of-requires
     render-line-requires
     with-cache-requires
     same-length

@@ -5,7 +5,7 @@ use Rattle.step.proofs.dump_tileset.Tie as tie
 use Rattle.step.proofs.dump_tileset.Reads as reads
 use Rattle.step.proofs.dump_tileset.Lts as lts
 use Rattle.dump.proofs.dump_tileset.Reads as dump-tileset-reads
-use Rattle.step.proofs.cache_of.Reads as cache-of-reads
+use Rattle.step.proofs.colours_of.Reads as colours-of-reads
 
 -- src/lib.rt:302:9
 returns : tie.Need-returns
@@ -16,8 +16,8 @@ returns-2 : tie.Need-returns-2
 returns-2 c = dump-refuses-9 (c .before .before .before .before .args .vdp) (c .before .before .before .before .args .vram .now) (c .before .before .before .before .args .pixels .now) (c .before .if1 .left) (c .if2 .taken)
 
 -- src/lib.rt:308:19
-cache-of-requires : tie.Need-cache-of-requires
-cache-of-requires c κs = search needs
+colours-of-requires : tie.Need-colours-of-requires
+colours-of-requires c κs = search needs
 
 -- src/lib.rt:309:5
 dump-tileset-requires : tie.Need-dump-tileset-requires
@@ -29,9 +29,9 @@ same-length c = search needs
 
 -- src/lib.rt:298:1
 returns-3 : tie.Need-returns-3
-returns-3 c = dump-done (c .before .before .before .before .before .before .before .before .before .before .before .args .vdp) (c .before .before .before .before .before .before .before .before .before .before .before .args .vram .now) (c .before .before .before .before .before .before .before .before .before .before .before .args .pixels .now) (c .before .before .before .before .before .before .before .before .if1 .left) (c .before .before .before .before .before .before .before .if2 .left) (c .before .before .before .before .before .cache-of .ensures) (c .before .before .dump-tileset .ensures)
+returns-3 c = dump-done (c .before .before .before .before .before .before .before .before .before .before .before .args .vdp) (c .before .before .before .before .before .before .before .before .before .before .before .args .vram .now) (c .before .before .before .before .before .before .before .before .before .before .before .args .pixels .now) (c .before .before .before .before .before .before .before .before .if1 .left) (c .before .before .before .before .before .before .before .if2 .left) (c .before .before .before .before .before .colours-of .ensures) (c .before .before .dump-tileset .ensures)
 
 pub dump-tileset-spec : {M : Type 1} → statement M
 dump-tileset-spec =
     tie.close
-    (tie.spec returns returns-2 cache-of-requires dump-tileset-requires same-length returns-3)
+    (tie.spec returns returns-2 colours-of-requires dump-tileset-requires same-length returns-3)
