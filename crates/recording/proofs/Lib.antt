@@ -5,3 +5,4 @@ pub mod Runs
 pub mod Outputs
 pub mod Until
 pub mod Same
+pub mod Numbers
