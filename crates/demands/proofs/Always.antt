@@ -24,7 +24,7 @@ use Rattle.step.proofs.Laws.{step-exact, dump-exact}
 use Rattle.demands.specs.Pass.{Call, out, input, step-frame, step-row, dump-tiles, refusalOf, History, now}
 use Rattle.demands.specs.Always.{Always}
 use Rattle.demands.proofs.Counter.{Within}
-use Rattle.demands.proofs.Sound.{Sound, sound}
+use Rattle.demands.proofs.Sound.{sound}
 
 abbrev NotSeven : Refusal → Type 0
 NotSeven r = refusalNumber r ≢ 7

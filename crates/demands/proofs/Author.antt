@@ -3,12 +3,14 @@
 use mathlib.Core.Path.{_≡_, refl, sym, _∙_, ap, subst}
 use mathlib.Core.Logic.{_≢_}
 use mathlib.Core.Bool.{true}
-use mathlib.Core.List.{List, [], _∷_}
-use Prim.Native.Nat.{ℕ, zero, suc, _+_, _-_, _%_, _≤_}
+use mathlib.Core.List.{List}
+use Prim.Native.Nat.{ℕ, zero, suc, _+_, _-_, _%_, _≤_, _<_}
 use native.Mathlib.Nat.{add-suc}
 use native.Mathlib.Omega.{arith}
+use lib.Dec.{leb}
 use lib.ListN.{length, set, replicate, length-replicate}
-use borrow.Author.Tests.{eq-eqb, ne-eqb}
+use borrow.Author.Tests.{eq-eqb, ne-eqb, leb-true, leb-false}
+use Rattle.laws.proofs.Tests.{split}
 use Rattle.colour.proofs.Laws.{colours-at}
 use Rattle.picture.specs.declared.RenderArea.the-variants.{VisibleOnly}
 use Rattle.picture.specs.Area.{frameSize}
@@ -24,16 +26,17 @@ use Rattle.vdp.specs.Refusals.{whole}
 use Rattle.vdp.specs.Ports.{commandBy, commandWrite, dataWrite, stored, portWrite}
 use Rattle.step.specs.Step.{frameStep}
 use Rattle.demands.specs.Pass.{Run, after, now, then, until, through, ready, answer, lineSet}
-use Rattle.demands.specs.Split.{Split}
-use Rattle.demands.specs.Author.{recolour, asked, newPalette, Answered}
-use Rattle.step.proofs.Laws.{stepped-cram, stepped-command}
+use Rattle.demands.specs.Split.{Split, Twins}
+use Rattle.demands.specs.Author.{asked, unasked, newPalette, Answered}
+use Rattle.step.proofs.Laws.{stepped-reg, stepped-cram, stepped-command}
 use Rattle.demands.proofs.Steps.{taken, accepts}
 use Rattle.demands.proofs.Demand3.{steps, after-step, line-of}
-use Rattle.demands.proofs.Split.{rising, other-colours, which-pixels}
+use Rattle.demands.proofs.Split.{rising, other-colours, changed-visible}
 
--- the palette, and that no command byte is latched
+-- the palette, the registers of a fresh device, and that no command byte is latched
 record Holds (d : VdpState) (p : List ℕ) : Type 0 where
   cram : d .cram ≡ p
+  reg : d .reg ≡ fresh .reg
   latch : d .«cmd_byte1» ≡ Empty
 
 -- ---- the four writes, on any device with no byte latched
@@ -75,7 +78,17 @@ module _ (m : List ℕ) (w : whole m ≡ true) where
       ∙ high-byte d low high
       in
       subst (λ (x : VdpState). Holds x (set (set p 6 low) 7 (high % 16))) (sym e)
-      record { cram = ap (λ (q : List ℕ). set (set q 6 low) 7 (high % 16)) (k .cram); latch = refl }
+      record { cram = ap (λ (q : List ℕ). set (set q 6 low) 7 (high % 16)) (k .cram); reg = k .reg; latch = refl }
+
+-- a step keeps all three
+step-holds : (r : Run VisibleOnly) (i : ℕ) (p : List ℕ) → Holds (ready r i) p → Holds (answer r i .vdp) p
+step-holds r i p k =
+    rw (steps r i)
+    record {
+      cram = stepped-cram VisibleOnly (r .vram i) (ready r i) ∙ k .cram;
+      reg = stepped-reg VisibleOnly (r .vram i) (ready r i) ∙ k .reg;
+      latch = stepped-command VisibleOnly (r .vram i) (ready r i) ∙ k .latch;
+    }
 
 -- ---- the run
 module _
@@ -90,24 +103,16 @@ module _
     abbrev new : List ℕ
     new = newPalette vram frame accepted low high
 
-    -- a step keeps both; and but for step 90 nothing is called before it
-    step-holds : (i : ℕ) (p : List ℕ) → Holds (ready r i) p → Holds (answer r i .vdp) p
-    step-holds i p k =
-        rw (steps r i)
-        record {
-          cram = stepped-cram VisibleOnly (vram i) (ready r i) ∙ k .cram;
-          latch = stepped-command VisibleOnly (vram i) (ready r i) ∙ k .latch;
-        }
-
+    -- but for step 90 nothing is called before a step
     nothing : (i : ℕ) → suc i ≢ 90 → ready r (suc i) ≡ answer r i .vdp
     unfolding ready until then
     nothing i n = rw (ne-eqb (suc i) 90 n) (after-step r i)
 
     early : (i : ℕ) → i ≤ 89 → Holds (ready r i) old
     unfolding ready until then now
-    early zero h = record { cram = refl; latch = refl }
+    early zero h = record { cram = refl; reg = refl; latch = refl }
     early (suc i) h =
-        subst (λ (d : VdpState). Holds d old) (sym (nothing i (λ e. omega arith))) (step-holds i old (early i (omega arith)))
+        subst (λ (d : VdpState). Holds d old) (sym (nothing i (λ e. omega arith))) (step-holds r i old (early i (omega arith)))
 
     whole-90 : whole (vram 90) ≡ true
     whole-90 =
@@ -118,13 +123,13 @@ module _
     unfolding ready until then now after
     written =
         recoloured (vram 90) whole-90 (now (through r 89)) old low high
-        (subst (λ (d : VdpState). Holds d old) (sym (after-step r 89)) (step-holds 89 old (early 89 (omega arith))))
+        (subst (λ (d : VdpState). Holds d old) (sym (after-step r 89)) (step-holds r 89 old (early 89 (omega arith))))
 
     late : (k : ℕ) → Holds (ready r (90 + k)) new
     late zero = written
     late (suc k) =
         rw (add-suc 90 k)
-        (subst (λ (d : VdpState). Holds d new) (sym (nothing (90 + k) (λ e. omega arith))) (step-holds (90 + k) new (late k)))
+        (subst (λ (d : VdpState). Holds d new) (sym (nothing (90 + k) (λ e. omega arith))) (step-holds r (90 + k) new (late k)))
 
     first-line : lineSet r 0 ≡ 1
     unfolding ready until then now jumps
@@ -145,11 +150,40 @@ module _
               subst (λ (n : ℕ). ready r n .cram ≡ new) e (late (i - 90) .cram);
         }
 
+    -- ---- the same without the writes
+    abbrev r₀ : Run VisibleOnly
+    r₀ = unasked vram frame accepted low high
+
+    never : (i : ℕ) → ready r₀ (suc i) ≡ answer r₀ i .vdp
+    unfolding ready until then
+    never i = after-step r₀ i
+
+    always-old : (i : ℕ) → Holds (ready r₀ i) old
+    unfolding ready until then now
+    always-old zero = record { cram = refl; reg = refl; latch = refl }
+    always-old (suc i) = subst (λ (d : VdpState). Holds d old) (sym (never i)) (step-holds r₀ i old (always-old i))
+
+    registers-at : (i : ℕ) → ready r i .reg ≡ fresh .reg
+    registers-at i =
+        split (leb i 89)
+        (λ t. early i (leb-true i 89 t) .reg)
+        (λ t.
+        let h : 89 < i = leb-false i 89 t in
+        let e : 90 + (i - 90) ≡ i = omega arith in
+        subst (λ (n : ℕ). ready r n .reg ≡ fresh .reg) e (late (i - 90) .reg))
+
+    one-start : ready r 0 .raster ≡ ready r₀ 0 .raster
+    unfolding ready until then now
+    one-start = refl
+
+    twins : Twins r r₀
+    twins = record { start = one-start; memory = λ i _. refl; registers = λ i _. registers-at i ∙ sym (always-old i .reg) }
+
     pub answered : Answered vram frame accepted low high
     answered =
         record {
           split = the-split;
-          pixels = which-pixels the-split (omega arith) 3 (other-colours 3 old low (high % 16));
+          changed = changed-visible twins the-split (λ i _. always-old i .cram) 3 (other-colours 3 old low (high % 16));
           new-colour = colours-at new 3 (omega arith);
         }
 

@@ -2,36 +2,31 @@
 -- Assumes nothing.
 use mathlib.Core.Path.{_≡_, refl, sym, _∙_, ap, subst}
 use mathlib.Core.Logic.{_↔_, _≢_}
-use mathlib.Core.Bool.{Bool, true, false, cond, not, _&&_, _||_}
-use mathlib.Core.List.{List, [], _∷_}
-use Prim.Native.Nat.{ℕ, zero, suc, _+_, _-_, _*_, _≤_, _<_, _∣_}
+use mathlib.Core.Bool.{Bool, true, false, cond}
+use Prim.Native.Nat.{ℕ, zero, suc, _+_, _-_, _≤_, _<_, _∣_}
 use native.Mathlib.Nat.{add-zero, add-suc, add-comm}
 use native.Mathlib.Omega.{arith}
-use lib.Dec.{eqb, ltb, leb}
+use lib.Dec.{eqb}
 use lib.ListN.{length, drop}
-use borrow.Author.Tests.{eq-eqb, eqb-true, le-leb, leb-true, lt-ltb, ltb-true}
+use borrow.Author.Tests.{eq-eqb, eqb-true}
 use Rattle.laws.specs.Bits.{bit}
 use Rattle.laws.specs.Lists.{rowOf}
 use Rattle.laws.specs.Once.{ExactlyOnce}
 use Rattle.laws.proofs.Once.{once-iff}
 use Rattle.colour.specs.Colour.{coloursOf}
 use Rattle.picture.specs.declared.RenderArea.{RenderArea}
-use Rattle.picture.specs.declared.RenderArea.the-variants.{VisibleOnly, EffectiveArea}
-use Rattle.picture.specs.Picture.{Row}
-use Rattle.picture.specs.Area.{columns, rows, firstLine, rowSize, frameSize, pictureOf, rowBytes}
+use Rattle.picture.specs.declared.RenderArea.the-variants.{VisibleOnly}
+use Rattle.picture.specs.Area.{columns, rows, firstLine, rowSize, frameSize, rowBytes}
 use Rattle.raster.specs.declared.Raster.{Raster}
-use Rattle.raster.specs.Raster.{passLength, jumpTo, advanced, counted, lineInterrupt, ticked}
+use Rattle.raster.specs.Raster.{passLength, jumpTo, advanced, counted, ticked}
 use Rattle.vdp.specs.declared.VdpState.{VdpState}
-use Rattle.vdp.specs.declared.Refusal.the-variants.{Accepted}
 use Rattle.vdp.specs.Refusals.{whole}
 use Rattle.step.specs.declared.Stepped.{Stepped}
-use Rattle.step.specs.declared.VdpInt.{VdpInt}
-use Rattle.step.specs.declared.VdpInt.the-variants.{NoInterrupt, InterruptGenerated}
+use Rattle.step.specs.declared.VdpInt.the-variants.{InterruptGenerated}
 use Rattle.step.specs.declared.DisplayRefresh.the-variants.{NoDisplay, ScreenDone, ScreenDoneNoRefresh}
-use Rattle.step.specs.declared.DrawnRow.{DrawnRow}
-use Rattle.step.specs.declared.DrawnRow.the-variants.{NoRow, Drawn}
-use Rattle.step.specs.Step.{register, lineOf, advance, rowOn, reportOf, interruptOf, coloursNow, rowPicture, stepped, frameStep}
-use Rattle.step.specs.Frame.{drawnBytes, frameAfter, FrameStepLeaves}
+use Rattle.step.specs.declared.DrawnRow.the-variants.{Drawn}
+use Rattle.step.specs.Step.{register, lineOf, advance, rowOn, reportOf, stepped}
+use Rattle.step.specs.Frame.{drawnBytes, FrameStepLeaves}
 use Rattle.step.proofs.Rows.{row-low, row-line, row-at}
 use Rattle.step.proofs.Laws.{stepped-raster, frame-step-length, frame-step-past, frame-step-other, frame-step-here}
 use Rattle.demands.specs.Pass.{Run, after, now, until, through, ready, answer, lineSet, frameAt, latched, pictureAt, rowAtEnd, LineInterruptsEvery, Demand3}
@@ -90,7 +85,7 @@ module _ {a : RenderArea} (r : Run a) where
   ready-sound i = sound (until r i)
 
   -- the scroll that step i draws with
-  scroll-at : (i : ℕ) → advance (dev i) .raster .«vertical_scroll» ≡ latched (through r i)
+  pub scroll-at : (i : ℕ) → advance (dev i) .raster .«vertical_scroll» ≡ latched (through r i)
   unfolding ticked counted
   scroll-at i =
       sym (ap (λ (x : Raster). x .«vertical_scroll») (raster-left i))

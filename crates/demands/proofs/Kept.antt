@@ -1,9 +1,9 @@
 -- What a port call keeps: the raster, and that clean colours are the palette's.
 -- Assumes nothing.
 use mathlib.Core.Path.{_≡_, refl}
-use mathlib.Core.Bool.{Bool, true, false, cond, not, _||_}
+use mathlib.Core.Bool.{Bool, false, _||_}
 use mathlib.Core.List.{List}
-use Prim.Native.Nat.{ℕ, _+_, _-_, _%_, _/_}
+use Prim.Native.Nat.{ℕ, _-_, _%_, _/_}
 use lib.Dec.{eqb, ltb}
 use lib.ListN.{set}
 use lib.Seq.{set-getD}
@@ -20,7 +20,7 @@ use Rattle.vdp.specs.declared.Latch.{Latch}
 use Rattle.vdp.specs.declared.Latch.the-variants.{Empty, Held}
 use Rattle.vdp.specs.Device.{unlatched}
 use Rattle.vdp.specs.Refusals.{whole, isPort}
-use Rattle.vdp.specs.Ports.{After, changed, stored, secondByte, commandBy, oddPalette, paletteWrite, dataBy, readBy, portWrite, portRead}
+use Rattle.vdp.specs.Ports.{After, changed, stored, commandBy, oddPalette, paletteWrite, dataBy, readBy, portWrite, portRead}
 
 -- the cached colours are the palette's whenever the record is not dirty
 abbrev pub Clean : VdpState → Type 0

@@ -2,21 +2,21 @@
 -- each line below the jump's end is set by exactly one step of a pass, and the line interrupts come as N + 1 divides the line and 2.
 -- Nothing here knows of a device, a port or a picture.
 -- Assumes nothing.
-use mathlib.Core.Path.{_≡_, refl, sym, _∙_, ap, subst}
+use mathlib.Core.Path.{_≡_, sym, _∙_, ap, subst}
 use mathlib.Core.Logic.{_↔_, _≢_}
-use mathlib.Core.Bool.{Bool, true, false, cond, not, _&&_, _||_}
-use Prim.Native.Nat.{ℕ, zero, suc, _+_, _-_, _%_, _≤_, _<_, _∣_}
+use mathlib.Core.Bool.{true, false, cond}
+use Prim.Native.Nat.{ℕ, zero, suc, _+_, _-_, _≤_, _<_, _∣_}
 use native.Mathlib.Nat.{add-zero, add-suc, dvd-add, dvd-refl, one-dvd, le-of-dvd, dvd-add-iff-left}
 use native.Mathlib.Omega.{arith}
-use lib.Dec.{eqb, ltb}
+use lib.Dec.{eqb}
 use borrow.Author.Tests.{eq-eqb, ne-eqb, eqb-true, eqb-false, le-ltb}
 use Rattle.laws.specs.Once.{ExactlyOnce}
 use Rattle.laws.proofs.Tests.{either, split}
-use Rattle.laws.proofs.Once.{once-iff, Next, each-once}
+use Rattle.laws.proofs.Once.{once-iff, each-once}
 use Rattle.raster.specs.declared.Raster.{Raster}
 use Rattle.raster.specs.Raster.{jumpLine, jumpTo, passLength, up, jumps, starts, advanced, counted, lineInterrupt, ticked}
 use Rattle.demands.specs.Pass.{LineInterruptsEvery}
-use Rattle.demands.proofs.Counter.{line, flag, Ticked, InPass, place, tick, same-place, place-below, jump-back, jump-above, jump-high, pass-is}
+use Rattle.demands.proofs.Counter.{line, Ticked, InPass, place, tick, same-place, place-below, jump-back, jump-above, jump-high, pass-is}
 
 -- a step that sets line 0 starts a pass, and so does no other
 pub starts-at : (x : Raster) → line x ≡ 0 → starts x ≡ true

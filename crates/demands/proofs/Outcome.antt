@@ -1,6 +1,6 @@
 -- One outcome for every public contract: each theorem names the contract that the toolchain generates from the function's own clauses.
 -- Assumes nothing.
-use mathlib.Core.Path.{_≡_, refl, sym, _∙_}
+use mathlib.Core.Path.{refl, sym, _∙_}
 use denote.Ref.{now}
 use Rattle.demands.specs.Outcome.{OneOutcome, OneOutcomeSeen, PaintedRow}
 use Rattle.bitmap.proofs.Bitmap.new as bitmap-new
@@ -15,6 +15,7 @@ use Rattle.tile.proofs.wide
 use Rattle.tile.proofs.smaller
 use Rattle.tile.proofs.weight
 use Rattle.tile.proofs.is_set
+use Rattle.tile.proofs.both
 use Rattle.tile.proofs.character_line
 use Rattle.tile.proofs.character_line_sprite
 use Rattle.tile.proofs.character_line_sprite_bitmap
@@ -22,6 +23,8 @@ use Rattle.background.proofs.names_at
 use Rattle.background.proofs.render_background_line
 use Rattle.row.proofs.render_line
 use Rattle.vdp.proofs.VdpState.new
+use Rattle.vdp.proofs.VdpState.with_raster
+use Rattle.vdp.proofs.VdpState.with_cache
 use Rattle.vdp.proofs.VdpState.out
 use Rattle.vdp.proofs.VdpState.input
 use Rattle.step.proofs.row_step
@@ -83,6 +86,9 @@ weight-once κs a q z z′ w w′ e f = (e .0 ∙ sym (f .0), refl)
 pub is-set-once : OneOutcome 0 is_set.Kinds.ps is_set.Kinds.r is_set.Reads.Asked is_set.Reads.Learnt
 is-set-once κs a q z z′ w w′ e f = (e ∙ sym f, refl)
 
+pub both-once : OneOutcome 0 both.Kinds.ps both.Kinds.r both.Reads.Asked both.Reads.Learnt
+both-once κs a q z z′ w w′ e f = (e ∙ sym f, refl)
+
 pub character-line-once : OneOutcome 3 character_line.Kinds.ps character_line.Kinds.r character_line.Reads.Asked character_line.Reads.Learnt
 character-line-once κs a q z z′ w w′ e f = (e .1 ∙ sym (f .1), λ i. ((e .0 ∙ sym (f .0)) i, w .1))
 
@@ -124,6 +130,12 @@ render-line-once κs a q z z′ w w′ e f = (e .status ∙ sym (f .status), λ 
 -- ---- vdp
 pub new-once : OneOutcome 0 new.Kinds.ps new.Kinds.r new.Reads.Asked new.Reads.Learnt
 new-once κs a q z z′ w w′ e f = (e ∙ sym f, refl)
+
+pub with-raster-once : OneOutcome 0 with_raster.Kinds.ps with_raster.Kinds.r with_raster.Reads.Asked with_raster.Reads.Learnt
+with-raster-once κs a q z z′ w w′ e f = (e ∙ sym f, refl)
+
+pub with-cache-once : OneOutcome 0 with_cache.Kinds.ps with_cache.Kinds.r with_cache.Reads.Asked with_cache.Reads.Learnt
+with-cache-once κs a q z z′ w w′ e f = (e ∙ sym f, refl)
 
 pub out-once : OneOutcome 1 out.Kinds.ps out.Kinds.r out.Reads.Asked out.Reads.Learnt
 out-once κs a q z z′ w w′ e f = (e .answer ∙ sym (f .answer), λ i. (tt, ((e .memory ∙ sym (f .memory)) i, w .1 .1)))

@@ -1,24 +1,24 @@
 -- From a fresh device, after any calls: clean colours, a counter in its pass, an address in its memory, and the scroll that was latched last.
 -- Assumes nothing.
-use mathlib.Core.Path.{_≡_, refl, sym, _∙_, ap, subst}
+use mathlib.Core.Path.{_≡_, refl, sym, _∙_, subst}
 use mathlib.Core.Bool.{Bool, true, false, cond, not, _&&_, and-false}
 use mathlib.Core.List.{List, [], _∷_}
-use Prim.Native.Nat.{ℕ, zero, suc, _+_, _%_, _≤_, _<_}
+use Prim.Native.Nat.{ℕ}
 use native.Mathlib.Omega.{arith}
 use lib.Dec.{eqb, leb}
-use borrow.Author.Tests.{eqb-true, eqb-false, eq-eqb, ne-eqb}
+use borrow.Author.Tests.{eqb-true, ne-eqb}
 use Rattle.laws.proofs.Tests.{either, split, clash}
 use Rattle.picture.specs.declared.RenderArea.{RenderArea}
 use Rattle.picture.specs.Area.{rowSize, frameSize}
 use Rattle.raster.specs.declared.Raster.{Raster}
-use Rattle.raster.specs.Raster.{up, jumps, starts, jumpTo, jumpLine, advanced, counted, ticked}
+use Rattle.raster.specs.Raster.{up, jumps, starts, jumpLine, advanced, counted, ticked}
 use Rattle.vdp.specs.declared.VdpState.{VdpState}
 use Rattle.vdp.specs.Refusals.{size, whole}
 use Rattle.vdp.proofs.Invariant.{Aimed, write-aimed, read-aimed}
 use Rattle.step.specs.declared.Stepped.{Stepped}
 use Rattle.step.specs.Step.{register, lineOf, stepped, stepWith}
 use Rattle.demands.specs.Pass.{Call, out, input, step-frame, step-row, dump-tiles, History, after, now, becomesZero, latched, NoStep, Between, then}
-use Rattle.demands.proofs.Counter.{InPass, tick, line, jump-above}
+use Rattle.demands.proofs.Counter.{InPass, tick, line}
 use Rattle.demands.proofs.Lines.{starts-at}
 use Rattle.demands.proofs.Kept.{Clean, write-keeps, read-keeps}
 use Rattle.step.proofs.Laws.{stepped-raster, stepped-addr, stepped-dest}

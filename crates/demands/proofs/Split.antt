@@ -2,7 +2,7 @@
 -- Assumes nothing.
 use mathlib.Core.Path.{_≡_, refl, sym, _∙_, ap}
 use mathlib.Core.Logic.{_≢_}
-use mathlib.Core.List.{List, [], _∷_}
+use mathlib.Core.List.{List}
 use Prim.Native.Nat.{ℕ, zero, suc, _+_, _-_, _*_, _≤_, _<_}
 use native.Mathlib.Nat.{add-zero, add-suc, add-comm}
 use native.Mathlib.Omega.{arith}
@@ -21,16 +21,15 @@ use Rattle.picture.specs.Picture.{Row}
 use Rattle.picture.specs.Area.{columns, rows, firstLine, rowBytes}
 use Rattle.picture.proofs.Laws.{length-rowBytes, pixel-byte}
 use Rattle.raster.specs.declared.Raster.{Raster}
-use Rattle.raster.specs.Raster.{passLength, jumpTo, jumpLine}
-use Rattle.vdp.specs.declared.VdpState.{VdpState}
+use Rattle.raster.specs.Raster.{passLength, jumpTo, advanced}
 use Rattle.step.specs.declared.DrawnRow.the-variants.{Drawn}
-use Rattle.step.specs.Step.{lineOf, rowOn}
+use Rattle.step.specs.Step.{register, lineOf, rowOn}
 use Rattle.step.proofs.Rows.{row-low, row-line}
-use Rattle.demands.specs.Pass.{Run, ready, answer, lineSet, rowAtEnd, pictureAt, Demand3}
-use Rattle.demands.specs.Split.{Split, ColourSplit, Ninety, pixelAtEnd, fourBytes, OnlyColour, WhichPixels}
+use Rattle.demands.specs.Pass.{Run, through, ready, latched, answer, lineSet, rowAtEnd, pictureAt}
+use Rattle.demands.specs.Split.{Split, ColourSplit, Ninety, pixelAtEnd, fourBytes, OnlyColour, WhichPixels, Twins, Changed}
 use Rattle.demands.proofs.Counter.{line}
 use Rattle.demands.proofs.Lines.{line-next}
-use Rattle.demands.proofs.Demand3.{line-row, line-of, row-on, lines, raster-left, raster-next, demand3}
+use Rattle.demands.proofs.Demand3.{line-row, line-of, row-on, lines, raster-left, raster-next, scroll-at, demand3}
 
 -- ---- the lines of a pass
 module _ {a : RenderArea} (r : Run a) where
@@ -162,14 +161,72 @@ module _ {a : RenderArea} {r : Run a} {L : ℕ} {old new : List ℕ} (s : Split 
               (λ t. new-pixel i x y h e w (leb-false (y + firstLine a) L t) ∙ ap fourBytes (only (pictureAt r i y .colour x) n));
         }
 
+-- ---- with the change and without it
+module _ {a : RenderArea} {r r₀ : Run a} (t : Twins r r₀) (once : firstLine a + rows a ≤ jumpTo) where
+  same-register : (i : ℕ) → i < passLength → register (ready r i) ≡ register (ready r₀ i)
+  same-register i h = ap (λ (g : List ℕ). at g) (t .registers i h)
+
+  same-raster : (i : ℕ) → i < passLength → ready r i .raster ≡ ready r₀ i .raster
+  same-raster zero h = t .start
+  same-raster (suc i) h =
+      let h′ : i < passLength = omega arith in
+      raster-next r i ∙ rw (same-register i h′, same-raster i h′) (sym (raster-next r₀ i))
+
+  same-row : (i : ℕ) → i < passLength → answer r i .row ≡ answer r₀ i .row
+  same-row i h = row-on r i ∙ ap (λ (x : Raster). rowOn a (line x)) (same-raster i h) ∙ sym (row-on r₀ i)
+
+  same-scroll : (i : ℕ) → i < passLength → latched (through r i) ≡ latched (through r₀ i)
+  same-scroll i h =
+      sym (scroll-at r i)
+      ∙ ap (λ (g : List ℕ). advanced (at g) (ready r i .raster) .«vertical_scroll») (t .registers i h)
+      ∙ ap (λ (x : Raster). advanced (register (ready r₀ i)) x .«vertical_scroll») (same-raster i h)
+      ∙ scroll-at r₀ i
+
+  same-picture : (i y : ℕ) → i < passLength → pictureAt r i y ≡ pictureAt r₀ i y
+  same-picture i y h = rw (same-scroll i h, t .registers i h, t .memory i h)
+
+  module _ {L : ℕ} {old new : List ℕ} (s : Split r L old new) (kept : (i : ℕ) → i < passLength → ready r₀ i .cram ≡ old) where
+    unchanged :
+        (i x y : ℕ) → i < passLength → answer r i .row ≡ Drawn y → x < columns a →
+        pixelAtEnd r₀ x y ≡ fourBytes (at (coloursOf old) (pictureAt r i y .colour x))
+    unchanged i x y h e w =
+        let b = demand3 r₀ once .row-bytes i y h (sym (same-row i h) ∙ e) in
+        ap (rowOf 4 x) b
+        ∙ rw (kept i h, ← same-picture i y h) (pixel (pictureAt r i y) (coloursOf old) (columns a) x w)
+
+    pub changed : (c : ℕ) → OnlyColour c old new → Changed r r₀ L c old new
+    changed c only =
+        let p = which-pixels s once c only in
+        record {
+          these = λ i x y h e w l n.
+              (p .these i x y h e w l n, unchanged i x y h e w ∙ ap (λ (k : ℕ). fourBytes (at (coloursOf old) k)) n);
+          no-others = λ i x y h e w n.
+              split (leb (y + firstLine a) L)
+              (λ b. p .not-above i x y h e w (leb-true (y + firstLine a) L b))
+              (λ b. p .not-others i x y h e w (n (leb-false (y + firstLine a) L b)))
+              ∙ sym (unchanged i x y h e w);
+        }
+
+-- ---- the visible area
+visible-once : firstLine VisibleOnly + rows VisibleOnly ≤ jumpTo
+visible-once = omega arith
+
+pub colour-split-visible : {r : Run VisibleOnly} {L : ℕ} {old new : List ℕ} (s : Split r L old new) → ColourSplit s
+colour-split-visible s = colour-split s visible-once
+
+pub changed-visible :
+    {r r₀ : Run VisibleOnly} {L : ℕ} {old new : List ℕ} → Twins r r₀ → Split r L old new → ((i : ℕ) → i < passLength → ready r₀ i .cram ≡ old) →
+    (c : ℕ) → OnlyColour c old new → Changed r r₀ L c old new
+changed-visible t s kept c only = changed t visible-once s kept c only
+
 -- the request's own line
 pub ninety : {r : Run VisibleOnly} {old new : List ℕ} (s : Split r 90 old new) → Ninety s
 ninety {r} s =
-    let o : firstLine VisibleOnly + rows VisibleOnly ≤ jumpTo = omega arith in
-    let n : suc (s .step) < passLength = omega (arith, line-step s o) in
+    let c = colour-split-visible s in
+    let n : suc (s .step) < passLength = omega (arith, line-step s visible-once) in
     let next : lineSet r (suc (s .step)) ≡ 91 =
-    line-of r (suc (s .step)) ∙ line-next (ready r (suc (s .step)) .raster) 90 (still r (s .step) ∙ s .sets) (omega arith) in
+    line-of r (suc (s .step)) ∙ line-next (ready r (suc (s .step)) .raster) 90 (c .reads) (omega arith) in
     record {
-      row-66 = colour-split s o .keeps (s .step) 66 (s .in-pass) (colour-split s o .drew) (omega arith);
-      row-67 = colour-split s o .changes (suc (s .step)) 67 n (set-row r (suc (s .step)) 67 (omega arith) next) (omega arith);
+      row-66 = c .keeps (s .step) 66 (s .in-pass) (c .drew) (omega arith);
+      row-67 = c .changes (suc (s .step)) 67 n (set-row r (suc (s .step)) 67 (omega arith) next) (omega arith);
     }

@@ -15,7 +15,7 @@ use Rattle.vdp.specs.declared.Refusal.the-variants.{Accepted}
 use Rattle.vdp.specs.Device.{fresh}
 use Rattle.step.specs.Step.{frameStep}
 use Rattle.demands.specs.Pass.{out, Between, Run}
-use Rattle.demands.specs.Split.{Split, WhichPixels}
+use Rattle.demands.specs.Split.{Split, Changed}
 
 -- a port write between two steps
 abbrev pub write : ℕ → ℕ → List ℕ → Between
@@ -39,11 +39,15 @@ module _
           accepted = accepted;
         }
 
+    -- the same without the writes
+    abbrev pub unasked : Run VisibleOnly
+    unasked = record { before = []; between = λ i. []; vram = vram; frame = frame; accepted = accepted }
+
     abbrev pub newPalette : List ℕ
     newPalette = set (set (fresh .cram) 6 low) 7 (high % 16)
 
-    -- The answer: the pixels of number 3 in rows from 67 on, which show the colour of the two bytes; no others.
+    -- The answer: the pixels of number 3 in rows from 67 on change, to the colour of the two bytes, and no others.
     pub record Answered : Type 0 where
       pub split : Split asked 90 (fresh .cram) newPalette
-      pub pixels : WhichPixels split 3
+      pub changed : Changed asked unasked 90 3 (fresh .cram) newPalette
       pub new-colour : at (coloursOf newPalette) 3 ≡ colour low (high % 16)

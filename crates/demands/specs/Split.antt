@@ -74,3 +74,19 @@ pub record WhichPixels {a : RenderArea} {r : Run a} {L : ℕ} {old new : List �
   pub not-others :
       (i x y : ℕ) → i < passLength → answer r i .row ≡ Drawn y → x < columns a → pictureAt r i y .colour x ≢ c →
       pixelAtEnd r x y ≡ fourBytes (at (coloursOf old) (pictureAt r i y .colour x))
+
+-- ---- with the change and without it
+-- Two runs that differ in palettes alone: one start, and at each step of the pass the same video memory and registers.
+pub record Twins {a : RenderArea} (r r₀ : Run a) : Type 0 where
+  pub start : ready r 0 .raster ≡ ready r₀ 0 .raster
+  pub memory : (i : ℕ) → i < passLength → r .vram i ≡ r₀ .vram i
+  pub registers : (i : ℕ) → i < passLength → ready r i .reg ≡ ready r₀ i .reg
+
+-- "which pixels change?" Those of number c in rows from L - 23 on, and no others.
+pub record Changed {a : RenderArea} (r r₀ : Run a) (L c : ℕ) (old new : List ℕ) : Type 0 where
+  pub these :
+      (i x y : ℕ) → i < passLength → answer r i .row ≡ Drawn y → x < columns a → L < y + firstLine a → pictureAt r i y .colour x ≡ c →
+      (pixelAtEnd r x y ≡ fourBytes (at (coloursOf new) c)) × (pixelAtEnd r₀ x y ≡ fourBytes (at (coloursOf old) c))
+  pub no-others :
+      (i x y : ℕ) → i < passLength → answer r i .row ≡ Drawn y → x < columns a →
+      (L < y + firstLine a → pictureAt r i y .colour x ≢ c) → pixelAtEnd r x y ≡ pixelAtEnd r₀ x y
