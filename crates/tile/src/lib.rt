@@ -116,7 +116,7 @@ fn pixel_set_if(shown: bool, row: &mut [u8], x: usize, c: u32)
 // ---- the background
 
 // n pixels of the line at addr, from the tile's pixel start on, drawn from pixel x of the row on; answers which are not of code 0.
-pub fn character_line(
+fn character_columns(
     row: &mut [u8],
     vram: &[u8],
     colours: &[u32; 32],
@@ -145,6 +145,28 @@ pub fn character_line(
         i += 1;
     }
     bits
+}
+
+// The same, with the whole line on a way of its own, on which the compiler knows how many columns there are.
+pub fn character_line(
+    row: &mut [u8],
+    vram: &[u8],
+    colours: &[u32; 32],
+    addr: usize,
+    flip: bool,
+    palette: usize,
+    x: usize,
+    start: usize,
+    n: usize,
+) -> u8
+    requires { ⌜ (start + n ≤ 8) × (addr + 4 ≤ length (now vram)) × (palette ≤ 16) × ((x + n) * 4 ≤ length (now row)) ⌝ }
+    ensures { λ r. ⌜ now (row .exit) ≡ painted (now (row .entry)) x n (lineColour (now (colours .entry)) palette (now (vram .entry)) addr flip start) ⌝ }
+    ensures { λ r. ⌜ r ≡ number n (lineSolid (now (vram .entry)) addr flip start) ⌝ }
+{
+    if n == 8 {
+        return character_columns(row, vram, colours, addr, flip, palette, x, 0, 8);
+    }
+    character_columns(row, vram, colours, addr, flip, palette, x, start, n)
 }
 
 // ---- a sprite
