@@ -1,5 +1,8 @@
 #!/usr/bin/env python3
-"""Writes the traces of this folder, but for split90.trace, which split90.py writes. The text beside each says what it must print."""
+"""Writes the traces beside this file, but for split90.trace, which split90.py writes.
+
+The text beside each is what it must print, as the rules written a second time in oracle/ have it: build/oracle/traces text < NAME.trace > NAME.text
+"""
 import pathlib
 
 FOLDER = pathlib.Path(__file__).parent

@@ -44,6 +44,7 @@ header = 0x50 ∷ 0x36 ∷ 0x0A ∷ 0x31 ∷ 0x36 ∷ 0x30 ∷ 0x20 ∷ 0x31 ∷
 unfoldable pub ppm : List ℕ → List ℕ
 ppm frame = header ++ pixels 23040 frame
 
+-- what a run is worth at its end: the picture of its frame, or the line that says where the recording is bad
 unfoldable pub drawn : List ℕ → Run → List ℕ → List ℕ
 drawn s run frame = cond (ended s run) (ppm frame) (badLine (run .at))
 

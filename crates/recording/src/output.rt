@@ -1,11 +1,9 @@
 // A whole recording: the text that it prints, and the picture that it draws.
 ghost use mathlib.Core.Path.{_≡_};
-ghost use mathlib.Core.List.{List, []};
-ghost use Prim.Native.Nat.{ℕ, _+_, _*_, _≤_, _<_};
+ghost use Prim.Native.Nat.{_+_, _≤_};
 ghost use lib.ListN.{length, take};
 ghost use Rattle.laws.specs.Lists.{written};
 ghost use Rattle.recording.specs.Output.{lastLine, ppm, drawn, TraceLeaves, SnapshotLeaves};
-ghost use Rattle.recording.specs.Run.{held};
 use crate::run::Run;
 use crate::run::frame_turn;
 use crate::run::row_turn;

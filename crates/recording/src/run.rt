@@ -1,8 +1,7 @@
 // A run through a recording: each record makes its call on the device.
 ghost use mathlib.Core.Path.{_≡_};
-ghost use mathlib.Core.List.{List, []};
-ghost use Prim.Native.Nat.{ℕ, _+_, _≤_, _<_};
-ghost use lib.ListN.{length};
+ghost use mathlib.Core.List.{[]};
+ghost use Prim.Native.Nat.{_<_};
 ghost use Rattle.vdp.specs.Ports.{portWrite, portRead};
 ghost use Rattle.recording.specs.Run.{held, on, stepAnswer, rowTurn, frameTurn, turnOf, TurnLeaves};
 use crate::record::Record;
@@ -39,6 +38,7 @@ fn moved(run: Run, bytes: usize, vdp: VdpState) -> Run
     }
 }
 
+// A port write.
 fn write_turn(run: Run, vram: &mut [u8], port: u8, value: u8) -> Turned
     requires { ⌜ (run .at < 4294967296) × (run .count < 4294967296) ⌝ }
     ensures { λ r. ⌜ r .answer ≡ Answer.Wrote (portWrite (run .vdp) (now (vram .entry)) port value .answer .refusal) ⌝ }
@@ -55,6 +55,7 @@ fn write_turn(run: Run, vram: &mut [u8], port: u8, value: u8) -> Turned
     }
 }
 
+// A port read.
 fn read_turn(run: Run, vram: &[u8], port: u8) -> Turned
     requires { ⌜ (run .at < 4294967296) × (run .count < 4294967296) ⌝ }
     ensures { λ r. ⌜ r .answer ≡ Answer.Gave (portRead (run .vdp) (now (vram .entry)) port .refusal) (portRead (run .vdp) (now (vram .entry)) port .byte) ⌝ }
@@ -70,6 +71,7 @@ fn read_turn(run: Run, vram: &[u8], port: u8) -> Turned
     }
 }
 
+// A step, once it is made.
 fn step_turn(run: Run, stepped: Stepped) -> Turned
     requires { ⌜ (run .at < 4294967296) × (run .count < 4294967296) ⌝ }
     ensures { λ r. ⌜ r .answer ≡ stepAnswer stepped ⌝ }

@@ -1,7 +1,6 @@
 // Numbers and lines as text.
 ghost use mathlib.Core.Path.{_≡_};
-ghost use mathlib.Core.List.{List, [], _∷_, _++_};
-ghost use Prim.Native.Nat.{ℕ, _+_, _≤_, _<_};
+ghost use Prim.Native.Nat.{_+_, _≤_, _<_};
 ghost use lib.ListN.{length};
 ghost use Rattle.laws.specs.Lists.{written};
 ghost use Rattle.vdp.specs.Refusals.{refusalNumber};
@@ -134,6 +133,7 @@ pub fn put_numbered(out: &mut [u8], at: usize, word: &[u8], n: usize) -> usize
     put_all(out, b, b"\n")
 }
 
+// The line of a read.
 fn put_read(out: &mut [u8], at: usize, refusal: Refusal, byte: u8) -> usize
     requires { ⌜ at + 15 ≤ length (now out) ⌝ }
     ensures { λ r. ⌜ r ≡ at + length (lineOf (Answer.Gave refusal byte)) ⌝ }
@@ -146,6 +146,7 @@ fn put_read(out: &mut [u8], at: usize, refusal: Refusal, byte: u8) -> usize
     put_all(out, b, &[b' ', high, low, b'\n'])
 }
 
+// The line of a step.
 fn put_step(
     out: &mut [u8],
     at: usize,

@@ -1,6 +1,5 @@
 // Writes the picture that the recording on standard input draws, as a binary PPM.
 ghost use mathlib.Core.Path.{_≡_};
-ghost use Prim.Native.Nat.{ℕ};
 ghost use lib.ListN.{length, replicate};
 
 // A visible frame, zeroed: the contract says so, and gives its length, which the caller's check then need not compute.
