@@ -6,7 +6,7 @@ use mathlib.Core.List.{List}
 use mathlib.Core.Bool.{Bool}
 use native.Mathlib.Omega.{arith}
 use lib.Dec.{ltb, eqb}
-use lib.ListN.{length, set, length-set, replicate}
+use lib.ListN.{set, length-set, replicate}
 use Rattle.laws.specs.Lists.{at}
 use Rattle.laws.proofs.Parts.{set-below}
 use Rattle.laws.proofs.Tests.{either}
@@ -20,7 +20,7 @@ use Rattle.vdp.specs.declared.Latch.{Latch}
 use Rattle.vdp.specs.declared.Latch.the-variants.{Empty, Held}
 use Rattle.vdp.specs.Device.{device, fresh, unlatched, withReg, withPaletteByte, withAddr}
 use Rattle.vdp.specs.Refusals.{whole, isPort}
-use Rattle.vdp.specs.Ports.{After, stored, secondByte, commandBy, oddPalette, paletteWrite, dataBy, readBy, portWrite, portRead}
+use Rattle.vdp.specs.Ports.{After, secondByte, commandBy, oddPalette, paletteWrite, dataBy, readBy, portWrite, portRead}
 use Rattle.block.specs.Block.{latchByte, Shape}
 
 zeros : (n i : ℕ) → at (replicate n 0) i ≡ 0

@@ -1,13 +1,13 @@
 -- The block as its parts are stored one after the other, and the device as its fields are read.
 -- Assumes nothing.
-use mathlib.Core.Path.{_≡_, refl, sym, ap, _∙_}
+use mathlib.Core.Path.{_≡_, refl, sym, _∙_}
 use mathlib.Core.Bool.{Bool, true, false, cond}
-use mathlib.Core.List.{List, [], _∷_, _++_, append-nil, append-assoc}
-use Prim.Native.Nat.{ℕ, suc, _+_, _*_, _/_, _%_, _<_, _≤_}
+use mathlib.Core.List.{List, [], _++_, append-nil, append-assoc}
+use Prim.Native.Nat.{ℕ, _+_, _*_, _≤_}
 use native.Mathlib.Omega.{arith}
 use borrow.Author.Tests.{eq-eqb, eqb-true}
 use lib.Dec.{eqb}
-use lib.ListN.{length, set, take, drop, length-append, drop-of-length-le, replicate}
+use lib.ListN.{length, take, drop, length-append, drop-of-length-le, replicate}
 use lib.Seq.{paste}
 use Rattle.laws.specs.Lists.{at}
 use Rattle.laws.proofs.Parts.{pasted}

@@ -2,12 +2,12 @@
 -- Assumes nothing.
 use mathlib.Core.Path.{_≡_, refl, sym, ap, _∙_}
 use mathlib.Core.Logic.{_≢_}
-use mathlib.Core.Bool.{Bool, true, false, cond, _&&_}
+use mathlib.Core.Bool.{true, cond, _&&_}
 use mathlib.Core.List.{List, [], _++_}
-use Prim.Native.Nat.{ℕ, suc, _+_, _*_, _<_}
+use Prim.Native.Nat.{ℕ, suc, _+_, _<_}
 use native.Mathlib.Omega.{arith}
 use lib.Dec.{eqb, leb}
-use lib.ListN.{length, set, take, drop, length-drop}
+use lib.ListN.{length, set, drop, length-drop}
 use lib.Seq.{length-take-le}
 use Rattle.laws.specs.Lists.{at}
 use Rattle.laws.proofs.Parts.{set-past}
@@ -27,7 +27,7 @@ use Rattle.block.proofs.RoundTrip.{block-back}
 use Rattle.step.specs.Step.{stepped, refusedStep, stepWith}
 use Rattle.step.specs.Dump.{dumpRefusal, dumpAfter}
 use Rattle.step.specs.Frame.{rowAfter, frameAfter}
-use Rattle.face.specs.Face.{Called, stepWord, refused, areaFrom, newCall, outCall, inputCall, steppedTo, stepCall, rowStepCall, dumpCall}
+use Rattle.face.specs.Face.{stepWord, refused, areaFrom, newCall, outCall, inputCall, steppedTo, stepCall, rowStepCall, dumpCall}
 use Rattle.face.specs.Refused.{refusalIn, blockLeft, LeftBehind}
 use Rattle.face.proofs.Exact.{number-low, alone, low-byte, step-byte}
 

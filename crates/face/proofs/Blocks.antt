@@ -9,7 +9,7 @@ use Rattle.vdp.specs.declared.VdpState.{VdpState}
 use Rattle.vdp.specs.Device.{fresh}
 use Rattle.block.specs.Block.{blockOf, Shape}
 use Rattle.block.proofs.RoundTrip.{good-block, state-back}
-use Rattle.face.specs.Face.{Called, onArea, newCall, outOn, outCall, inputOn, inputCall, stepOn, stepCall, rowStepOn, rowStepCall, dumpOn, dumpCall}
+use Rattle.face.specs.Face.{onArea, newCall, outOn, outCall, inputOn, inputCall, stepOn, stepCall, rowStepOn, rowStepCall, dumpOn, dumpCall}
 
 pub new-on : (b : List ℕ) → length b ≡ 219 → newCall b ≡ record { word = 0; block = blockOf fresh; lent = [] }
 unfolding newCall

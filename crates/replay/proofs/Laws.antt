@@ -1,7 +1,7 @@
 -- A replay, from what its parts give.
 -- Assumes nothing.
-use mathlib.Core.Path.{_≡_, refl, sym, ap, _∙_}
-use mathlib.Core.Bool.{Bool, true, false, _&&_}
+use mathlib.Core.Path.{_≡_, sym, ap, _∙_}
+use mathlib.Core.Bool.{Bool, true, false}
 use mathlib.Core.List.{List, []}
 use Prim.Native.Nat.{ℕ, zero, suc, _+_, _-_, _*_, _/_, _%_, _≤_, _<_}
 use native.Mathlib.Nat.{mul-le-mul, add-zero, add-suc}
@@ -13,8 +13,7 @@ use lib.ListN.{length}
 use Rattle.laws.specs.Lists.{at}
 use Rattle.face.proofs.Blocks.{new-on}
 use Rattle.face.specs.Face.{Called, Leaves, newCall, outCall, inputCall, rowStepCall}
-use Rattle.replay.specs.declared.Tally.{Tally}
-use Rattle.replay.specs.Replay.{sumOf, rowSum, agreed, World, world, Turn, turn, wrote, read, stepped, turned, Run, run, after, ran, start, tallied, replayed}
+use Rattle.replay.specs.Replay.{sumOf, rowSum, agreed, World, world, turn, wrote, read, stepped, turned, Run, run, after, ran, start, tallied, replayed}
 
 -- ---- checksums
 pub part-low : (i b : ℕ) → i < 1024 → b < 256 → (i + 1) * b ≤ 261120

@@ -1,7 +1,6 @@
 -- A replay of recorded answers: oracle/VECTORS.md has the form of the list. A record is 16 bytes: the call `W`, `R` or `S`, its port or area, its byte, 0;
 -- then three numbers of four bytes: the answer word, the checksum of the state block after the call, and that of the row that a step drew.
 -- Assumes nothing.
-use mathlib.Core.Path.{_≡_}
 use mathlib.Core.Bool.{Bool, true, false, cond, _&&_}
 use mathlib.Core.List.{List}
 use Prim.Native.Nat.{ℕ, zero, suc, _+_, _*_, _/_, _%_}

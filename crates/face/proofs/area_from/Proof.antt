@@ -1,4 +1,3 @@
-use borrow.Author.Needs.{needs}
 use borrow.Author.Tests.{eq-eqb, ne-eqb}
 use Rattle.face.proofs.area_from.Statement.{statement}
 use Rattle.face.proofs.area_from.Tie as tie

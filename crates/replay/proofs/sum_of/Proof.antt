@@ -1,7 +1,7 @@
 use borrow.Author.Needs.{needs}
 use native.Mathlib.Omega.{arith}
 use mathlib.Core.Path.{_≡_, refl, ap, _∙_}
-use Prim.Native.Nat.{ℕ, _+_, _-_, _*_, _≤_}
+use Prim.Native.Nat.{ℕ, _-_, _*_, _≤_}
 use Rattle.replay.specs.Replay.{sumOf}
 use Rattle.replay.proofs.Laws.{sum-step}
 use Rattle.replay.proofs.sum_of.Statement.{statement}
