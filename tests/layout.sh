@@ -1,5 +1,6 @@
 #!/usr/bin/env bash
-# layout.sh: the sources are in the toolchain's layout, every definition file says what it assumes, and no edit that must fail only broke a proof's shape.
+# layout.sh: what no proof says of the sources: their layout, that every definition file tells what it assumes, that every public function has its
+# theorem of one outcome, and that no edit which must fail was refused for a proof's shape alone.
 set -u
 cd "$(dirname "$0")/.."
 passed=0 failed=0
@@ -22,6 +23,18 @@ bare=$(grep -L '^-- .*Assumes nothing' $(find crates -path '*/specs/*.antt' ! -n
 [ -z "$bare" ] || printf '%s\n' "$bare"
 [ -z "$bare" ]
 tell "every definition file says what it assumes" $?
+
+# A library's public functions: those of src/lib.rt, and those that it hands on from modules of its own.
+bare=
+for lib in crates/*/src/lib.rt; do
+    crate=$(basename "$(dirname "$(dirname "$lib")")")
+    for f in $(sed -nE 's/^ *pub (extern "C" )?fn ([a-z0-9_]+).*/\2/p; s/^pub use [a-z_]+::([a-z0-9_]+);/\1/p' "$lib"); do
+        grep -qE "^use Rattle\.$crate\.proofs\.([A-Za-z]+\.)?$f( |$)" crates/demands/proofs/Outcome.antt || bare="$bare $crate::$f"
+    done
+done
+[ -z "$bare" ] || printf 'no theorem of one outcome:%s\n' "$bare"
+[ -z "$bare" ]
+tell "every public function has its theorem of one outcome" $?
 
 # An edit that only makes a proof unfit for the code shows nothing of the contract. (The suite `proofs` leaves the logs.)
 unfit=
