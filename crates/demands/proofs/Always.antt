@@ -21,7 +21,7 @@ use Rattle.vdp.proofs.Invariant.{Aimed}
 use Rattle.step.specs.Step.{stepWith, stepLines}
 use Rattle.step.specs.Dump.{dumpLines}
 use Rattle.step.proofs.Laws.{step-exact, dump-exact}
-use Rattle.demands.specs.Pass.{Call, out, input, step-frame, step-row, dump-tiles, refusalOf, History, now}
+use Rattle.demands.specs.Pass.{Call, out, input, step-frame, step-row, dump-tiles, refusalOf, History, deviceAfter}
 use Rattle.demands.specs.Always.{Always}
 use Rattle.demands.proofs.Counter.{Within}
 use Rattle.demands.proofs.Sound.{sound}
@@ -76,9 +76,9 @@ early J T b c w e = subst (λ (x : Bool). Within J T x c) e w
 late : (J T : ℕ) (b : Bool) (c : ℕ) → Within J T b c → b ≡ true → T ≤ c
 late J T b c w e = subst (λ (x : Bool). Within J T x c) e w .0
 
-pub always : (h : History) → Always (now h)
+pub always : (h : History) → Always (deviceAfter h)
 always h =
-    let d = now h in
+    let d = deviceAfter h in
     let x = d .raster in
     let s = sound h in
     record {

@@ -1,7 +1,7 @@
 -- The author's program, answered.
 -- Assumes nothing.
 use mathlib.Core.Path.{_≡_, refl, sym, _∙_, ap, subst}
-use mathlib.Core.Logic.{_≢_}
+use mathlib.Core.Logic.{_≢_, inl}
 use mathlib.Core.Bool.{true}
 use mathlib.Core.List.{List}
 use Prim.Native.Nat.{ℕ, zero, suc, _+_, _-_, _%_, _≤_, _<_}
@@ -25,7 +25,7 @@ use Rattle.vdp.specs.Device.{fresh, withCommand, unlatched, withDest, withAddr,
 use Rattle.vdp.specs.Refusals.{whole}
 use Rattle.vdp.specs.Ports.{commandBy, commandWrite, dataWrite, stored, portWrite}
 use Rattle.step.specs.Step.{frameStep}
-use Rattle.demands.specs.Pass.{Run, after, now, then, until, through, ready, answer, lineSet}
+use Rattle.demands.specs.Pass.{Run, after, deviceAfter, then, until, through, ready, answer, lineSet}
 use Rattle.demands.specs.Split.{Split, Twins}
 use Rattle.demands.specs.Author.{asked, unasked, newPalette, Answered}
 use Rattle.step.proofs.Laws.{stepped-reg, stepped-cram, stepped-command}
@@ -109,7 +109,7 @@ module _
     nothing i n = rw (ne-eqb (suc i) 90 n) (after-step r i)
 
     early : (i : ℕ) → i ≤ 89 → Holds (ready r i) old
-    unfolding ready until then now
+    unfolding ready until then deviceAfter
     early zero h = record { cram = refl; reg = refl; latch = refl }
     early (suc i) h =
         subst (λ (d : VdpState). Holds d old) (sym (nothing i (λ e. omega arith))) (step-holds r i old (early i (omega arith)))
@@ -120,9 +120,9 @@ module _
         (taken (frameSize VisibleOnly) VisibleOnly (vram 90) (length frame) fresh (accepted 90 fresh) .memory)
 
     written : Holds (ready r 90) new
-    unfolding ready until then now after
+    unfolding ready until then deviceAfter after
     written =
-        recoloured (vram 90) whole-90 (now (through r 89)) old low high
+        recoloured (vram 90) whole-90 (deviceAfter (through r 89)) old low high
         (subst (λ (d : VdpState). Holds d old) (sym (after-step r 89)) (step-holds r 89 old (early 89 (omega arith))))
 
     late : (k : ℕ) → Holds (ready r (90 + k)) new
@@ -132,18 +132,18 @@ module _
         (subst (λ (d : VdpState). Holds d new) (sym (nothing (90 + k) (λ e. omega arith))) (step-holds r (90 + k) new (late k)))
 
     first-line : lineSet r 0 ≡ 1
-    unfolding ready until then now jumps
+    unfolding ready until then deviceAfter jumps
     first-line = line-of r 0
 
     the-split : Split r 90 old new
     the-split =
         record {
-          from-top = omega (arith, first-line);
+          from-top = inl (omega (arith, first-line));
           low = omega arith;
           high = omega arith;
           step = 89;
           in-pass = omega arith;
-          sets = rising r 89 (omega (arith, first-line)) ∙ ap (λ (n : ℕ). n + 89) first-line;
+          sets = rising r 0 89 (omega (arith, first-line)) ∙ ap (λ (n : ℕ). n + 89) first-line;
           until-then = λ i h. early i h .cram;
           from-then = λ i h _.
               let e : 90 + (i - 90) ≡ i = omega arith in
@@ -159,7 +159,7 @@ module _
     never i = after-step r₀ i
 
     always-old : (i : ℕ) → Holds (ready r₀ i) old
-    unfolding ready until then now
+    unfolding ready until then deviceAfter
     always-old zero = record { cram = refl; reg = refl; latch = refl }
     always-old (suc i) = subst (λ (d : VdpState). Holds d old) (sym (never i)) (step-holds r₀ i old (always-old i))
 
@@ -173,7 +173,7 @@ module _
         subst (λ (n : ℕ). ready r n .reg ≡ fresh .reg) e (late (i - 90) .reg))
 
     one-start : ready r 0 .raster ≡ ready r₀ 0 .raster
-    unfolding ready until then now
+    unfolding ready until then deviceAfter
     one-start = refl
 
     twins : Twins r r₀

@@ -29,7 +29,7 @@ use Rattle.step.specs.Step.{register, lineOf, advance, rowOn, reportOf, stepped
 use Rattle.step.specs.Frame.{drawnBytes, FrameStepLeaves}
 use Rattle.step.proofs.Rows.{row-low, row-line, row-at}
 use Rattle.step.proofs.Laws.{stepped-raster, frame-step-length, frame-step-past, frame-step-other, frame-step-here}
-use Rattle.demands.specs.Pass.{Run, after, now, until, through, ready, answer, lineSet, frameAt, latched, pictureAt, rowAtEnd, LineInterruptsEvery, Demand3}
+use Rattle.demands.specs.Pass.{Run, after, deviceAfter, until, through, ready, answer, lineSet, frameAt, latched, pictureAt, rowAtEnd, LineInterruptsEvery, Demand3}
 use Rattle.demands.proofs.Counter.{line}
 use Rattle.demands.proofs.Lines.{line-once, line-law}
 use Rattle.demands.proofs.Steps.{colours-now, line-alone, Taken, taken, is-stepped}
@@ -69,8 +69,8 @@ module _ {a : RenderArea} (r : Run a) where
   unfolding answer
   steps i = is-stepped (frameSize a) a (r .vram i) (length (r .frame)) (dev i) (r .accepted i (dev i))
 
-  pub after-step : (i : ℕ) → now (through r i) ≡ answer r i .vdp
-  unfolding now after answer ready
+  pub after-step : (i : ℕ) → deviceAfter (through r i) ≡ answer r i .vdp
+  unfolding deviceAfter after answer ready
   after-step i = refl
 
   pub raster-left : (i : ℕ) → answer r i .vdp .raster ≡ ticked (register (dev i)) (dev i .raster)
@@ -109,6 +109,11 @@ module _ {a : RenderArea} (r : Run a) where
 
   pub lines : (q : ℕ) → q < jumpTo → ExactlyOnce passLength (λ i. line (dev i .raster) ≡ q)
   lines q h = line-once (λ i. dev i .raster) (λ i. register (dev i)) raster-next (ready-sound 0 .within) q h
+
+  -- and so in the pass that begins one step later
+  pub lines-later : (q : ℕ) → q < jumpTo → ExactlyOnce passLength (λ i. line (dev (suc i) .raster) ≡ q)
+  lines-later q h =
+      line-once (λ i. dev (suc i) .raster) (λ i. register (dev (suc i))) (λ i. raster-next (suc i)) (ready-sound 1 .within) q h
 
   report-of : (i : ℕ) → answer r i .report ≡ reportOf (advance (dev i))
   unfolding stepped

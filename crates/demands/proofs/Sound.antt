@@ -17,7 +17,7 @@ use Rattle.vdp.specs.Refusals.{size, whole}
 use Rattle.vdp.proofs.Invariant.{Aimed, write-aimed, read-aimed}
 use Rattle.step.specs.declared.Stepped.{Stepped}
 use Rattle.step.specs.Step.{register, lineOf, stepped, stepWith}
-use Rattle.demands.specs.Pass.{Call, out, input, step-frame, step-row, dump-tiles, History, after, now, becomesZero, latched, NoStep, Between, then}
+use Rattle.demands.specs.Pass.{Call, out, input, step-frame, step-row, dump-tiles, History, after, deviceAfter, becomesZero, latched, NoStep, Between, then}
 use Rattle.demands.proofs.Counter.{InPass, tick, line}
 use Rattle.demands.proofs.Lines.{starts-at}
 use Rattle.demands.proofs.Kept.{Clean, write-keeps, read-keeps}
@@ -75,11 +75,11 @@ unfolding ticked counted advanced
 moved-within (stays e) w = subst InPass (sym e) w
 moved-within {x = x} (ticks e) w = subst InPass (sym e) (tick x w .within)
 
-pub sound : (h : History) → Sound (now h)
-unfolding now
+pub sound : (h : History) → Sound (deviceAfter h)
+unfolding deviceAfter
 sound [] = record { clean = λ e. absurd (let z : _≡_ {A = ℕ} 0 1 = cc in omega arith); within = omega arith; aimed = omega arith }
 sound (c ∷ h) =
-    let l = left c (now h) in
+    let l = left c (deviceAfter h) in
     let s = sound h in
     record { clean = l .clean (s .clean); within = moved-within (l .moved) (s .within); aimed = l .aimed (s .aimed) }
 
@@ -106,10 +106,10 @@ moved-scroll d d′ l (stays e) s = rw (e, not-both (eqb (lineOf d) 0)) s
 moved-scroll d d′ l (ticks e) s = rw (e, zero-starts (d .raster), s)
 
 -- the scroll in the record is the one latched when the counter last became 0
-pub scroll-is : (h : History) → now h .raster .«vertical_scroll» ≡ latched h
-unfolding now latched
+pub scroll-is : (h : History) → deviceAfter h .raster .«vertical_scroll» ≡ latched h
+unfolding deviceAfter latched
 scroll-is [] = refl
-scroll-is (c ∷ h) = moved-scroll (now h) (after c (now h)) (latched h) (left c (now h) .moved) (scroll-is h)
+scroll-is (c ∷ h) = moved-scroll (deviceAfter h) (after c (deviceAfter h)) (latched h) (left c (deviceAfter h) .moved) (scroll-is h)
 
 -- ---- between steps
 quiet : (c : Call) (d : VdpState) → NoStep c → after c d .raster ≡ d .raster
@@ -120,7 +120,7 @@ quiet (step-frame a vram k) d n = refused-raster (frameSize a) a vram k d (n d)
 quiet (step-row a vram k) d n = refused-raster (rowSize a) a vram k d (n d)
 quiet (dump-tiles vram k) d n = refl
 
-pub then-raster : (cs : List Between) (h : History) → now (then cs h) .raster ≡ now h .raster
-unfolding then now
+pub then-raster : (cs : List Between) (h : History) → deviceAfter (then cs h) .raster ≡ deviceAfter h .raster
+unfolding then deviceAfter
 then-raster [] h = refl
-then-raster (c ∷ cs) h = then-raster cs (c .call ∷ h) ∙ quiet (c .call) (now h) (c .no-step)
+then-raster (c ∷ cs) h = then-raster cs (c .call ∷ h) ∙ quiet (c .call) (deviceAfter h) (c .no-step)

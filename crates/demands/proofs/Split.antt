@@ -1,7 +1,7 @@
 -- The author's question, answered.
 -- Assumes nothing.
-use mathlib.Core.Path.{_≡_, refl, sym, _∙_, ap}
-use mathlib.Core.Logic.{_≢_}
+use mathlib.Core.Path.{_≡_, refl, sym, _∙_, ap, subst}
+use mathlib.Core.Logic.{_≢_, _⊎_, inl, inr, ⊎-elim}
 use mathlib.Core.List.{List}
 use Prim.Native.Nat.{ℕ, zero, suc, _+_, _-_, _*_, _≤_, _<_}
 use native.Mathlib.Nat.{add-zero, add-suc, add-comm}
@@ -29,7 +29,7 @@ use Rattle.demands.specs.Pass.{Run, through, ready, latched, answer, lin
 use Rattle.demands.specs.Split.{Split, ColourSplit, Ninety, pixelAtEnd, fourBytes, OnlyColour, WhichPixels, Twins, Changed}
 use Rattle.demands.proofs.Counter.{line}
 use Rattle.demands.proofs.Lines.{line-next}
-use Rattle.demands.proofs.Demand3.{line-row, line-of, row-on, lines, raster-left, raster-next, scroll-at, demand3}
+use Rattle.demands.proofs.Demand3.{line-row, line-of, row-on, lines, lines-later, raster-left, raster-next, scroll-at, demand3}
 
 -- ---- the lines of a pass
 module _ {a : RenderArea} (r : Run a) where
@@ -37,24 +37,52 @@ module _ {a : RenderArea} (r : Run a) where
   still : (i : ℕ) → lineOf (ready r (suc i)) ≡ lineSet r i
   still i = ap (λ (x : Raster). x .«v_counter») (raster-next r i ∙ sym (raster-left r i))
 
-  -- they go up from that of its first step
-  pub rising : (i : ℕ) → lineSet r 0 + i < jumpTo → lineSet r i ≡ lineSet r 0 + i
-  rising zero h = sym (add-zero (lineSet r 0))
-  rising (suc i) h =
-      line-of r (suc i)
-      ∙ line-next (ready r (suc i) .raster) (lineSet r 0 + i) (still i ∙ rising i (omega arith)) (omega arith)
-      ∙ sym (add-suc (lineSet r 0) i)
+  -- they go up from that of any step
+  pub rising : (i k : ℕ) → lineSet r i + k < jumpTo → lineSet r (i + k) ≡ lineSet r i + k
+  rising i zero h = rw (add-zero i, add-zero (lineSet r i))
+  rising i (suc k) h =
+      rw (add-suc i k)
+      (line-of r (suc (i + k))
+      ∙ line-next (ready r (suc (i + k)) .raster) (lineSet r i + k) (still (i + k) ∙ rising i k (omega arith)) (omega arith)
+      ∙ sym (add-suc (lineSet r i) k))
 
-  -- so the step of the pass that sets line q is as many steps on
-  step-of : (i q : ℕ) → i < passLength → lineSet r i ≡ q → lineSet r 0 ≤ q → q < jumpTo → i + lineSet r 0 ≡ q
-  step-of i q h e f l =
+  -- the step after the pass sets the line that its first step set
+  round : (q : ℕ) → q < jumpTo → lineSet r passLength ≡ q → lineSet r 0 ≡ q
+  round q l e = let o = lines r q l in go (o .at) (o .below) (o .holds)
+    where
+      go : (k : ℕ) → k < passLength → line (ready r k .raster) ≡ q → lineSet r 0 ≡ q
+      go zero h f = line-of r 0 ∙ f
+      go (suc k) h f =
+          let p = lines-later r q l in
+          let only-k : k ≡ p .at = p .only k (omega arith) f in
+          let only-last : passLength - 1 ≡ p .at = p .only (passLength - 1) (omega arith) (sym (line-of r passLength) ∙ e) in
+          absurd (omega arith)
+
+  -- so where the pass does not begin after line p and up to line q, from the step of the pass that sets p it goes on to q
+  goes-on :
+      (i p q : ℕ) → i < passLength → lineSet r i ≡ p → p ≤ q → q < jumpTo → (lineSet r 0 ≤ p) ⊎ (q < lineSet r 0) → i + (q - p) < passLength
+  goes-on i p q h e f l out =
+      split (ltb (i + (q - p)) passLength) (λ t. ltb-true (i + (q - p)) passLength t)
+      (λ t.
+      let late : passLength ≤ i + (q - p) = ltb-false (i + (q - p)) passLength t in
+      let k : ℕ = passLength - i in
+      let there : i + k ≡ passLength = omega arith in
+      let up : lineSet r (i + k) ≡ lineSet r i + k = rising i k (omega arith) in
+      let begins : lineSet r 0 ≡ p + k =
+      round (p + k) (omega arith) (subst (λ (n : ℕ). lineSet r n ≡ p + k) there (up ∙ ap (λ (n : ℕ). n + k) e)) in
+      absurd (⊎-elim (λ o. omega arith) (λ o. omega arith) out))
+
+  -- and the step that sets q is as many steps on
+  apart :
+      (i j p q : ℕ) → i < passLength → j < passLength → lineSet r i ≡ p → lineSet r j ≡ q → p ≤ q → q < jumpTo →
+      (lineSet r 0 ≤ p) ⊎ (q < lineSet r 0) → j ≡ i + (q - p)
+  apart i j p q h g e d f l out =
       let o = lines r q l in
-      let j : ℕ = q - lineSet r 0 in
-      let there : lineSet r 0 + j ≡ q = omega arith in
-      let at-j : lineSet r j ≡ q = rising j (omega arith) ∙ there in
-      let only-i : i ≡ o .at = o .only i h (sym (line-of r i) ∙ e) in
-      let only-j : j ≡ o .at = o .only j (omega arith) (sym (line-of r j) ∙ at-j) in
-      omega arith
+      let k : ℕ = q - p in
+      let up : lineSet r (i + k) ≡ q = rising i k (omega arith) ∙ omega arith in
+      let only-j : j ≡ o .at = o .only j g (sym (line-of r j) ∙ d) in
+      let only-k : i + k ≡ o .at = o .only (i + k) (goes-on i p q h e f l out) (sym (line-of r (i + k)) ∙ up) in
+      only-j ∙ sym only-k
 
   row-set : (i y : ℕ) → answer r i .row ≡ Drawn y → (lineSet r i ≡ y + firstLine a) × (y < rows a)
   row-set i y e =
@@ -108,27 +136,35 @@ other-colours c p low high n d =
 
 -- ---- the split
 module _ {a : RenderArea} {r : Run a} {L : ℕ} {old new : List ℕ} (s : Split r L old new) (once : firstLine a + rows a ≤ jumpTo) where
-  -- how far step i, which draws row y, and the step that sets line L are from the first
-  row-step : (i y : ℕ) → i < passLength → answer r i .row ≡ Drawn y → i + lineSet r 0 ≡ y + firstLine a
-  row-step i y h e =
-      let l = row-set r i y e in
-      let t : lineSet r 0 ≤ firstLine a = s .from-top in
-      step-of r i (y + firstLine a) h (l .0) (omega arith) (omega arith)
+  -- the pass does not begin after the line of one row and up to that of another
+  outside : (p q : ℕ) → firstLine a ≤ p → q < firstLine a + rows a → (lineSet r 0 ≤ p) ⊎ (q < lineSet r 0)
+  outside p q f l = ⊎-elim (λ o. inl (omega arith)) (λ o. inr (omega arith)) (s .from-top)
 
-  line-step : s .step + lineSet r 0 ≡ L
-  line-step = step-of r (s .step) L (s .in-pass) (s .sets) (omega (arith, s .from-top, s .low)) (omega (arith, s .high))
+  -- a row up to that of line L is drawn no later than the step that sets L, a row below it later
+  no-later : (i y : ℕ) → i < passLength → answer r i .row ≡ Drawn y → y + firstLine a ≤ L → i ≤ s .step
+  no-later i y h e l =
+      let n : ℕ = y + firstLine a in
+      let high : L < firstLine a + rows a = s .high in
+      let k = apart r i (s .step) n L h (s .in-pass) (row-set r i y e .0) (s .sets) l (omega arith) (outside n L (omega arith) high) in
+      omega (arith, k)
+
+  later : (i y : ℕ) → i < passLength → answer r i .row ≡ Drawn y → L < y + firstLine a → s .step < i
+  later i y h e l =
+      let n : ℕ = y + firstLine a in
+      let w = row-set r i y e in
+      let high : n < firstLine a + rows a = omega (arith, w .1) in
+      let k = apart r (s .step) i L n (s .in-pass) h (s .sets) (w .0) (omega arith) (omega arith) (outside L n (s .low) high) in
+      omega (arith, k)
 
   old-rows :
       (i y : ℕ) → i < passLength → answer r i .row ≡ Drawn y → y + firstLine a ≤ L →
       rowAtEnd r y ≡ rowBytes (coloursOf old) (columns a) (pictureAt r i y)
-  old-rows i y h e l =
-      rw (s .until-then i (omega (arith, row-step i y h e, line-step))) at (demand3 r once .row-bytes i y h e)
+  old-rows i y h e l = rw (s .until-then i (no-later i y h e l)) at (demand3 r once .row-bytes i y h e)
 
   new-rows :
       (i y : ℕ) → i < passLength → answer r i .row ≡ Drawn y → L < y + firstLine a →
       rowAtEnd r y ≡ rowBytes (coloursOf new) (columns a) (pictureAt r i y)
-  new-rows i y h e l =
-      rw (s .from-then i (omega (arith, row-step i y h e, line-step)) h) at (demand3 r once .row-bytes i y h e)
+  new-rows i y h e l = rw (s .from-then i (later i y h e l) h) at (demand3 r once .row-bytes i y h e)
 
   pub colour-split : ColourSplit s
   colour-split =
@@ -223,7 +259,9 @@ changed-visible t s kept c only = changed t visible-once s kept c only
 pub ninety : {r : Run VisibleOnly} {old new : List ℕ} (s : Split r 90 old new) → Ninety s
 ninety {r} s =
     let c = colour-split-visible s in
-    let n : suc (s .step) < passLength = omega (arith, line-step s visible-once) in
+    let on : s .step + 1 < passLength =
+    goes-on r (s .step) 90 91 (s .in-pass) (s .sets) (omega arith) (omega arith) (outside s visible-once 90 91 (omega arith) (omega arith)) in
+    let n : suc (s .step) < passLength = omega arith in
     let next : lineSet r (suc (s .step)) ≡ 91 =
     line-of r (suc (s .step)) ∙ line-next (ready r (suc (s .step)) .raster) 90 (c .reads) (omega arith) in
     record {

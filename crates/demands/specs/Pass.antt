@@ -30,6 +30,7 @@ use Rattle.step.specs.Dump.{dumpRefusal}
 
 -- ---- calls, from a fresh device on
 -- A call, with the video memory lent to it; `size` is the length of the pixel buffer lent to it.
+-- (Nothing is assumed of how the memory lent to one call is related to that lent to the next.)
 pub data Call : Type 0 where
   out : (port value : ℕ) (vram : List ℕ) → Call
   input : (port : ℕ) (vram : List ℕ) → Call
@@ -57,9 +58,9 @@ refusalOf (dump-tiles vram size) d = dumpRefusal vram size
 abbrev pub History : Type 0
 History = List Call
 
-unfoldable pub now : History → VdpState
-now [] = fresh
-now (c ∷ h) = after c (now h)
+unfoldable pub deviceAfter : History → VdpState
+deviceAfter [] = fresh
+deviceAfter (c ∷ h) = after c (deviceAfter h)
 
 -- "the vertical scroll latched when the counter last became 0 (0 if it never did)": register 9 at that call
 abbrev pub becomesZero : VdpState → VdpState → Bool
@@ -67,10 +68,11 @@ becomesZero d d′ = not (eqb (lineOf d) 0) && eqb (lineOf d′) 0
 
 unfoldable pub latched : History → ℕ
 latched [] = 0
-latched (c ∷ h) = cond (becomesZero (now h) (now (c ∷ h))) (register (now h) 9) (latched h)
+latched (c ∷ h) = cond (becomesZero (deviceAfter h) (deviceAfter (c ∷ h))) (register (deviceAfter h) 9) (latched h)
 
 -- ---- "consecutive accepted .. steps on one frame that nothing else writes", "with any port calls between steps"
--- What may be called between two steps: a port, a dump, and a step of either kind and area that is refused.
+-- What may be called between two steps: a port, a dump, and a step of either kind and area that is refused, whatever the device (a step's
+-- refusal does not depend on the device).
 abbrev pub NoStep : Call → Type 0
 NoStep (out port value vram) = Unit {0}
 NoStep (input port vram) = Unit {0}
@@ -92,7 +94,7 @@ pub record Run (a : RenderArea) : Type 0 where
   pub vram : ℕ → List ℕ
   -- the frame as step 0 finds it
   pub frame : List ℕ
-  -- each step is accepted, whatever the device
+  -- each step is accepted, whatever the device (a step's refusal does not depend on the device)
   pub accepted : (i : ℕ) (d : VdpState) → frameStep a (vram i) (length frame) d .refusal ≡ Accepted
 
 unfoldable pub then : List Between → History → History
@@ -112,7 +114,7 @@ through r i = stepCall r i ∷ until r i
 
 -- the device just before step i, and what step i answers
 unfoldable pub ready : {a : RenderArea} → Run a → ℕ → VdpState
-ready r i = now (until r i)
+ready r i = deviceAfter (until r i)
 
 unfoldable pub answer : {a : RenderArea} → Run a → ℕ → Stepped
 answer {a} r i = frameStep a (r .vram i) (length (r .frame)) (ready r i)

@@ -1,7 +1,7 @@
 -- THE AUTHOR'S QUESTION: "If the program changes colour 3 when the line counter reads 90, which pixels change?"
 -- Assumes nothing.
 use mathlib.Core.Path.{_≡_}
-use mathlib.Core.Logic.{_≢_}
+use mathlib.Core.Logic.{_≢_, _⊎_}
 use mathlib.Core.List.{List, [], _∷_}
 use Prim.Native.Nat.{ℕ, suc, _+_, _-_, _≤_, _<_}
 use Rattle.laws.specs.Lists.{at, rowOf}
@@ -17,8 +17,8 @@ use Rattle.demands.specs.Pass.{Run, ready, answer, lineSet, rowAtEnd, pi
 
 -- The palette of a pass changes once, between the step that sets line L and the next; all else goes as it goes.
 pub record Split {a : RenderArea} (r : Run a) (L : ℕ) (old new : List ℕ) : Type 0 where
-  -- the pass begins no later than at the first row, line 24, so that its rows come from the top down
-  pub from-top : lineSet r 0 ≤ firstLine a
+  -- the pass begins no later than at the first row, line 24, or after the last, so that its rows come from the top down
+  pub from-top : (lineSet r 0 ≤ firstLine a) ⊎ (firstLine a + rows a ≤ lineSet r 0)
   -- L is the line of a row
   pub low : firstLine a ≤ L
   pub high : L < firstLine a + rows a
