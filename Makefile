@@ -5,7 +5,7 @@ CALLS ?= 1000000
 SEED ?= 1
 ROUNDS ?= 400
 
-.PHONY: all build test compare bench setup prove clean help
+.PHONY: all build test compare memcheck damaged bench setup prove clean help
 
 all: build ## build build/libvdp.a, build/bin/trace and build/bin/snapshot, and show the trace program at work
 	@echo "build/libvdp.a (header include/vdp.h), build/bin/trace and build/bin/snapshot are built."
@@ -27,6 +27,12 @@ compare: build ## hold every call beside the published Rust: CALLS=1000000 SEED=
 	@sh tools/cross.sh run build/oracle/compare rows $(SEED)
 	@sh tools/cross.sh run build/oracle/compare $(CALLS) $(SEED)
 
+memcheck: build ## hold 10,000 calls beside the Rust under valgrind, with each buffer in memory of its own
+	@sh oracle/memcheck.sh 10000 $(SEED)
+
+damaged: build ## show that the comparison catches copies of the library with one constant changed
+	@sh oracle/damaged.sh
+
 bench: build ## time one pass of 261 visible steps, ours and the published Rust's: ROUNDS=400 SEED=1
 	@sh bench/run.sh $(ROUNDS) $(SEED)
 
@@ -40,4 +46,4 @@ clean: ## remove what was built
 	rm -rf build target
 
 help: ## this list
-	@awk -F ':.*## ' '/^[a-z]+:.*## / { printf "make %-8s %s\n", $$1, $$2 }' Makefile
+	@awk -F ':.*## ' '/^[a-z]+:.*## / { printf "make %-9s %s\n", $$1, $$2 }' Makefile

@@ -52,11 +52,13 @@ if [ -f "$GEARS/vdp.rs" ]; then
     tell "lengths, areas and damaged blocks of every kind" $?
     $RUN build/oracle/compare "${CALLS:-350000}" "${SEED:-1}"
     tell "calls beside the Rust" $?
+    $RUN build/oracle/compare vectors 65536 1 | cmp - crates/replay/stdin
+    tell "the list that replay holds is the Rust's, made anew" $?
     $RUSTC --edition 2021 -O player/swap.rs -L native=build -o $out/swap && $RUN $out/swap
     tell "the player's file in place of the published one" $?
 else
     echo "SKIPPED: the comparison with the published Rust: no vdp.rs in $GEARS (set GEARS to the src folder of anisse/gears at commit 0d576c35e2)"
-    skipped=4
+    skipped=5
 fi
 
 printf '%s passed, %s failed' "$passed" "$failed"

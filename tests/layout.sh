@@ -29,7 +29,9 @@ bare=
 for lib in crates/*/src/lib.rt; do
     crate=$(basename "$(dirname "$(dirname "$lib")")")
     for f in $(sed -nE 's/^ *pub (extern "C" )?fn ([a-z0-9_]+).*/\2/p; s/^pub use [a-z_]+::([a-z0-9_]+);/\1/p' "$lib"); do
-        grep -qE "^use Rattle\.$crate\.proofs\.([A-Za-z]+\.)?$f( |$)" crates/demands/proofs/Outcome.antt || bare="$bare $crate::$f"
+        name=$(sed -nE "s/^use Rattle\.$crate\.proofs\.([A-Za-z]+\.)?$f( as ([a-z_-]+))?\$/\3/p" crates/demands/proofs/Outcome.antt)
+        grep -qE "^use Rattle\.$crate\.proofs\.([A-Za-z]+\.)?$f( |\$)" crates/demands/proofs/Outcome.antt &&
+            grep -q " ${name:-$f}\.Reads\.Learnt" crates/demands/proofs/Outcome.antt || bare="$bare $crate::$f"
     done
 done
 [ -z "$bare" ] || printf 'no theorem of one outcome:%s\n' "$bare"

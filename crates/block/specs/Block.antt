@@ -127,8 +127,8 @@ decoded b = cond (wellFormed b) (record { good = true; vdp = stateOf b }) (recor
 unfoldable pub encoded : VdpState → List ℕ → List ℕ
 encoded s b = cond (eqb (length b) blockSize) (blockOf s) b
 
--- What every device of the program has: eleven registers, 64 palette bytes and 32 cached colours, and each of these, and the byte that waits for the
--- palette, of its own size.
+-- What every device of the program has: eleven registers, 64 palette bytes and 32 cached colours; and each palette byte, each colour and the byte
+-- that waits for the palette is of its own size.
 pub record Shape (s : VdpState) : Type 0 where
   pub registers : length (s .reg) ≡ 11
   pub palette : length (s .cram) ≡ 64

@@ -27,7 +27,8 @@ use Rattle.block.proofs.RoundTrip.{block-back}
 use Rattle.step.specs.Step.{stepped, refusedStep, stepWith}
 use Rattle.step.specs.Dump.{dumpRefusal, dumpAfter}
 use Rattle.step.specs.Frame.{rowAfter, frameAfter}
-use Rattle.face.specs.Face.{stepWord, refused, areaFrom, newCall, outCall, inputCall, steppedTo, stepCall, rowStepCall, dumpCall}
+use Rattle.picture.specs.Area.{areaFrom}
+use Rattle.face.specs.Face.{stepWord, refused, newCall, outCall, inputCall, steppedTo, stepCall, rowStepCall, dumpCall}
 use Rattle.face.specs.Refused.{refusalIn, blockLeft, LeftBehind}
 use Rattle.face.proofs.Exact.{number-low, alone, low-byte, step-byte}
 

@@ -24,7 +24,8 @@ use Rattle.step.specs.declared.Stepped.{Stepped}
 use Rattle.step.specs.Dump.{dumpRefusal, dumpLines}
 use Rattle.step.specs.Step.{stepLines, rowStep, frameStep}
 use Rattle.step.proofs.Laws as Steps
-use Rattle.face.specs.Face.{rowBits, stepWord, areaFrom, newCall, outCall, inputCall, stepCall, rowStepCall, dumpCall}
+use Rattle.picture.specs.Area.{areaFrom}
+use Rattle.face.specs.Face.{rowBits, stepWord, newCall, outCall, inputCall, stepCall, rowStepCall, dumpCall}
 use Rattle.face.specs.Refused.{refusalIn, malformed, newLines, outLines, inputLines, stepCallLines, dumpCallLines}
 
 pub number-low : (r : Refusal) → refusalNumber r < 12

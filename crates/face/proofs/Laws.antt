@@ -21,7 +21,8 @@ use Rattle.block.proofs.Whole.{good-is, device-is, encoded-is}
 use Rattle.step.specs.declared.Stepped.{Stepped}
 use Rattle.step.specs.Dump.{DumpLeaves}
 use Rattle.step.specs.Frame.{RowStepLeaves, FrameStepLeaves}
-use Rattle.face.specs.Face.{Called, Leaves, stepWord, onBlock, areaFrom, onArea, newCall, outOn, outCall, inputOn, inputCall, stepOn, stepCall, rowStepOn, rowStepCall, dumpOn, dumpCall}
+use Rattle.picture.specs.Area.{areaFrom}
+use Rattle.face.specs.Face.{Called, Leaves, stepWord, onBlock, onArea, newCall, outOn, outCall, inputOn, inputCall, stepOn, stepCall, rowStepOn, rowStepCall, dumpOn, dumpCall}
 
 -- what is left, by a path from it to what the definition says
 leaves : {c k : Called} → c ≡ k → Leaves k (c .word) (c .block) (c .lent)

@@ -7,7 +7,7 @@ use Prim.Native.Nat.{ℕ, _+_, _*_}
 use lib.Dec.{eqb, leb}
 use lib.ListN.{length}
 use Rattle.picture.specs.declared.RenderArea.{RenderArea}
-use Rattle.picture.specs.declared.RenderArea.the-variants.{VisibleOnly, EffectiveArea}
+use Rattle.picture.specs.Area.{areaFrom}
 use Rattle.vdp.specs.declared.VdpState.{VdpState}
 use Rattle.vdp.specs.declared.ReadBack.{ReadBack}
 use Rattle.vdp.specs.declared.Refusal.{Refusal}
@@ -49,10 +49,7 @@ refused r b x = record { word = refusalNumber r; block = b; lent = x }
 abbrev pub onBlock : List ℕ → List ℕ → (VdpState → Called) → Called
 onBlock b x call = cond (wellFormed b) (call (stateOf b)) (refused BlockMalformed b x)
 
--- "area number above 1 (C face; 0 visible, 1 effective)"
-abbrev pub areaFrom : ℕ → RenderArea
-areaFrom n = cond (eqb n 0) VisibleOnly EffectiveArea
-
+-- "area number above 1"
 abbrev pub onArea : ℕ → List ℕ → List ℕ → (RenderArea → Called) → Called
 onArea n b x call = cond (leb n 1) (call (areaFrom n)) (refused UnknownArea b x)
 

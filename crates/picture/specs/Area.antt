@@ -3,6 +3,7 @@
 use mathlib.Core.Bool.{Bool, cond}
 use mathlib.Core.List.{List}
 use Prim.Native.Nat.{ℕ, _+_, _*_, _/_, _%_}
+use lib.Dec.{eqb}
 use Rattle.laws.specs.Lists.{at}
 use Rattle.laws.specs.Paint.{byteOfColour}
 use Rattle.laws.specs.Table.{table}
@@ -10,6 +11,10 @@ use Rattle.picture.specs.View.{View, visible, effective}
 use Rattle.picture.specs.Picture.{Row, picture}
 use Rattle.picture.specs.declared.RenderArea.{RenderArea}
 use Rattle.picture.specs.declared.RenderArea.the-variants.{VisibleOnly, EffectiveArea}
+
+-- "area number .. (0 visible, 1 effective)"
+abbrev pub areaFrom : ℕ → RenderArea
+areaFrom n = cond (eqb n 0) VisibleOnly EffectiveArea
 
 -- "visible frame .. (160 x 144 x 4); effective frame .. (256 x 224 x 4)"; "row counter-24 for counter 24 to 167", "row counter for 0 to 223"
 abbrev pub columns : RenderArea → ℕ

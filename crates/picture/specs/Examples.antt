@@ -1,13 +1,13 @@
--- P8 to P11 of document 01, and the rows of the Rust's own test `sprite_coord`, computed from the definitions.
+-- The rows of the Rust's own test `sprite_coord`, computed from the definitions. (P8 to P11 stand with the other marked examples in crate `demands`.)
 -- Assumes nothing.
 use mathlib.Core.Path.{_≡_, refl}
-use mathlib.Core.Bool.{Bool, false, cond}
+use mathlib.Core.Bool.{Bool, cond}
 use mathlib.Core.List.{List, [], _∷_}
 use Prim.Native.Nat.{ℕ, zero, suc, _+_, _-_, _*_}
-use Rattle.laws.specs.Bits.{bit, any}
+use Rattle.laws.specs.Bits.{bit}
 use Rattle.picture.specs.declared.Stand.{Stand}
 use Rattle.picture.specs.View.{visibleEnd, visibleSeen, visibleStand, early}
-use Rattle.picture.specs.Picture.{bare, solid, heldBack, marked, struck, drawn, laid, spriteLine}
+use Rattle.picture.specs.Picture.{spriteLine}
 
 -- x, start, end
 abbrev pub spot : Stand → List ℕ
@@ -20,19 +20,6 @@ placesFrom (suc n) i mask = cond (mask i) (i ∷ placesFrom n (suc i) mask) (pla
 
 abbrev pub places : (ℕ → Bool) → List ℕ
 places mask = placesFrom 256 0 mask
-
--- the sprite mask that one sprite with X byte h and eight solid pixels leaves, in the visible area, with no early clock and no priority
-pub alone : ℕ → ℕ → Bool
-alone h = laid (visibleStand 0 h) (λ p. 1) (λ i. false) (bare (λ x. 0)) .mask
-
--- P8, P9, P10, P11
-pub marked-rows : List (List ℕ)
-marked-rows = spot (visibleStand 0 45) ∷ spot (visibleStand 0 203) ∷ spot (visibleStand 8 49) ∷ places (alone 208) ∷ places (alone 209) ∷ []
-
-pub marked-hold :
-    marked-rows ≡ (0 ∷ 3 ∷ 8 ∷ []) ∷ (155 ∷ 0 ∷ 5 ∷ []) ∷ (0 ∷ 7 ∷ 8 ∷ []) ∷ [] ∷ (209 ∷ 210 ∷ 211 ∷ 212 ∷ 213 ∷ 214 ∷ 215 ∷ 216 ∷ []) ∷ []
-unfolding marked-rows alone visibleEnd visibleSeen visibleStand solid heldBack marked struck drawn laid bare any
-marked-hold = refl
 
 -- The test: from register 1's size bit, register 0's early clock, line, tile, top and X byte, the row and the stand of a sprite, with the address of
 -- its tile line, which is 32 char_num + 4 src_line

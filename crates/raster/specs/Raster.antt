@@ -6,7 +6,7 @@ use lib.Dec.{eqb, ltb}
 use Rattle.laws.specs.Bits.{bit}
 use Rattle.raster.specs.declared.Raster.{Raster}
 
--- the counter from which it jumps, and the one to which; "So a pass has 261 steps."
+-- the value at which the counter jumps instead of being read, and the one it jumps to; "So a pass has 261 steps."
 abbrev pub jumpLine : ℕ
 jumpLine = 0xDA
 

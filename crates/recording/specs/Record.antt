@@ -6,14 +6,9 @@ use Prim.Native.Nat.{ℕ, _+_, _-_, _*_}
 use lib.Dec.{ltb, leb, eqb}
 use lib.ListN.{length}
 use Rattle.laws.specs.Lists.{at}
-use Rattle.picture.specs.declared.RenderArea.{RenderArea}
-use Rattle.picture.specs.declared.RenderArea.the-variants.{VisibleOnly, EffectiveArea}
+use Rattle.picture.specs.Area.{areaFrom}
 use Rattle.recording.specs.declared.record.Record.{Record}
 use Rattle.recording.specs.declared.record.Record.the-variants.{Write, Read, Step, Bad, End}
-
--- "0 visible, 1 effective"
-abbrev pub areaOf : ℕ → RenderArea
-areaOf n = cond (eqb n 0) VisibleOnly EffectiveArea
 
 -- the record of the mark m at offset k, with n bytes from there to the end: "`PW` port value, `PR` port, `LS` area";
 -- "an unknown mark, area above 1 or cut record" is bad
@@ -21,7 +16,7 @@ unfoldable pub marked : List ℕ → ℕ → ℕ → ℕ → Record
 marked s k n m =
     cond (eqb m 0x5057) (cond (ltb n 4) Bad (Write (at s (k + 2)) (at s (k + 3))))
     (cond (eqb m 0x5052) (Read (at s (k + 2)))
-    (cond (eqb m 0x4C53) (cond (ltb 1 (at s (k + 2))) Bad (Step (areaOf (at s (k + 2))))) Bad))
+    (cond (eqb m 0x4C53) (cond (ltb 1 (at s (k + 2))) Bad (Step (areaFrom (at s (k + 2))))) Bad))
 
 -- the record at offset k: the shortest has 3 bytes, and the mark is the first two
 unfoldable pub recordAt : List ℕ → ℕ → Record

@@ -1,7 +1,8 @@
 // The records of a recording: `PW` port value, `PR` port, `LS` area.
 ghost use mathlib.Core.Path.{_≡_};
 ghost use Prim.Native.Nat.{_+_, _*_};
-ghost use Rattle.recording.specs.Record.{areaOf, recordAt};
+ghost use Rattle.picture.specs.Area.{areaFrom};
+ghost use Rattle.recording.specs.Record.{recordAt};
 use picture::RenderArea;
 
 // What stands at an offset of a recording.
@@ -22,7 +23,7 @@ fn word(high: u8, low: u8) -> u16
 
 // The area of this number, 0 or 1.
 fn area_of(x: u8) -> RenderArea
-    ensures { λ r. ⌜ r ≡ areaOf x ⌝ }
+    ensures { λ r. ⌜ r ≡ areaFrom x ⌝ }
 {
     if x == 0 {
         RenderArea::VisibleOnly

@@ -12,7 +12,8 @@ use Rattle.laws.specs.Paint.{ofBytes}
 use Rattle.picture.specs.Area.{rowSize}
 use Rattle.vdp.specs.Device.{fresh}
 use Rattle.block.specs.Block.{blockSize, blockOf}
-use Rattle.face.specs.Face.{Called, areaFrom, outCall, inputCall, rowStepCall}
+use Rattle.picture.specs.Area.{areaFrom}
+use Rattle.face.specs.Face.{Called, outCall, inputCall, rowStepCall}
 use Rattle.replay.specs.declared.Tally.{Tally}
 
 -- "numbers of four bytes are little-endian"

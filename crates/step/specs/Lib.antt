@@ -2,4 +2,3 @@
 pub mod Step
 pub mod Frame
 pub mod Dump
-pub mod Examples

@@ -3,4 +3,3 @@ pub mod Device
 pub mod Refusals
 pub mod Ports
 pub mod Calls
-pub mod Examples
