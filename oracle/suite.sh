@@ -8,18 +8,7 @@ cd "$(dirname "$0")/.."
 export RUN
 out=build/outside
 mkdir -p $out
-passed=0 failed=0 skipped=0
-
-# tell NAME STATUS: one line for each test.
-tell() {
-    if [ "$2" -eq 0 ]; then
-        printf 'ok: %s\n' "$1"
-        passed=$((passed + 1))
-    else
-        printf 'FAILED: %s\n' "$1"
-        failed=$((failed + 1))
-    fi
-}
+. tools/tell.sh
 
 # The header and the example in C; the header in C++ where there is a compiler for it.
 $CC_X86 -std=c99 -Wall -Wextra -pedantic -Werror -O2 -Iinclude examples/frame.c build/libvdp.a -o $out/frame && $RUN $out/frame $out/frame.ppm
@@ -61,6 +50,4 @@ else
     skipped=5
 fi
 
-printf '%s passed, %s failed' "$passed" "$failed"
-if [ "$skipped" -gt 0 ]; then printf ', %s skipped\n' "$skipped"; else printf '\n'; fi
-[ "$failed" -eq 0 ]
+total

@@ -3,18 +3,7 @@
 # theorem of one outcome, and that no edit which must fail was refused for a proof's shape alone.
 set -u
 cd "$(dirname "$0")/.."
-passed=0 failed=0
-
-# tell NAME STATUS: one line for each test.
-tell() {
-    if [ "$2" -eq 0 ]; then
-        printf 'ok: %s\n' "$1"
-        passed=$((passed + 1))
-    else
-        printf 'FAILED: %s\n' "$1"
-        failed=$((failed + 1))
-    fi
-}
+. tools/tell.sh
 
 rt fmt --check
 tell "the sources are in the toolchain's layout" $?
@@ -51,5 +40,4 @@ done
 [ -z "$unfit" ]
 tell "every edit that must fail is refused for a fact" $?
 
-printf '%s passed, %s failed\n' "$passed" "$failed"
-[ "$failed" -eq 0 ]
+total

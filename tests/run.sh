@@ -5,7 +5,7 @@ set -u
 cd "$(dirname "$0")/.."
 logs=build/test
 mkdir -p $logs
-passed=0 failed=0 skipped=0
+. tools/tell.sh
 
 # suite NAME COMMAND..: runs it, shows what it prints, and adds its last line to the sum.
 suite() {
@@ -31,19 +31,15 @@ suite() {
     printf '(%s: %s s)\n' "$name" $(($(date +%s) - began))
 }
 
-# sum: the last line, which .ci/run shows again where make adds a line of its own.
-sum() {
-    if [ "$skipped" -gt 0 ]; then
-        printf '%s passed, %s failed, %s skipped\n' "$passed" "$failed" "$skipped"
-    else
-        printf '%s passed, %s failed\n' "$passed" "$failed"
-    fi | tee $logs/sum
+# close: the last line, kept for .ci/run, which shows it again where make adds a line of its own.
+close() {
+    total | tee $logs/sum
     [ "$failed" -eq 0 ]
 }
 
 if ! sh tools/setup.sh; then
     failed=1
-    sum
+    close
     exit 1
 fi
 
@@ -53,4 +49,4 @@ for s in tests/[a-z]*.sh; do
 done
 
 printf '\n'
-sum
+close

@@ -7,18 +7,7 @@ cd "$(dirname "$0")/.."
 [ -x build/bin/trace ] && [ -x build/bin/snapshot ] || make --no-print-directory build || exit 1
 work=build/test/traces
 mkdir -p $work
-passed=0 failed=0 skipped=0
-
-# tell NAME STATUS: one line for each test.
-tell() {
-    if [ "$2" -eq 0 ]; then
-        printf 'ok: %s\n' "$1"
-        passed=$((passed + 1))
-    else
-        printf 'FAILED: %s\n' "$1"
-        failed=$((failed + 1))
-    fi
-}
+. tools/tell.sh
 
 # prints NAME TRACE TEXT: the file TRACE prints the file TEXT.
 prints() {
@@ -137,6 +126,4 @@ for y in $(seq 0 143); do
 done
 tell 'split at line 90: all other rows' $status
 
-printf '%s passed, %s failed' "$passed" "$failed"
-if [ "$skipped" -gt 0 ]; then printf ', %s skipped\n' "$skipped"; else printf '\n'; fi
-[ "$failed" -eq 0 ]
+total

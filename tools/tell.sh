@@ -1,0 +1,21 @@
+# tell.sh: sourced by every test script, so that all of them count and speak alike.
+passed=0 failed=0 skipped=0
+
+# tell NAME STATUS: one line for each test.
+tell() {
+    if [ "$2" -eq 0 ]; then
+        printf 'ok: %s\n' "$1"
+        passed=$((passed + 1))
+    else
+        printf 'FAILED: %s\n' "$1"
+        failed=$((failed + 1))
+    fi
+}
+
+# total: the last line. Its status is 0 where nothing failed.
+total() {
+    printf '%s passed, %s failed' "$passed" "$failed"
+    if [ "$skipped" -gt 0 ]; then printf ', %s skipped' "$skipped"; fi
+    printf '\n'
+    [ "$failed" -eq 0 ]
+}
