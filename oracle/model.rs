@@ -647,7 +647,8 @@ pub fn vdp_input(state: &mut [u8], video: &[u8], port: u16) -> u32 {
     refusal | (byte as u32) << 8
 }
 
-pub fn vdp_step(state: &mut [u8], video: &[u8], frame: &mut [u8], area: u8, notes: &mut Notes) -> u32 {
+/// A step over the block: first the block is read, then the area's number, then `step` is made.
+fn stepped(state: &mut [u8], area: u8, step: impl FnOnce(&mut Device, Area) -> Result<Stepped, u32>) -> u32 {
     let mut device = match Device::decode(state) {
         None => return 10,
         Some(device) => device,
@@ -656,23 +657,17 @@ pub fn vdp_step(state: &mut [u8], video: &[u8], frame: &mut [u8], area: u8, note
         None => return 11,
         Some(area) => area,
     };
-    let answer = device.frame_step(video, frame, area, notes);
+    let answer = step(&mut device, area);
     state.copy_from_slice(&device.encode());
     step_word(answer)
 }
 
+pub fn vdp_step(state: &mut [u8], video: &[u8], frame: &mut [u8], area: u8, notes: &mut Notes) -> u32 {
+    stepped(state, area, |device, area| device.frame_step(video, frame, area, notes))
+}
+
 pub fn vdp_row_step(state: &mut [u8], video: &[u8], row: &mut [u8], area: u8, notes: &mut Notes) -> u32 {
-    let mut device = match Device::decode(state) {
-        None => return 10,
-        Some(device) => device,
-    };
-    let area = match Area::from_number(area) {
-        None => return 11,
-        Some(area) => area,
-    };
-    let answer = device.row_step(video, row, area, notes);
-    state.copy_from_slice(&device.encode());
-    step_word(answer)
+    stepped(state, area, |device, area| device.row_step(video, row, area, notes))
 }
 
 pub fn vdp_dump_tileset(state: &[u8], video: &[u8], sheet: &mut [u8]) -> u32 {
