@@ -1,2 +1,5 @@
 -- The laws of a tile's line.
 pub mod Marks
+pub mod Lanes
+pub mod Store
+pub mod Whole

@@ -1,2 +1,3 @@
 -- What the contracts of `tile` cite.
 pub mod Line
+pub mod Lanes

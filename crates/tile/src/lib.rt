@@ -1,14 +1,15 @@
 // One line of a tile, drawn into a row of pixels: as background, and as a sprite.
 ghost use mathlib.Core.Path.{_≡_};
 ghost use mathlib.Core.Bool.{true, cond, _&&_, not};
-ghost use Prim.Native.Nat.{_+_, _-_, _*_, _%_, _^_, _<_, _≤_, min};
+ghost use Prim.Native.Nat.{ℕ, _+_, _-_, _*_, _%_, _^_, _<_, _≤_, min};
 ghost use lib.ListN.{length};
 ghost use lib.Bits.{bitOr};
 ghost use Rattle.laws.specs.Bits.{bit, digit, number, byteOf};
 ghost use Rattle.laws.specs.Lists.{at};
-ghost use Rattle.laws.specs.Paint.{put, painted, putIf, overlaid};
+ghost use Rattle.laws.specs.Paint.{put, painted, putIf, overlaid, ofBytes};
 ghost use Rattle.picture.specs.Tile.{codeOf, codeAt, turned};
 ghost use Rattle.picture.specs.Picture.{solid};
+ghost use Rattle.tile.specs.Lanes.{lanes, lane};
 ghost use Rattle.tile.specs.Line.{lineColour, lineSolid, lineMarked, lineDrawn, lineHeld, spriteColour};
 
 // ---- numbers and tests that every crate above uses
@@ -113,10 +114,136 @@ fn pixel_set_if(shown: bool, row: &mut [u8], x: usize, c: u32)
     }
 }
 
+// The colour that stands at byte k of the row.
+fn colour_at(row: &[u8], k: usize) -> u32
+    requires { ⌜ k + 4 ≤ length (now row) ⌝ }
+    ensures { λ r. ⌜ r ≡ ofBytes (at (now (row .entry)) k) (at (now (row .entry)) (k + 1)) (at (now (row .entry)) (k + 2)) (at (now (row .entry)) (k + 3)) ⌝ }
+{
+    let r = part(row[k]);
+    let g = part(row[k + 1]);
+    let b = part(row[k + 2]);
+    let a = part(row[k + 3]);
+    r + 256 * g + 65536 * b + 16777216 * a
+}
+
+// A byte as a part of a colour.
+fn part(x: u8) -> u32
+    ensures { λ r. ⌜ (r ≡ x) × (r < 256) ⌝ }
+{
+    x as u32
+}
+
+// The first colour where `on`, else the second.
+fn chosen(on: bool, a: u32, b: u32) -> u32
+    ensures { λ r. ⌜ r ≡ cond on a b ⌝ }
+{
+    if on { a } else { b }
+}
+
+// Pixel x of the row, which is there, becomes colour c where `shown`; else it is stored again as it was, so that there is no branch.
+fn pixel_choose(shown: bool, row: &mut [u8], x: usize, c: u32)
+    requires { ⌜ x * 4 + 4 ≤ length (now row) ⌝ }
+    ensures { λ r. ⌜ now (row .exit) ≡ putIf shown (now (row .entry)) x c ⌝ }
+{
+    let k = x * 4;
+    let old = colour_at(row, k);
+    pixel_set_full(row, x, chosen(shown, c, old));
+}
+
+// ---- the eight codes of a line at once, a byte of one number to each
+
+// A byte as a number of eight.
+fn long(x: u8) -> u64
+    ensures { λ r. ⌜ (r ≡ x) × (r < 256) ⌝ }
+{
+    x as u64
+}
+
+// The bits of a byte, one to a lane, the highest first.
+fn spread(b: u8) -> u64
+    ensures { λ r. ⌜ r ≡ lanes 8 (λ k. digit (bit b (7 - k))) ⌝ }
+    ensures { λ r. ⌜ r ≤ 0x0101010101010101 ⌝ }
+{
+    let w = long(b);
+    ((w * 0x0040201008040201 | w << 63) & 0x8080808080808080) >> 7
+}
+
+// The lanes in the other order.
+fn mirrored(w: u64) -> u64
+    ensures { λ r. ⌜ ((f : ℕ → ℕ) → ((k : ℕ) → f k < 256) → w ≡ lanes 8 f → r ≡ lanes 8 (λ k. f (7 - k))) ⌝ }
+{
+    w / 0x0100000000000000 % 256
+        + w / 0x0001000000000000 % 256 * 0x0000000000000100
+        + w / 0x0000010000000000 % 256 * 0x0000000000010000
+        + w / 0x0000000100000000 % 256 * 0x0000000001000000
+        + w / 0x0000000001000000 % 256 * 0x0000000100000000
+        + w / 0x0000000000010000 % 256 * 0x0000010000000000
+        + w / 0x0000000000000100 % 256 * 0x0001000000000000
+        + w % 256 * 0x0100000000000000
+}
+
+// The codes of a line with these four bytes, the leftmost pixel's in lane 0.
+fn codes_of(flip: bool, p0: u8, p1: u8, p2: u8, p3: u8) -> u64
+    ensures { λ r. ⌜ r ≡ lanes 8 (λ k. codeOf p0 p1 p2 p3 (7 - turned flip k)) ⌝ }
+{
+    let w = spread(p0) + 2 * spread(p1) + 4 * spread(p2) + 8 * spread(p3);
+    if flip { mirrored(w) } else { w }
+}
+
+// The bits of a byte in the other order.
+fn reversed(b: u8) -> u8
+    ensures { λ r. ⌜ r ≡ number 8 (λ k. bit b (7 - k)) ⌝ }
+{
+    let x = b << 4 | b >> 4;
+    let y = (x & 0x33) << 2 | x >> 2 & 0x33;
+    (y & 0x55) << 1 | y >> 1 & 0x55
+}
+
+// A bit for each pixel of the line, the leftmost's lowest, of a byte that has the leftmost's highest.
+fn faced(flip: bool, b: u8) -> u8
+    ensures { λ r. ⌜ r ≡ number 8 (λ k. bit b (7 - turned flip k)) ⌝ }
+{
+    if flip { b } else { reversed(b) }
+}
+
+// n bits of a byte, from bit `start` on.
+fn cut(bits: u8, start: usize, n: usize) -> u8
+    requires { ⌜ start + n ≤ 8 ⌝ }
+    ensures { λ r. ⌜ r ≡ number n (λ k. bit bits (start + k)) ⌝ }
+{
+    let low: usize = 1 << n;
+    ((wide(bits) >> start) % low) as u8
+}
+
 // ---- the background
 
+// The colours that the first n lanes name, from pixel x of the row on.
+fn paint(row: &mut [u8], colours: &[u32], x: usize, codes: u64, n: usize)
+    requires { ⌜ (n ≤ 8) × ((x + n) * 4 ≤ length (now row)) × ((k : ℕ) → k < n → lane codes k < length (now colours)) ⌝ }
+    ensures { λ r. ⌜ now (row .exit) ≡ painted (now (row .entry)) x n (λ k. at (now (colours .entry)) (lane codes k)) ⌝ }
+{
+    let mut w = codes;
+    let mut i: usize = 0;
+    while i < n {
+        let c = (w % 256) as usize;
+        pixel_set_full(row, x + i, colours[c]);
+        w = w / 256;
+        i += 1;
+    }
+}
+
+// The same by 16 of the colours, from colour `palette` on.
+fn paint_by(row: &mut [u8], colours: &[u32], palette: usize, x: usize, codes: u64, n: usize)
+    requires { ⌜ (n ≤ 8) × ((x + n) * 4 ≤ length (now row)) × (palette + 16 ≤ length (now colours)) × ((k : ℕ) → k < n → lane codes k < 16) ⌝ }
+    ensures { λ r. ⌜ now (row .exit) ≡ painted (now (row .entry)) x n (λ k. at (now (colours .entry)) (palette + lane codes k)) ⌝ }
+{
+    let top = palette + 16;
+    paint(row, &colours[palette..top], x, codes, n);
+}
+
 // n pixels of the line at addr, from the tile's pixel start on, drawn from pixel x of the row on; answers which are not of code 0.
-fn character_columns(
+// The whole line has a way of its own, on which the compiler knows how many columns there are.
+pub fn character_line(
     row: &mut [u8],
     vram: &[u8],
     colours: &[u32; 32],
@@ -135,38 +262,14 @@ fn character_columns(
     let p1 = vram[addr + 1];
     let p2 = vram[addr + 2];
     let p3 = vram[addr + 3];
-    let mut bits: u8 = 0;
-    let mut i: usize = 0;
-    while i < n {
-        let code = color_code(p0, p1, p2, p3, offset_of(flip, start + i));
-        let c = palette + code;
-        pixel_set_full(row, x + i, colours[c]);
-        bits = mark(bits, i, code != 0);
-        i += 1;
-    }
-    bits
-}
-
-// The same, with the whole line on a way of its own, on which the compiler knows how many columns there are.
-pub fn character_line(
-    row: &mut [u8],
-    vram: &[u8],
-    colours: &[u32; 32],
-    addr: usize,
-    flip: bool,
-    palette: usize,
-    x: usize,
-    start: usize,
-    n: usize,
-) -> u8
-    requires { ⌜ (start + n ≤ 8) × (addr + 4 ≤ length (now vram)) × (palette ≤ 16) × ((x + n) * 4 ≤ length (now row)) ⌝ }
-    ensures { λ r. ⌜ now (row .exit) ≡ painted (now (row .entry)) x n (lineColour (now (colours .entry)) palette (now (vram .entry)) addr flip start) ⌝ }
-    ensures { λ r. ⌜ r ≡ number n (lineSolid (now (vram .entry)) addr flip start) ⌝ }
-{
+    let codes = codes_of(flip, p0, p1, p2, p3);
+    let bits = faced(flip, p0 | p1 | p2 | p3);
     if n == 8 {
-        return character_columns(row, vram, colours, addr, flip, palette, x, 0, 8);
+        paint_by(row, colours, palette, x, codes, 8);
+        return bits;
     }
-    character_columns(row, vram, colours, addr, flip, palette, x, start, n)
+    paint_by(row, colours, palette, x, codes >> (8 * (start % 8)), n);
+    cut(bits, start, n)
 }
 
 // ---- a sprite
@@ -179,7 +282,7 @@ pub struct Columns {
 }
 
 // The columns of the line at addr, from the tile's pixel start to below end, drawn from pixel x of the row on where `held` and `taken` let them.
-pub fn character_line_sprite(
+fn sprite_columns(
     row: &mut [u8],
     vram: &[u8],
     colours: &[u32; 32],
@@ -220,6 +323,74 @@ pub fn character_line_sprite(
         drawn: drawn,
         held: kept,
     }
+}
+
+// The colours that the lanes name where `drawn` has their bits, from pixel x of the row on.
+fn overlay(row: &mut [u8], colours: &[u32; 32], x: usize, codes: u64, drawn: u8)
+    requires { ⌜ (x < 65536) × ((x + 8) * 4 ≤ length (now row)) × ((k : ℕ) → k < 8 → lane codes k < 16) ⌝ }
+    ensures { λ r. ⌜ now (row .exit) ≡ overlaid (now (row .entry)) x 8 (bit drawn) (λ k. at (now (colours .entry)) (16 + lane codes k)) ⌝ }
+{
+    let mut w = codes;
+    let mut i: usize = 0;
+    while i < 8 {
+        let c = 16 + (w % 256) as usize;
+        pixel_choose(is_set(drawn, i), row, x + i, colours[c]);
+        w = w / 256;
+        i += 1;
+    }
+}
+
+// The whole line at addr, all of it in the row: what it marks and draws are made as bytes first.
+fn sprite_whole(
+    row: &mut [u8],
+    vram: &[u8],
+    colours: &[u32; 32],
+    addr: usize,
+    held: u8,
+    taken: u8,
+    width: usize,
+    x: usize,
+) -> Columns
+    requires { ⌜ (addr + 4 ≤ length (now vram)) × (x < 65536) × (x + 8 ≤ width) × (width * 4 ≤ length (now row)) ⌝ }
+    ensures { λ r. ⌜ now (row .exit) ≡ overlaid (now (row .entry)) x 8 (lineDrawn (now (vram .entry)) addr 0 8 held taken width x) (spriteColour (now (colours .entry)) (now (vram .entry)) addr 0) ⌝ }
+    ensures { λ r. ⌜ (r .marks ≡ byteOf (lineMarked (now (vram .entry)) addr 0 8 held)) × (r .drawn ≡ byteOf (lineDrawn (now (vram .entry)) addr 0 8 held taken width x)) × (r .held ≡ byteOf (lineHeld (now (vram .entry)) addr 0 8 held)) ⌝ }
+{
+    let p0 = vram[addr];
+    let p1 = vram[addr + 1];
+    let p2 = vram[addr + 2];
+    let p3 = vram[addr + 3];
+    let all = reversed(p0 | p1 | p2 | p3);
+    let marks = all & (255 - held);
+    let drawn = marks & (255 - taken);
+    overlay(row, colours, x, codes_of(false, p0, p1, p2, p3), drawn);
+    Columns {
+        marks: marks,
+        drawn: drawn,
+        held: all & held,
+    }
+}
+
+// The same, with the whole line on a way of its own.
+pub fn character_line_sprite(
+    row: &mut [u8],
+    vram: &[u8],
+    colours: &[u32; 32],
+    addr: usize,
+    held: u8,
+    taken: u8,
+    width: usize,
+    x: usize,
+    start: usize,
+    end: usize,
+) -> Columns
+    requires { ⌜ (end ≤ 8) × (start ≤ 256) × (addr + 4 ≤ length (now vram)) × (x < 65536) × (width * 4 ≤ length (now row)) ⌝ }
+    ensures { λ r. ⌜ now (row .exit) ≡ overlaid (now (row .entry)) x 8 (lineDrawn (now (vram .entry)) addr start end held taken width x) (spriteColour (now (colours .entry)) (now (vram .entry)) addr start) ⌝ }
+    ensures { λ r. ⌜ (r .marks ≡ byteOf (lineMarked (now (vram .entry)) addr start end held)) × (r .drawn ≡ byteOf (lineDrawn (now (vram .entry)) addr start end held taken width x)) × (r .held ≡ byteOf (lineHeld (now (vram .entry)) addr start end held)) ⌝ }
+{
+    if both(both(start == 0, end == 8), x + 8 <= width) {
+        return sprite_whole(row, vram, colours, addr, held, taken, width, x);
+    }
+    sprite_columns(row, vram, colours, addr, held, taken, width, x, start, end)
 }
 
 // The columns of the line at addr, from the tile's pixel start to below end, that are not of code 0: what an unseen sprite marks.
