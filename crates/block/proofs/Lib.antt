@@ -3,3 +3,4 @@ pub mod Copies
 pub mod Whole
 pub mod RoundTrip
 pub mod Shapes
+pub mod Stores

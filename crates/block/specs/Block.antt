@@ -6,11 +6,13 @@ use Prim.Native.Nat.{ℕ, _+_, _*_, _/_, _%_, _<_}
 use mathlib.Core.Path.{_≡_}
 use mathlib.Core.List.{List, [], _∷_, _++_}
 use mathlib.Core.Bool.{Bool, true, false, cond, not, _||_, _&&_}
-use lib.ListN.{length, take, drop}
+use lib.ListN.{length, take, drop, set}
+use lib.Seq.{paste}
 use lib.Dec.{leb, eqb}
 use Rattle.laws.specs.Lists.{at}
 use Rattle.laws.specs.Paint.{byteOfColour, ofBytes}
 use Rattle.laws.specs.Table.{table}
+use Rattle.raster.specs.declared.Raster.{Raster}
 use Rattle.vdp.specs.declared.VdpState.{VdpState}
 use Rattle.vdp.specs.declared.WriteDest.{WriteDest}
 use Rattle.vdp.specs.declared.WriteDest.the-variants.{None, Vram, Cram}
@@ -126,6 +128,19 @@ decoded b = cond (wellFormed b) (record { good = true; vdp = stateOf b }) (recor
 
 unfoldable pub encoded : VdpState → List ℕ → List ℕ
 encoded s b = cond (eqb (length b) blockSize) (blockOf s) b
+
+-- a block with another status and raster, and one with clean colours
+abbrev pub rasterStored : ℕ → Raster → List ℕ → List ℕ
+rasterStored status r b =
+    set (set (set (set (set b 2 status) 14 (r .«v_counter»)) 15 (flagOf (r .«v_counter_jumped»))) 16 (r .«line_interrupt_counter»)) 25 (r .«vertical_scroll»)
+
+abbrev pub cacheStored : List ℕ → List ℕ → List ℕ
+cacheStored colours b = set (paste b 91 (colourBytes colours) 128) 26 0
+
+-- what a device has whose block they make
+pub record Sized (s : VdpState) : Type 0 where
+  pub registers : length (s .reg) ≡ 11
+  pub palette : length (s .cram) ≡ 64
 
 -- What every device of the program has: eleven registers, 64 palette bytes and 32 cached colours; and each palette byte, each colour and the byte
 -- that waits for the palette is of its own size.

@@ -3,7 +3,7 @@ ghost use mathlib.Core.Path.{_≡_};
 ghost use Prim.Native.Nat.{_+_, _*_, _≤_, _<_};
 ghost use lib.ListN.{length, drop};
 ghost use lib.Seq.{paste};
-ghost use Rattle.block.specs.Block.{flagOf, chosenOf, chosenFrom, latchFlag, latchByte, latchFrom, wellFormed, colourAt, coloursAt, colourBytes, small, decoded, encoded};
+ghost use Rattle.block.specs.Block.{stateOf, rasterStored, cacheStored, flagOf, chosenOf, chosenFrom, latchFlag, latchByte, latchFrom, wellFormed, colourAt, coloursAt, colourBytes, small, decoded, encoded};
 use raster::Raster;
 use vdp::Latch;
 use vdp::VdpState;
@@ -246,4 +246,67 @@ pub fn encode(state: VdpState, block: &mut [u8])
     copy(block, 14, &small, 0, 13);
     copy(block, 27, &cram, 0, 64);
     put_colours(block, &color_cache);
+}
+
+// ---- the parts of a block that a step reads and writes, each by itself
+
+// The registers.
+pub fn registers(block: &[u8]) -> [u8; 11]
+    requires { ⌜ length (now block) ≡ 219 ⌝ }
+    ensures { λ r. ⌜ r ≡ stateOf (now (block .entry)) .reg ⌝ }
+{
+    let mut reg = [0u8; 11];
+    copy(&mut reg, 0, block, 3, 11);
+    reg
+}
+
+// The raster.
+pub fn raster_in(block: &[u8]) -> Raster
+    requires { ⌜ length (now block) ≡ 219 ⌝ }
+    ensures { λ r. ⌜ r ≡ stateOf (now (block .entry)) .raster ⌝ }
+{
+    Raster {
+        v_counter: block[14],
+        v_counter_jumped: block[15] == 1,
+        line_interrupt_counter: block[16],
+        vertical_scroll: block[25],
+    }
+}
+
+// The palette, and the cached colours.
+pub fn palette_in(block: &[u8]) -> [u8; 64]
+    requires { ⌜ length (now block) ≡ 219 ⌝ }
+    ensures { λ r. ⌜ r ≡ stateOf (now (block .entry)) .cram ⌝ }
+{
+    let mut cram = [0u8; 64];
+    copy(&mut cram, 0, block, 27, 64);
+    cram
+}
+
+pub fn cache_in(block: &[u8]) -> [u32; 32]
+    requires { ⌜ length (now block) ≡ 219 ⌝ }
+    ensures { λ r. ⌜ r ≡ stateOf (now (block .entry)) .«color_cache» ⌝ }
+{
+    colours_at(block)
+}
+
+// A status and a raster into a block.
+pub fn store_raster(block: &mut [u8], status: u8, raster: Raster)
+    requires { ⌜ length (now block) ≡ 219 ⌝ }
+    ensures { λ _. ⌜ now (block .exit) ≡ rasterStored status raster (now (block .entry)) ⌝ }
+{
+    block[2] = status;
+    block[14] = raster.v_counter;
+    block[15] = flag_of(raster.v_counter_jumped);
+    block[16] = raster.line_interrupt_counter;
+    block[25] = raster.vertical_scroll;
+}
+
+// Colours into a block, which are not dirty then.
+pub fn store_cache(block: &mut [u8], colours: &[u32; 32])
+    requires { ⌜ length (now block) ≡ 219 ⌝ }
+    ensures { λ _. ⌜ now (block .exit) ≡ cacheStored (now (colours .entry)) (now (block .entry)) ⌝ }
+{
+    put_colours(block, colours);
+    block[26] = 0;
 }

@@ -2,6 +2,7 @@
 -- Assumes nothing.
 use mathlib.Core.Path.{refl, sym, _∙_}
 use denote.Ref.{now}
+use Rattle.step.proofs.Steps.{feeding, feeding-fed, same-beat}
 use Rattle.demands.specs.Outcome.{OneOutcome, OneOutcomeSeen, PaintedRow}
 use Rattle.bitmap.proofs.Bitmap.new as bitmap-new
 use Rattle.bitmap.proofs.Bitmap.set as bitmap-set
@@ -27,6 +28,8 @@ use Rattle.vdp.proofs.VdpState.with_raster
 use Rattle.vdp.proofs.VdpState.with_cache
 use Rattle.vdp.proofs.VdpState.out
 use Rattle.vdp.proofs.VdpState.input
+use Rattle.step.proofs.row_beat
+use Rattle.step.proofs.frame_beat
 use Rattle.step.proofs.row_step
 use Rattle.step.proofs.frame_step
 use Rattle.step.proofs.row_view
@@ -36,6 +39,12 @@ use Rattle.step.proofs.dump_tileset
 use Rattle.block.proofs.well_formed
 use Rattle.block.proofs.decode
 use Rattle.block.proofs.encode
+use Rattle.block.proofs.registers
+use Rattle.block.proofs.raster_in
+use Rattle.block.proofs.palette_in
+use Rattle.block.proofs.cache_in
+use Rattle.block.proofs.store_raster
+use Rattle.block.proofs.store_cache
 use Rattle.face.proofs.vdp_new
 use Rattle.face.proofs.vdp_out
 use Rattle.face.proofs.vdp_input
@@ -144,6 +153,23 @@ pub input-once : OneOutcome 1 input.Kinds.ps input.Kinds.r input.Reads.Asked inp
 input-once κs a q z z′ w w′ e f = (e ∙ sym f, refl)
 
 -- ---- step
+-- each by the step of one device that has what the call reads
+pub row-beat-once : OneOutcome 3 row_beat.Kinds.ps row_beat.Kinds.r row_beat.Reads.Asked row_beat.Reads.Learnt
+row-beat-once κs a q z z′ w w′ e f =
+    let d = feeding (a .0) (a .1 .0) (a .1 .1 .0) (now (a .1 .1 .1 .0)) in
+    let g = feeding-fed (a .0) (a .1 .0) (a .1 .1 .0) (now (a .1 .1 .1 .0)) in
+    let x = e d g in
+    let y = f d g in
+    (same-beat d (x .answer ∙ sym (y .answer)), λ i. (tt, (tt, (tt, (tt, (tt, ((x .bytes ∙ sym (y .bytes)) i, w .1 .1 .1 .1 .1 .1)))))))
+
+pub frame-beat-once : OneOutcome 3 frame_beat.Kinds.ps frame_beat.Kinds.r frame_beat.Reads.Asked frame_beat.Reads.Learnt
+frame-beat-once κs a q z z′ w w′ e f =
+    let d = feeding (a .0) (a .1 .0) (a .1 .1 .0) (now (a .1 .1 .1 .0)) in
+    let g = feeding-fed (a .0) (a .1 .0) (a .1 .1 .0) (now (a .1 .1 .1 .0)) in
+    let x = e d g in
+    let y = f d g in
+    (same-beat d (x .answer ∙ sym (y .answer)), λ i. (tt, (tt, (tt, (tt, (tt, ((x .bytes ∙ sym (y .bytes)) i, w .1 .1 .1 .1 .1 .1)))))))
+
 pub row-step-once : OneOutcome 2 row_step.Kinds.ps row_step.Kinds.r row_step.Reads.Asked row_step.Reads.Learnt
 row-step-once κs a q z z′ w w′ e f = (e .answer ∙ sym (f .answer), λ i. (tt, (tt, ((e .bytes ∙ sym (f .bytes)) i, w .1 .1 .1))))
 
@@ -170,6 +196,24 @@ decode-once κs a q z z′ w w′ e f = (e ∙ sym f, refl)
 
 pub encode-once : OneOutcome 1 encode.Kinds.ps encode.Kinds.r encode.Reads.Asked encode.Reads.Learnt
 encode-once κs a q z z′ w w′ e f = (refl, λ i. (tt, ((e ∙ sym f) i, w .1 .1)))
+
+pub registers-once : OneOutcome 1 registers.Kinds.ps registers.Kinds.r registers.Reads.Asked registers.Reads.Learnt
+registers-once κs a q z z′ w w′ e f = (e ∙ sym f, refl)
+
+pub raster-in-once : OneOutcome 1 raster_in.Kinds.ps raster_in.Kinds.r raster_in.Reads.Asked raster_in.Reads.Learnt
+raster-in-once κs a q z z′ w w′ e f = (e ∙ sym f, refl)
+
+pub palette-in-once : OneOutcome 1 palette_in.Kinds.ps palette_in.Kinds.r palette_in.Reads.Asked palette_in.Reads.Learnt
+palette-in-once κs a q z z′ w w′ e f = (e ∙ sym f, refl)
+
+pub cache-in-once : OneOutcome 1 cache_in.Kinds.ps cache_in.Kinds.r cache_in.Reads.Asked cache_in.Reads.Learnt
+cache-in-once κs a q z z′ w w′ e f = (e ∙ sym f, refl)
+
+pub store-raster-once : OneOutcome 1 store_raster.Kinds.ps store_raster.Kinds.r store_raster.Reads.Asked store_raster.Reads.Learnt
+store-raster-once κs a q z z′ w w′ e f = (refl, λ i. ((e ∙ sym f) i, w .1))
+
+pub store-cache-once : OneOutcome 2 store_cache.Kinds.ps store_cache.Kinds.r store_cache.Reads.Asked store_cache.Reads.Learnt
+store-cache-once κs a q z z′ w w′ e f = (refl, λ i. ((e ∙ sym f) i, w .1))
 
 -- ---- face
 pub vdp-new-once : OneOutcome 1 vdp_new.Kinds.ps vdp_new.Kinds.r vdp_new.Reads.Asked vdp_new.Reads.Learnt

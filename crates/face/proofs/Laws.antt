@@ -16,9 +16,13 @@ use Rattle.vdp.specs.Device.{fresh}
 use Rattle.vdp.specs.Refusals.{refusalNumber}
 use Rattle.vdp.specs.Ports.{WriteLeaves, portRead}
 use Rattle.block.specs.declared.Decoded.{Decoded}
-use Rattle.block.specs.Block.{wellFormed, stateOf, blockOf, decoded, encoded}
+use Rattle.block.specs.Block.{wellFormed, stateOf, blockOf, decoded, encoded, Sized}
 use Rattle.block.proofs.Whole.{good-is, device-is, encoded-is}
 use Rattle.step.specs.declared.Stepped.{Stepped}
+use Rattle.step.specs.declared.Beat.{Beat}
+use Rattle.step.specs.Beat.{answer, cleaned}
+use Rattle.step.specs.declared.DrawnRow.{DrawnRow}
+use Rattle.step.specs.declared.DrawnRow.the-variants.{NoRow, Drawn}
 use Rattle.step.specs.Dump.{DumpLeaves}
 use Rattle.step.specs.Frame.{RowStepLeaves, FrameStepLeaves}
 use Rattle.picture.specs.Area.{areaFrom}
@@ -166,3 +170,40 @@ module _ (b : List ℕ) {d : Decoded} (e : d ≡ decoded b) where
   unfolding dumpCall
   dump-done g m pixels l en =
       along (on g pixels (dumpOn b m pixels)) (record { word = en ∙ ap refusalNumber (l .refusal); block = refl; lent = l .bytes })
+
+-- a step's colours keep the sizes
+pub cleaned-sized : (r : DrawnRow) (s : VdpState) (colours : List ℕ) → Sized s → Sized (cleaned r s colours)
+cleaned-sized NoRow s colours g = g
+cleaned-sized (Drawn y) s colours g = record { registers = g .registers; palette = g .palette }
+
+-- ---- a step, by what it reads and leaves of the block's device
+module _ (b : List ℕ) where
+  read-bad : wellFormed b ≡ false → decoded b .good ≡ false
+  read-bad w = good-is b ∙ w
+
+  read : wellFormed b ≡ true → (record { good = true; vdp = stateOf b }) ≡ decoded b
+  read w = sym (λ i. record { good = (good-is b ∙ w) i; vdp = device-is b w i })
+
+  pub step-bad : wellFormed b ≡ false → (m frame : List ℕ) (n : ℕ) {r : ℕ} → r ≡ refusalNumber BlockMalformed → Leaves (stepCall b m frame n) r b frame
+  step-bad w = step-ten b refl (read-bad w)
+
+  pub step-unknown : wellFormed b ≡ true → (m frame : List ℕ) (n : ℕ) → 1 < n → {r : ℕ} → r ≡ refusalNumber UnknownArea → Leaves (stepCall b m frame n) r b frame
+  step-unknown w = step-eleven b (read w) refl
+
+  pub step-kept :
+      wellFormed b ≡ true → (m frame : List ℕ) (n : ℕ) → n ≤ 1 → {a : RenderArea} (k : Beat) {frame′ b′ : List ℕ} {w : ℕ} → a ≡ areaFrom n
+      → FrameStepLeaves a m (stateOf b) frame (answer (stateOf b) k) frame′ → b′ ≡ blockOf (answer (stateOf b) k .vdp) → w ≡ stepWord (answer (stateOf b) k)
+      → Leaves (stepCall b m frame n) w b′ frame′
+  step-kept w m frame n h k ea l eb ew = step-done b (read w) refl m frame n h ea l (eb ∙ sym (encoded-is (answer (stateOf b) k .vdp) b w)) ew
+
+  pub row-bad : wellFormed b ≡ false → (m row : List ℕ) (n : ℕ) {r : ℕ} → r ≡ refusalNumber BlockMalformed → Leaves (rowStepCall b m row n) r b row
+  row-bad w = row-ten b refl (read-bad w)
+
+  pub row-unknown : wellFormed b ≡ true → (m row : List ℕ) (n : ℕ) → 1 < n → {r : ℕ} → r ≡ refusalNumber UnknownArea → Leaves (rowStepCall b m row n) r b row
+  row-unknown w = row-eleven b (read w) refl
+
+  pub row-kept :
+      wellFormed b ≡ true → (m row : List ℕ) (n : ℕ) → n ≤ 1 → {a : RenderArea} (k : Beat) {row′ b′ : List ℕ} {w : ℕ} → a ≡ areaFrom n
+      → RowStepLeaves a m (stateOf b) row (answer (stateOf b) k) row′ → b′ ≡ blockOf (answer (stateOf b) k .vdp) → w ≡ stepWord (answer (stateOf b) k)
+      → Leaves (rowStepCall b m row n) w b′ row′
+  row-kept w m row n h k ea l eb ew = row-done b (read w) refl m row n h ea l (eb ∙ sym (encoded-is (answer (stateOf b) k .vdp) b w)) ew

@@ -3,13 +3,17 @@ ghost use mathlib.Core.List.{[]};
 ghost use mathlib.Core.Path.{_≡_};
 ghost use Prim.Native.Nat.{_+_, _*_, _<_};
 ghost use Rattle.vdp.specs.Refusals.{refusalNumber};
-ghost use Rattle.step.specs.Step.{interruptNumber, reportNumber};
+ghost use lib.ListN.{length};
+ghost use Rattle.vdp.specs.declared.VdpState.{VdpState};
+ghost use Rattle.block.specs.Block.{stateOf, blockOf, Sized};
+ghost use Rattle.step.specs.Step.{interruptNumber, reportNumber, coloursNow};
+ghost use Rattle.step.specs.Beat.{answer, cleaned};
 ghost use Rattle.picture.specs.Area.{areaFrom};
 ghost use Rattle.face.specs.Face.{rowBits, stepWord, newCall, outCall, inputCall, stepCall, rowStepCall, dumpCall, Leaves};
 use picture::RenderArea;
+use step::Beat;
 use step::DisplayRefresh;
 use step::DrawnRow;
-use step::Stepped;
 use step::VdpInt;
 use vdp::Refusal;
 use vdp::VdpState;
@@ -63,8 +67,8 @@ fn row_bits(r: DrawnRow) -> u32
     }
 }
 
-fn word_of(s: Stepped) -> u32
-    ensures { λ r. ⌜ r ≡ stepWord s ⌝ }
+fn word_of(s: Beat) -> u32
+    ensures { λ r. ⌜ ((d : VdpState) → r ≡ stepWord (answer d s)) ⌝ }
 {
     let refusal = s.refusal;
     let interrupt = s.interrupt;
@@ -133,23 +137,62 @@ pub extern "C" fn vdp_input(state: &mut [u8], vram: &[u8], port: u16) -> u32
     number(refusal) + 256 * (a.byte as u32)
 }
 
+// The colours that a step of the block's device draws with.
+fn colours_of(state: &[u8]) -> [u32; 32]
+    requires { ⌜ length (now state) ≡ 219 ⌝ }
+    ensures { λ r. ⌜ r ≡ coloursNow (stateOf (now (state .entry))) ⌝ }
+{
+    if state[26] == 1 {
+        return colour::palette_recompute(block::palette_in(state));
+    }
+    block::cache_in(state)
+}
+
+// The colours into the block, if a row was drawn with them.
+fn store_colours(state: &mut [u8], row: DrawnRow, colours: &[u32; 32])
+    requires { ⌜ length (now state) ≡ 219 ⌝ }
+    ensures { λ _. ⌜ ((s : VdpState) → Sized s → now (state .entry) ≡ blockOf s → now (state .exit) ≡ blockOf (cleaned row s (now (colours .entry)))) ⌝ }
+{
+    match row {
+        DrawnRow::NoRow => {}
+        DrawnRow::Drawn(_) => block::store_cache(state, colours),
+    }
+}
+
+// What a step leaves of the device, into its block.
+fn store(state: &mut [u8], beat: Beat, colours: &[u32; 32])
+    requires { ⌜ length (now state) ≡ 219 ⌝ }
+    ensures { λ _. ⌜ ((s : VdpState) → Sized s → now (colours .entry) ≡ coloursNow s → now (state .entry) ≡ blockOf s → now (state .exit) ≡ blockOf (answer s beat .vdp)) ⌝ }
+{
+    let row = beat.row;
+    let raster = beat.raster;
+    store_colours(state, row, colours);
+    block::store_raster(state, beat.status, raster);
+}
+
 // A step, whose row goes to its place in the frame.
 #[no_mangle]
 pub extern "C" fn vdp_step(state: &mut [u8], vram: &[u8], frame: &mut [u8], area: u8) -> u32
     ensures { λ r. ⌜ Leaves (stepCall (now (state .entry)) (now (vram .entry)) (now (frame .entry)) area) r (now (state .exit)) (now (frame .exit)) ⌝ }
 {
-    let d = block::decode(state);
-    if !d.good {
+    if !block::well_formed(state) {
         return number(Refusal::BlockMalformed);
     }
     if 1 < area {
         return number(Refusal::UnknownArea);
     }
-    let vdp = d.vdp;
-    let s = step::frame_step(vdp, vram, frame, area_from(area));
-    let next = s.vdp;
-    block::encode(next, state);
-    word_of(s)
+    let colours = colours_of(state);
+    let beat = step::frame_beat(
+        block::registers(state),
+        block::raster_in(state),
+        state[2],
+        &colours,
+        vram,
+        frame,
+        area_from(area),
+    );
+    store(state, beat, &colours);
+    word_of(beat)
 }
 
 // A step, whose row goes to the first bytes of the row buffer.
@@ -157,18 +200,24 @@ pub extern "C" fn vdp_step(state: &mut [u8], vram: &[u8], frame: &mut [u8], area
 pub extern "C" fn vdp_row_step(state: &mut [u8], vram: &[u8], row: &mut [u8], area: u8) -> u32
     ensures { λ r. ⌜ Leaves (rowStepCall (now (state .entry)) (now (vram .entry)) (now (row .entry)) area) r (now (state .exit)) (now (row .exit)) ⌝ }
 {
-    let d = block::decode(state);
-    if !d.good {
+    if !block::well_formed(state) {
         return number(Refusal::BlockMalformed);
     }
     if 1 < area {
         return number(Refusal::UnknownArea);
     }
-    let vdp = d.vdp;
-    let s = step::row_step(vdp, vram, row, area_from(area));
-    let next = s.vdp;
-    block::encode(next, state);
-    word_of(s)
+    let colours = colours_of(state);
+    let beat = step::row_beat(
+        block::registers(state),
+        block::raster_in(state),
+        state[2],
+        &colours,
+        vram,
+        row,
+        area_from(area),
+    );
+    store(state, beat, &colours);
+    word_of(beat)
 }
 
 // All tiles into the pixels; the block is only read.

@@ -1,15 +1,25 @@
 // The step: into a row buffer, or into a frame of which it lends one row. And the view of a frame's row, and the dump of all tiles.
 ghost use mathlib.Core.Path.{_≡_};
-ghost use mathlib.Core.Bool.{cond};
+ghost use mathlib.Core.Bool.{cond, _&&_, _||_};
 ghost use Prim.Native.Nat.{_≤_};
+ghost use lib.Bits.{bitOr};
+ghost use lib.Dec.{eqb};
 ghost use lib.ListN.{length};
+ghost use Rattle.laws.specs.Bits.{bit};
+ghost use Rattle.laws.specs.Lists.{at};
 ghost use Rattle.colour.specs.Colour.{coloursOf};
-ghost use Rattle.picture.specs.Area.{rowSize};
+ghost use Rattle.picture.specs.Area.{rowSize, pictureOf};
 ghost use Rattle.picture.specs.declared.RenderArea.the-variants.{VisibleOnly, EffectiveArea};
-ghost use Rattle.step.specs.Step.{lineOf, advance, rowOn, drawnBy, endScreen, reportOf, interruptOf, countLine, refusedStep};
+ghost use Rattle.raster.specs.Raster.{lineInterrupt};
+ghost use Rattle.vdp.specs.declared.VdpState.{VdpState};
+ghost use Rattle.step.specs.declared.VdpInt.the-variants.{NoInterrupt, InterruptGenerated};
+ghost use Rattle.step.specs.declared.DisplayRefresh.the-variants.{NoDisplay, ScreenDone, ScreenDoneNoRefresh};
+ghost use Rattle.step.specs.Step.{rowOn, coloursNow};
+ghost use Rattle.step.specs.Beat.{RowIn, bitsOf, bytesOf, refusedBeat, Fed, answer, cleaned};
 ghost use Rattle.step.specs.Dump.{DumpLeaves};
-ghost use Rattle.step.specs.Frame.{rowWith, RowStepLeaves, FrameStepLeaves, rowView};
+ghost use Rattle.step.specs.Frame.{RowStepLeaves, FrameStepLeaves, rowView};
 use picture::RenderArea;
+use raster::Raster;
 use vdp::Refusal;
 use vdp::VdpState;
 
@@ -32,6 +42,16 @@ pub enum DrawnRow {
     Drawn(u8),
 }
 
+// What a step answers, with all that it leaves of a device but the colours.
+pub struct Beat {
+    pub refusal: Refusal,
+    pub interrupt: VdpInt,
+    pub report: DisplayRefresh,
+    pub row: DrawnRow,
+    pub status: u8,
+    pub raster: Raster,
+}
+
 // What a step answers, with the device that it leaves.
 pub struct Stepped {
     pub refusal: Refusal,
@@ -39,23 +59,6 @@ pub struct Stepped {
     pub report: DisplayRefresh,
     pub row: DrawnRow,
     pub vdp: VdpState,
-}
-
-// Point 1: the counter goes up, with what line 0 and the jump do.
-fn advance(vdp: VdpState) -> VdpState
-    ensures { λ r. ⌜ r ≡ advance vdp ⌝ }
-{
-    let raster = vdp.raster;
-    let reg = vdp.reg;
-    vdp.with_raster(raster.advance(reg))
-}
-
-// The line that the counter reads.
-fn line_of(vdp: VdpState) -> u8
-    ensures { λ r. ⌜ r ≡ lineOf vdp ⌝ }
-{
-    let raster = vdp.raster;
-    raster.v_counter
 }
 
 // Point 2: the row that a line draws.
@@ -93,80 +96,67 @@ fn colours_of(vdp: VdpState, rebuilt: bool) -> [u32; 32]
     color_cache
 }
 
-// The row drawn into the buffer, and the device after it: clean colours, and the status bits that the row sets.
-fn draw(vdp: VdpState, vram: &[u8], row: &mut [u8], area: RenderArea, drawn: DrawnRow) -> VdpState
-    requires { ⌜ (length (now vram) ≡ 16384) × (rowSize area ≤ length (now row)) × (drawn ≡ rowOn area (lineOf vdp)) ⌝ }
-    ensures { λ r. ⌜ r ≡ drawnBy drawn area (now (vram .entry)) vdp ⌝ }
-    ensures { λ r. ⌜ now (row .exit) ≡ rowWith drawn area (now (vram .entry)) vdp (now (row .entry)) ⌝ }
+// The row drawn into the buffer; answers the status bits that it sets.
+fn draw(
+    reg: [u8; 11],
+    scroll: u8,
+    colours: &[u32; 32],
+    vram: &[u8],
+    row: &mut [u8],
+    area: RenderArea,
+    drawn: DrawnRow,
+) -> u8
+    requires { ⌜ (length (now vram) ≡ 16384) × (rowSize area ≤ length (now row)) × RowIn area drawn ⌝ }
+    ensures { λ r. ⌜ r ≡ bitsOf drawn (pictureOf area reg scroll (now (vram .entry))) ⌝ }
+    ensures { λ r. ⌜ now (row .exit) ≡ bytesOf drawn area (now (colours .entry)) (pictureOf area reg scroll (now (vram .entry))) (now (row .entry)) ⌝ }
 {
     let DrawnRow::Drawn(line) = drawn else {
-        return vdp;
+        return 0;
     };
-    let reg = vdp.reg;
-    let raster = vdp.raster;
-    let colours = colours_of(vdp, vdp.cram_dirty);
-    let bits = row::render_line(row, vram, &colours, area, reg, raster.vertical_scroll, line);
-    let mut next = vdp.with_cache(colours);
-    next.status = vdp.status | bits;
-    next
+    row::render_line(row, vram, colours, area, reg, scroll, line)
 }
 
 // Point 3: the screen ends at line C1.
-fn end_screen(vdp: VdpState) -> VdpState
-    ensures { λ r. ⌜ r ≡ endScreen vdp ⌝ }
+fn ended(status: u8, line: u8) -> u8
+    ensures { λ r. ⌜ r ≡ cond (eqb line 0xC1) (bitOr status 0x80) status ⌝ }
 {
-    let mut next = vdp;
-    if line_of(vdp) == 0xC1 {
-        next.status = vdp.status | 0x80;
-        return next;
-    }
-    next
+    if line == 0xC1 { status | 0x80 } else { status }
 }
 
-fn report_of(vdp: VdpState) -> DisplayRefresh
-    ensures { λ r. ⌜ r ≡ reportOf vdp ⌝ }
+fn report_of(reg: [u8; 11], line: u8) -> DisplayRefresh
+    ensures { λ r. ⌜ r ≡ cond (eqb line 0xC1) (cond (bit (at reg 1) 6) ScreenDone ScreenDoneNoRefresh) NoDisplay ⌝ }
 {
-    if line_of(vdp) != 0xC1 {
+    if line != 0xC1 {
         return DisplayRefresh::NoDisplay;
     }
-    if vdp.reg[1] / 64 % 2 == 1 {
+    if reg[1] / 64 % 2 == 1 {
         return DisplayRefresh::ScreenDone;
     }
     DisplayRefresh::ScreenDoneNoRefresh
 }
 
 // Point 4: the end of the screen or the line count asks for an interrupt.
-fn interrupt_of(vdp: VdpState) -> VdpInt
-    ensures { λ r. ⌜ r ≡ interruptOf vdp ⌝ }
+fn interrupt_of(reg: [u8; 11], status: u8, raster: Raster) -> VdpInt
+    ensures { λ r. ⌜ r ≡ cond ((bit (at reg 1) 5 && bit status 7) || lineInterrupt (at reg) raster) InterruptGenerated NoInterrupt ⌝ }
 {
-    let reg = vdp.reg;
-    let raster = vdp.raster;
     let line_interrupt = raster.line_interrupt_is_up(reg);
-    if ((reg[1] / 32 % 2 == 1) & (vdp.status / 128 % 2 == 1)) | line_interrupt {
+    if ((reg[1] / 32 % 2 == 1) & (status / 128 % 2 == 1)) | line_interrupt {
         return VdpInt::InterruptGenerated;
     }
     VdpInt::NoInterrupt
 }
 
-// Point 5: the line count.
-fn count_line(vdp: VdpState) -> VdpState
-    ensures { λ r. ⌜ r ≡ countLine vdp ⌝ }
-{
-    let raster = vdp.raster;
-    let reg = vdp.reg;
-    vdp.with_raster(raster.line_interrupt_update(reg))
-}
-
 // A refused step: no interrupt, no display report, no row, and all unchanged.
-fn refused(refusal: Refusal, vdp: VdpState) -> Stepped
-    ensures { λ r. ⌜ r ≡ refusedStep refusal vdp ⌝ }
+fn refused(refusal: Refusal, status: u8, raster: Raster) -> Beat
+    ensures { λ r. ⌜ r ≡ refusedBeat refusal status raster ⌝ }
 {
-    Stepped {
+    Beat {
         refusal: refusal,
         interrupt: VdpInt::NoInterrupt,
         report: DisplayRefresh::NoDisplay,
         row: DrawnRow::NoRow,
-        vdp: vdp,
+        status: status,
+        raster: raster,
     }
 }
 
@@ -179,83 +169,203 @@ fn row_size(area: RenderArea) -> usize
     }
 }
 
-// A step, whose row goes to the first bytes of the row buffer.
-pub fn row_step(vdp: VdpState, vram: &[u8], row: &mut [u8], area: RenderArea) -> Stepped
-    ensures { λ r. ⌜ RowStepLeaves area (now (vram .entry)) vdp (now (row .entry)) r (now (row .exit)) ⌝ }
+// A step of any device with these registers, raster, status and colours, whose row goes to the first bytes of the row buffer.
+pub fn row_beat(
+    reg: [u8; 11],
+    raster: Raster,
+    status: u8,
+    colours: &[u32; 32],
+    vram: &[u8],
+    row: &mut [u8],
+    area: RenderArea,
+) -> Beat
+    ensures { λ r. ⌜ ((d : VdpState) → Fed d reg raster status (now (colours .entry)) → RowStepLeaves area (now (vram .entry)) d (now (row .entry)) (answer d r) (now (row .exit))) ⌝ }
 {
     if vram.len() != 16384 {
-        return refused(Refusal::VramLength, vdp);
+        return refused(Refusal::VramLength, status, raster);
     }
     let need = row_size(area);
     if row.len() < need {
-        return refused(Refusal::PixelLength, vdp);
+        return refused(Refusal::PixelLength, status, raster);
     }
-    let up = advance(vdp);
-    let drawn = row_on(area, line_of(up));
-    let ended = end_screen(draw(up, vram, row, area, drawn));
-    Stepped {
+    let up = raster.advance(reg);
+    let line = up.v_counter;
+    let drawn = row_on(area, line);
+    let bits = draw(reg, up.vertical_scroll, colours, vram, row, area, drawn);
+    let last = ended(status | bits, line);
+    Beat {
         refusal: Refusal::Accepted,
-        interrupt: interrupt_of(ended),
-        report: report_of(up),
+        interrupt: interrupt_of(reg, last, up),
+        report: report_of(reg, line),
         row: drawn,
-        vdp: count_line(ended),
+        status: last,
+        raster: up.line_interrupt_update(reg),
     }
 }
 
 // A step on a frame, which lends the row's part of it to the row step; with no row to draw, the first row's, which that leaves as it is.
-fn visible_step(vdp: VdpState, vram: &[u8], frame: &mut [u8]) -> Stepped
+fn visible_beat(
+    reg: [u8; 11],
+    raster: Raster,
+    status: u8,
+    colours: &[u32; 32],
+    vram: &[u8],
+    frame: &mut [u8],
+) -> Beat
     requires { ⌜ (length (now vram) ≡ 16384) × (92160 ≤ length (now frame)) ⌝ }
-    ensures { λ r. ⌜ FrameStepLeaves VisibleOnly (now (vram .entry)) vdp (now (frame .entry)) r (now (frame .exit)) ⌝ }
+    ensures { λ r. ⌜ ((d : VdpState) → Fed d reg raster status (now (colours .entry)) → FrameStepLeaves VisibleOnly (now (vram .entry)) d (now (frame .entry)) (answer d r) (now (frame .exit))) ⌝ }
 {
-    let drawn = row_on(RenderArea::VisibleOnly, line_of(advance(vdp)));
+    let up = raster.advance(reg);
+    let drawn = row_on(RenderArea::VisibleOnly, up.v_counter);
     match drawn {
         DrawnRow::Drawn(y) => {
             let row = y as usize;
             let a = row * 640;
             let e = a + 640;
-            row_step(vdp, vram, &mut frame[a..e], RenderArea::VisibleOnly)
+            row_beat(
+                reg,
+                raster,
+                status,
+                colours,
+                vram,
+                &mut frame[a..e],
+                RenderArea::VisibleOnly,
+            )
         }
-        DrawnRow::NoRow => row_step(vdp, vram, &mut frame[0..640], RenderArea::VisibleOnly),
+        DrawnRow::NoRow => row_beat(
+            reg,
+            raster,
+            status,
+            colours,
+            vram,
+            &mut frame[0..640],
+            RenderArea::VisibleOnly,
+        ),
     }
 }
 
-fn effective_step(vdp: VdpState, vram: &[u8], frame: &mut [u8]) -> Stepped
+fn effective_beat(
+    reg: [u8; 11],
+    raster: Raster,
+    status: u8,
+    colours: &[u32; 32],
+    vram: &[u8],
+    frame: &mut [u8],
+) -> Beat
     requires { ⌜ (length (now vram) ≡ 16384) × (229376 ≤ length (now frame)) ⌝ }
-    ensures { λ r. ⌜ FrameStepLeaves EffectiveArea (now (vram .entry)) vdp (now (frame .entry)) r (now (frame .exit)) ⌝ }
+    ensures { λ r. ⌜ ((d : VdpState) → Fed d reg raster status (now (colours .entry)) → FrameStepLeaves EffectiveArea (now (vram .entry)) d (now (frame .entry)) (answer d r) (now (frame .exit))) ⌝ }
 {
-    let drawn = row_on(RenderArea::EffectiveArea, line_of(advance(vdp)));
+    let up = raster.advance(reg);
+    let drawn = row_on(RenderArea::EffectiveArea, up.v_counter);
     match drawn {
         DrawnRow::Drawn(y) => {
             let row = y as usize;
             let a = row * 1024;
             let e = a + 1024;
-            row_step(vdp, vram, &mut frame[a..e], RenderArea::EffectiveArea)
+            row_beat(
+                reg,
+                raster,
+                status,
+                colours,
+                vram,
+                &mut frame[a..e],
+                RenderArea::EffectiveArea,
+            )
         }
-        DrawnRow::NoRow => row_step(vdp, vram, &mut frame[0..1024], RenderArea::EffectiveArea),
+        DrawnRow::NoRow => row_beat(
+            reg,
+            raster,
+            status,
+            colours,
+            vram,
+            &mut frame[0..1024],
+            RenderArea::EffectiveArea,
+        ),
     }
+}
+
+// A step of any such device on a whole frame.
+pub fn frame_beat(
+    reg: [u8; 11],
+    raster: Raster,
+    status: u8,
+    colours: &[u32; 32],
+    vram: &[u8],
+    frame: &mut [u8],
+    area: RenderArea,
+) -> Beat
+    ensures { λ r. ⌜ ((d : VdpState) → Fed d reg raster status (now (colours .entry)) → FrameStepLeaves area (now (vram .entry)) d (now (frame .entry)) (answer d r) (now (frame .exit))) ⌝ }
+{
+    if vram.len() != 16384 {
+        return refused(Refusal::VramLength, status, raster);
+    }
+    match area {
+        RenderArea::VisibleOnly => {
+            if frame.len() < 92160 {
+                return refused(Refusal::PixelLength, status, raster);
+            }
+            visible_beat(reg, raster, status, colours, vram, frame)
+        }
+        RenderArea::EffectiveArea => {
+            if frame.len() < 229376 {
+                return refused(Refusal::PixelLength, status, raster);
+            }
+            effective_beat(reg, raster, status, colours, vram, frame)
+        }
+    }
+}
+
+// The device after a step that drew this row: clean colours, if it drew one.
+fn cleaned(vdp: VdpState, row: DrawnRow, colours: [u32; 32]) -> VdpState
+    ensures { λ r. ⌜ r ≡ cleaned row vdp colours ⌝ }
+{
+    match row {
+        DrawnRow::NoRow => vdp,
+        DrawnRow::Drawn(_) => vdp.with_cache(colours),
+    }
+}
+
+// The answer of a device's step, with the device after it.
+fn answer(vdp: VdpState, beat: Beat, colours: [u32; 32]) -> Stepped
+    requires { ⌜ colours ≡ coloursNow vdp ⌝ }
+    ensures { λ r. ⌜ r ≡ answer vdp beat ⌝ }
+{
+    let refusal = beat.refusal;
+    let interrupt = beat.interrupt;
+    let report = beat.report;
+    let row = beat.row;
+    let raster = beat.raster;
+    let mut next = cleaned(vdp, row, colours);
+    next.status = beat.status;
+    Stepped {
+        refusal: refusal,
+        interrupt: interrupt,
+        report: report,
+        row: row,
+        vdp: next.with_raster(raster),
+    }
+}
+
+// A step, whose row goes to the first bytes of the row buffer.
+pub fn row_step(vdp: VdpState, vram: &[u8], row: &mut [u8], area: RenderArea) -> Stepped
+    ensures { λ r. ⌜ RowStepLeaves area (now (vram .entry)) vdp (now (row .entry)) r (now (row .exit)) ⌝ }
+{
+    let reg = vdp.reg;
+    let raster = vdp.raster;
+    let colours = colours_of(vdp, vdp.cram_dirty);
+    let beat = row_beat(reg, raster, vdp.status, &colours, vram, row, area);
+    answer(vdp, beat, colours)
 }
 
 // A step on a whole frame.
 pub fn frame_step(vdp: VdpState, vram: &[u8], frame: &mut [u8], area: RenderArea) -> Stepped
     ensures { λ r. ⌜ FrameStepLeaves area (now (vram .entry)) vdp (now (frame .entry)) r (now (frame .exit)) ⌝ }
 {
-    if vram.len() != 16384 {
-        return refused(Refusal::VramLength, vdp);
-    }
-    match area {
-        RenderArea::VisibleOnly => {
-            if frame.len() < 92160 {
-                return refused(Refusal::PixelLength, vdp);
-            }
-            visible_step(vdp, vram, frame)
-        }
-        RenderArea::EffectiveArea => {
-            if frame.len() < 229376 {
-                return refused(Refusal::PixelLength, vdp);
-            }
-            effective_step(vdp, vram, frame)
-        }
-    }
+    let reg = vdp.reg;
+    let raster = vdp.raster;
+    let colours = colours_of(vdp, vdp.cram_dirty);
+    let beat = frame_beat(reg, raster, vdp.status, &colours, vram, frame, area);
+    answer(vdp, beat, colours)
 }
 
 // A row of a frame, as a part of the caller's own frame; the empty part where it does not fit.

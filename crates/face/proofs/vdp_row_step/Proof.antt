@@ -1,94 +1,128 @@
 use borrow.Author.Needs.{needs}
-use borrow.Author.Tests.{not-true, not-false}
-use Rattle.face.proofs.Laws.{row-ten, row-eleven, row-done}
+use mathlib.Core.Path.{_≡_, refl, sym, ap, _∙_}
+use borrow.Author.Tests.{eq-eqb, ne-eqb, not-true, not-false}
+use native.Mathlib.Omega.{arith}
+use Rattle.block.specs.Block.{stateOf, blockOf}
+use lib.ListN.{length}
+use Rattle.block.specs.Block.{wellFormed}
+use Rattle.block.proofs.Whole.{long}
+use Rattle.block.proofs.Stores.{sized}
+use Rattle.block.proofs.RoundTrip.{block-back}
+use mathlib.Core.Bool.{true}
+use Rattle.face.proofs.Laws.{row-bad, row-unknown, row-kept}
 use Rattle.face.proofs.vdp_row_step.Statement.{statement}
 use Rattle.face.proofs.vdp_row_step.Tie as tie
 use Rattle.face.proofs.vdp_row_step.Reads as reads
 use Rattle.face.proofs.vdp_row_step.Lts as lts
-use Rattle.block.proofs.decode.Reads as decode-reads
-use Rattle.block.proofs.encode.Reads as encode-reads
+use Rattle.block.proofs.raster_in.Reads as raster-in-reads
+use Rattle.block.proofs.registers.Reads as registers-reads
+use Rattle.block.proofs.well_formed.Reads as well-formed-reads
 use Rattle.face.proofs.area_from.Reads as area-from-reads
+use Rattle.face.proofs.colours_of.Reads as colours-of-reads
 use Rattle.face.proofs.number.Reads as number-reads
+use Rattle.face.proofs.store.Reads as store-reads
 use Rattle.face.proofs.word_of.Reads as word-of-reads
-use Rattle.step.proofs.row_step.Reads as row-step-reads
+use Rattle.step.proofs.row_beat.Reads as row-beat-reads
 
--- src/lib.rt:152:9
-decode-requires : tie.Need-decode-requires
-decode-requires c κs = search needs
+-- src/lib.rt:203:9
+well-formed-requires : tie.Need-well-formed-requires
+well-formed-requires c κs = search needs
 
--- src/lib.rt:154:9
+-- src/lib.rt:204:9
 number-requires : tie.Need-number-requires
 number-requires c κs = search needs
 
--- src/lib.rt:154:9
+-- src/lib.rt:204:9
 same-length : tie.Need-same-length
 same-length c = search needs
 
--- src/lib.rt:154:9
+-- src/lib.rt:204:9
 returns : tie.Need-returns
-returns c =
-    let a = c .before .before .before .before .before .before .before .before .args in
-    row-ten (a .state .now) (c .before .before .before .decode .ensures) (not-true _ (c .before .if1 .taken)) (a .vram .now) (a .row .now) (a .area) (c .number .ensures .0)
+returns c = row-bad (c .before .before .before .before .before .before .before .args .state .now) (sym (c .before .before .well-formed .ensures) ∙ not-true _ (c .before .if1 .taken)) (c .before .before .before .before .before .before .before .args .vram .now) (c .before .before .before .before .before .before .before .args .row .now) (c .before .before .before .before .before .before .before .args .area) (c .number .ensures .0)
 
--- src/lib.rt:157:9
+-- src/lib.rt:207:9
 number-requires-2 : tie.Need-number-requires-2
 number-requires-2 c κs = search needs
 
--- src/lib.rt:157:9
+-- src/lib.rt:207:9
 same-length-2 : tie.Need-same-length-2
 same-length-2 c = search needs
 
--- src/lib.rt:157:9
+-- src/lib.rt:207:9
 returns-2 : tie.Need-returns-2
-returns-2 c =
-    let a = c .before .before .before .before .before .before .before .before .before .args in
-    row-eleven (a .state .now) (c .before .before .before .before .decode .ensures) (not-false _ (c .before .before .if1 .left)) (a .vram .now) (a .row .now) (a .area) (c .before .if2 .taken) (c .number2 .ensures .0)
+returns-2 c = row-unknown (c .before .before .before .before .before .before .before .before .args .state .now) (sym (c .before .before .before .well-formed .ensures) ∙ not-false _ (c .before .before .if1 .left)) (c .before .before .before .before .before .before .before .before .args .vram .now) (c .before .before .before .before .before .before .before .before .args .row .now) (c .before .before .before .before .before .before .before .before .args .area) (c .before .if2 .taken) (c .number2 .ensures .0)
 
--- src/lib.rt:160:44
+-- src/lib.rt:209:19
+colours-of-requires : tie.Need-colours-of-requires
+colours-of-requires c κs = long (c .before .before .before .before .before .before .before .before .args .state .now) (sym (c .before .before .before .well-formed .ensures) ∙ not-false _ (c .before .before .if1 .left))
+
+-- src/lib.rt:211:9
+registers-requires : tie.Need-registers-requires
+registers-requires c κs = long (c .before .before .before .before .before .before .before .before .before .before .args .state .now) (sym (c .before .before .before .before .before .well-formed .ensures) ∙ not-false _ (c .before .before .before .before .if1 .left))
+
+-- src/lib.rt:212:9
+raster-in-requires : tie.Need-raster-in-requires
+raster-in-requires c κs = long (c .before .before .before .before .before .before .before .before .before .before .before .before .args .state .now) (sym (c .before .before .before .before .before .before .before .well-formed .ensures) ∙ not-false _ (c .before .before .before .before .before .before .if1 .left))
+
+-- src/lib.rt:213:9
+slice-read-row-beat : tie.Need-slice-read-row-beat
+slice-read-row-beat c = omega (arith, long (c .before .before .before .before .before .before .before .before .before .before .before .before .before .before .args .state .now) (sym (c .before .before .before .before .before .before .before .before .before .well-formed .ensures) ∙ not-false _ (c .before .before .before .before .before .before .before .before .if1 .left)))
+
+-- src/lib.rt:217:9
 area-from-requires : tie.Need-area-from-requires
 area-from-requires c κs = search needs
 
--- src/lib.rt:160:9
-row-step-requires : tie.Need-row-step-requires
-row-step-requires c κs = search needs
+-- src/lib.rt:210:9
+row-beat-requires : tie.Need-row-beat-requires
+row-beat-requires c κs = search needs
 
--- src/lib.rt:162:5
-encode-requires : tie.Need-encode-requires
-encode-requires c κs = search needs
+-- src/lib.rt:219:5
+store-requires : tie.Need-store-requires
+store-requires c κs = long (c .before .before .before .before .before .before .before .before .before .before .before .before .before .before .before .before .before .before .before .before .before .before .args .state .now) (sym (c .before .before .before .before .before .before .before .before .before .before .before .before .before .before .before .before .before .well-formed .ensures) ∙ not-false _ (c .before .before .before .before .before .before .before .before .before .before .before .before .before .before .before .before .if1 .left))
 
--- src/lib.rt:163:5
+-- src/lib.rt:220:5
 word-of-requires : tie.Need-word-of-requires
 word-of-requires c κs = search needs
 
--- src/lib.rt:148:1
+-- src/lib.rt:199:1
 same-length-3 : tie.Need-same-length-3
 same-length-3 c = search needs
 
--- src/lib.rt:148:1
+-- src/lib.rt:199:1
 same-length-4 : tie.Need-same-length-4
 same-length-4 c = search needs
 
--- src/lib.rt:148:1
+-- src/lib.rt:199:1
 returns-3 : tie.Need-returns-3
+unfolding stateOf
 returns-3 c =
-    let a = c .before .before .before .before .before .before .before .before .before .before .before .before .before .before .before .before .before .before .before .before .args in
-    row-done (a .state .now) (c .before .before .before .before .before .before .before .before .before .before .before .before .before .before .before .decode .ensures) (not-false _ (c .before .before .before .before .before .before .before .before .before .before .before .before .before .if1 .left)) (a .vram .now) (a .row .now) (a .area) (c .before .before .before .before .before .before .before .before .before .before .before .before .if2 .left) (c .before .before .before .before .before .before .before .before .before .area-from .ensures)
-    (c .before .before .before .before .before .before .before .before .row-step .ensures) (c .before .before .before .encode .ensures) (c .word-of .ensures)
+    let a = c .before .before .before .before .before .before .before .before .before .before .before .before .before .before .before .before .before .before .before .before .before .before .before .before .before .before .args in
+    let b = a .state .now in
+    let w : wellFormed b ≡ true = sym (c .before .before .before .before .before .before .before .before .before .before .before .before .before .before .before .before .before .before .before .before .before .well-formed .ensures) ∙ not-false _ (c .before .before .before .before .before .before .before .before .before .before .before .before .before .before .before .before .before .before .before .before .if1 .left) in
+    let k = c .before .before .before .before .before .before .before .before .row-beat .result in
+    row-kept b w (a .vram .now) (a .row .now) (a .area) (c .before .before .before .before .before .before .before .before .before .before .before .before .before .before .before .before .before .before .before .if2 .left) k (c .before .before .before .before .before .before .before .before .before .area-from .ensures)
+    (c .before .before .before .before .before .before .before .before .row-beat .ensures (stateOf b) record { registers = c .before .before .before .before .before .before .before .before .before .before .before .before .before .before .before .registers .ensures; lines = c .before .before .before .before .before .before .before .before .before .before .before .before .before .raster-in .ensures; bits = refl; cache = c .before .before .before .before .before .before .before .before .before .before .before .before .before .before .before .before .before .colours-of .ensures })
+    (c .before .before .before .store .ensures (stateOf b) (sized b (long b w)) (c .before .before .before .before .before .before .before .before .before .before .before .before .before .before .before .before .before .colours-of .ensures) (sym (block-back b w (λ i. omega (arith, c .before .before .before .before .before .before .before .before .before .before .before .before .before .before .before .before .before .before .before .before .before .before .before .before .before .slice-known .given i)))))
+    (c .word-of .ensures (stateOf b))
 
 pub vdp-row-step-spec : {M : Type 1} → statement M
 vdp-row-step-spec =
     tie.close
     (tie.spec
-    decode-requires
+    well-formed-requires
     number-requires
     same-length
     returns
     number-requires-2
     same-length-2
     returns-2
+    colours-of-requires
+    registers-requires
+    raster-in-requires
+    slice-read-row-beat
     area-from-requires
-    row-step-requires
-    encode-requires
+    row-beat-requires
+    store-requires
     word-of-requires
     same-length-3
     same-length-4

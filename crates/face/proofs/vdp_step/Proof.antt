@@ -1,94 +1,128 @@
 use borrow.Author.Needs.{needs}
-use borrow.Author.Tests.{not-true, not-false}
-use Rattle.face.proofs.Laws.{step-ten, step-eleven, step-done}
+use mathlib.Core.Path.{_≡_, refl, sym, ap, _∙_}
+use borrow.Author.Tests.{eq-eqb, ne-eqb, not-true, not-false}
+use native.Mathlib.Omega.{arith}
+use Rattle.block.specs.Block.{stateOf, blockOf}
+use lib.ListN.{length}
+use Rattle.block.specs.Block.{wellFormed}
+use Rattle.block.proofs.Whole.{long}
+use Rattle.block.proofs.Stores.{sized}
+use Rattle.block.proofs.RoundTrip.{block-back}
+use mathlib.Core.Bool.{true}
+use Rattle.face.proofs.Laws.{step-bad, step-unknown, step-kept}
 use Rattle.face.proofs.vdp_step.Statement.{statement}
 use Rattle.face.proofs.vdp_step.Tie as tie
 use Rattle.face.proofs.vdp_step.Reads as reads
 use Rattle.face.proofs.vdp_step.Lts as lts
-use Rattle.block.proofs.decode.Reads as decode-reads
-use Rattle.block.proofs.encode.Reads as encode-reads
+use Rattle.block.proofs.raster_in.Reads as raster-in-reads
+use Rattle.block.proofs.registers.Reads as registers-reads
+use Rattle.block.proofs.well_formed.Reads as well-formed-reads
 use Rattle.face.proofs.area_from.Reads as area-from-reads
+use Rattle.face.proofs.colours_of.Reads as colours-of-reads
 use Rattle.face.proofs.number.Reads as number-reads
+use Rattle.face.proofs.store.Reads as store-reads
 use Rattle.face.proofs.word_of.Reads as word-of-reads
-use Rattle.step.proofs.frame_step.Reads as frame-step-reads
+use Rattle.step.proofs.frame_beat.Reads as frame-beat-reads
 
--- src/lib.rt:133:9
-decode-requires : tie.Need-decode-requires
-decode-requires c κs = search needs
+-- src/lib.rt:178:9
+well-formed-requires : tie.Need-well-formed-requires
+well-formed-requires c κs = search needs
 
--- src/lib.rt:135:9
+-- src/lib.rt:179:9
 number-requires : tie.Need-number-requires
 number-requires c κs = search needs
 
--- src/lib.rt:135:9
+-- src/lib.rt:179:9
 same-length : tie.Need-same-length
 same-length c = search needs
 
--- src/lib.rt:135:9
+-- src/lib.rt:179:9
 returns : tie.Need-returns
-returns c =
-    let a = c .before .before .before .before .before .before .before .before .args in
-    step-ten (a .state .now) (c .before .before .before .decode .ensures) (not-true _ (c .before .if1 .taken)) (a .vram .now) (a .frame .now) (a .area) (c .number .ensures .0)
+returns c = step-bad (c .before .before .before .before .before .before .before .args .state .now) (sym (c .before .before .well-formed .ensures) ∙ not-true _ (c .before .if1 .taken)) (c .before .before .before .before .before .before .before .args .vram .now) (c .before .before .before .before .before .before .before .args .frame .now) (c .before .before .before .before .before .before .before .args .area) (c .number .ensures .0)
 
--- src/lib.rt:138:9
+-- src/lib.rt:182:9
 number-requires-2 : tie.Need-number-requires-2
 number-requires-2 c κs = search needs
 
--- src/lib.rt:138:9
+-- src/lib.rt:182:9
 same-length-2 : tie.Need-same-length-2
 same-length-2 c = search needs
 
--- src/lib.rt:138:9
+-- src/lib.rt:182:9
 returns-2 : tie.Need-returns-2
-returns-2 c =
-    let a = c .before .before .before .before .before .before .before .before .before .args in
-    step-eleven (a .state .now) (c .before .before .before .before .decode .ensures) (not-false _ (c .before .before .if1 .left)) (a .vram .now) (a .frame .now) (a .area) (c .before .if2 .taken) (c .number2 .ensures .0)
+returns-2 c = step-unknown (c .before .before .before .before .before .before .before .before .args .state .now) (sym (c .before .before .before .well-formed .ensures) ∙ not-false _ (c .before .before .if1 .left)) (c .before .before .before .before .before .before .before .before .args .vram .now) (c .before .before .before .before .before .before .before .before .args .frame .now) (c .before .before .before .before .before .before .before .before .args .area) (c .before .if2 .taken) (c .number2 .ensures .0)
 
--- src/lib.rt:141:48
+-- src/lib.rt:184:19
+colours-of-requires : tie.Need-colours-of-requires
+colours-of-requires c κs = long (c .before .before .before .before .before .before .before .before .args .state .now) (sym (c .before .before .before .well-formed .ensures) ∙ not-false _ (c .before .before .if1 .left))
+
+-- src/lib.rt:186:9
+registers-requires : tie.Need-registers-requires
+registers-requires c κs = long (c .before .before .before .before .before .before .before .before .before .before .args .state .now) (sym (c .before .before .before .before .before .well-formed .ensures) ∙ not-false _ (c .before .before .before .before .if1 .left))
+
+-- src/lib.rt:187:9
+raster-in-requires : tie.Need-raster-in-requires
+raster-in-requires c κs = long (c .before .before .before .before .before .before .before .before .before .before .before .before .args .state .now) (sym (c .before .before .before .before .before .before .before .well-formed .ensures) ∙ not-false _ (c .before .before .before .before .before .before .if1 .left))
+
+-- src/lib.rt:188:9
+slice-read-frame-beat : tie.Need-slice-read-frame-beat
+slice-read-frame-beat c = omega (arith, long (c .before .before .before .before .before .before .before .before .before .before .before .before .before .before .args .state .now) (sym (c .before .before .before .before .before .before .before .before .before .well-formed .ensures) ∙ not-false _ (c .before .before .before .before .before .before .before .before .if1 .left)))
+
+-- src/lib.rt:192:9
 area-from-requires : tie.Need-area-from-requires
 area-from-requires c κs = search needs
 
--- src/lib.rt:141:9
-frame-step-requires : tie.Need-frame-step-requires
-frame-step-requires c κs = search needs
+-- src/lib.rt:185:9
+frame-beat-requires : tie.Need-frame-beat-requires
+frame-beat-requires c κs = search needs
 
--- src/lib.rt:143:5
-encode-requires : tie.Need-encode-requires
-encode-requires c κs = search needs
+-- src/lib.rt:194:5
+store-requires : tie.Need-store-requires
+store-requires c κs = long (c .before .before .before .before .before .before .before .before .before .before .before .before .before .before .before .before .before .before .before .before .before .before .args .state .now) (sym (c .before .before .before .before .before .before .before .before .before .before .before .before .before .before .before .before .before .well-formed .ensures) ∙ not-false _ (c .before .before .before .before .before .before .before .before .before .before .before .before .before .before .before .before .if1 .left))
 
--- src/lib.rt:144:5
+-- src/lib.rt:195:5
 word-of-requires : tie.Need-word-of-requires
 word-of-requires c κs = search needs
 
--- src/lib.rt:129:1
+-- src/lib.rt:174:1
 same-length-3 : tie.Need-same-length-3
 same-length-3 c = search needs
 
--- src/lib.rt:129:1
+-- src/lib.rt:174:1
 same-length-4 : tie.Need-same-length-4
 same-length-4 c = search needs
 
--- src/lib.rt:129:1
+-- src/lib.rt:174:1
 returns-3 : tie.Need-returns-3
+unfolding stateOf
 returns-3 c =
-    let a = c .before .before .before .before .before .before .before .before .before .before .before .before .before .before .before .before .before .before .before .before .args in
-    step-done (a .state .now) (c .before .before .before .before .before .before .before .before .before .before .before .before .before .before .before .decode .ensures) (not-false _ (c .before .before .before .before .before .before .before .before .before .before .before .before .before .if1 .left)) (a .vram .now) (a .frame .now) (a .area) (c .before .before .before .before .before .before .before .before .before .before .before .before .if2 .left) (c .before .before .before .before .before .before .before .before .before .area-from .ensures)
-    (c .before .before .before .before .before .before .before .before .frame-step .ensures) (c .before .before .before .encode .ensures) (c .word-of .ensures)
+    let a = c .before .before .before .before .before .before .before .before .before .before .before .before .before .before .before .before .before .before .before .before .before .before .before .before .before .before .args in
+    let b = a .state .now in
+    let w : wellFormed b ≡ true = sym (c .before .before .before .before .before .before .before .before .before .before .before .before .before .before .before .before .before .before .before .before .before .well-formed .ensures) ∙ not-false _ (c .before .before .before .before .before .before .before .before .before .before .before .before .before .before .before .before .before .before .before .before .if1 .left) in
+    let k = c .before .before .before .before .before .before .before .before .frame-beat .result in
+    step-kept b w (a .vram .now) (a .frame .now) (a .area) (c .before .before .before .before .before .before .before .before .before .before .before .before .before .before .before .before .before .before .before .if2 .left) k (c .before .before .before .before .before .before .before .before .before .area-from .ensures)
+    (c .before .before .before .before .before .before .before .before .frame-beat .ensures (stateOf b) record { registers = c .before .before .before .before .before .before .before .before .before .before .before .before .before .before .before .registers .ensures; lines = c .before .before .before .before .before .before .before .before .before .before .before .before .before .raster-in .ensures; bits = refl; cache = c .before .before .before .before .before .before .before .before .before .before .before .before .before .before .before .before .before .colours-of .ensures })
+    (c .before .before .before .store .ensures (stateOf b) (sized b (long b w)) (c .before .before .before .before .before .before .before .before .before .before .before .before .before .before .before .before .before .colours-of .ensures) (sym (block-back b w (λ i. omega (arith, c .before .before .before .before .before .before .before .before .before .before .before .before .before .before .before .before .before .before .before .before .before .before .before .before .before .slice-known .given i)))))
+    (c .word-of .ensures (stateOf b))
 
 pub vdp-step-spec : {M : Type 1} → statement M
 vdp-step-spec =
     tie.close
     (tie.spec
-    decode-requires
+    well-formed-requires
     number-requires
     same-length
     returns
     number-requires-2
     same-length-2
     returns-2
+    colours-of-requires
+    registers-requires
+    raster-in-requires
+    slice-read-frame-beat
     area-from-requires
-    frame-step-requires
-    encode-requires
+    frame-beat-requires
+    store-requires
     word-of-requires
     same-length-3
     same-length-4

@@ -1,56 +1,38 @@
 use borrow.Author.Needs.{needs}
-use mathlib.Core.Path.{sym, _∙_}
-use Rattle.step.proofs.Rows.{row-low}
+use mathlib.Core.Path.{_≡_, refl, sym, ap, _∙_}
 use Rattle.step.proofs.Steps.{drawn-none, drawn-one}
+use Rattle.picture.specs.Area.{pictureOf}
 use Rattle.step.proofs.draw.Statement.{statement}
 use Rattle.step.proofs.draw.Tie as tie
 use Rattle.step.proofs.draw.Reads as reads
 use Rattle.step.proofs.draw.Lts as lts
 use Rattle.row.proofs.render_line.Reads as render-line-reads
-use Rattle.step.proofs.colours_of.Reads as colours-of-reads
-use Rattle.vdp.proofs.VdpState.with_cache.Reads as with-cache-reads
 
--- src/lib.rt:99:25
+-- src/lib.rt:113:25
 enum-known-drawn : tie.Need-enum-known-drawn
 enum-known-drawn c = search needs
 
--- src/lib.rt:100:9
+-- src/lib.rt:114:9
 enum-told : tie.Need-enum-told
 enum-told c = search needs
 
--- src/lib.rt:100:9
-returns : tie.Need-returns
-returns c = drawn-none (c .before .before .before .before .args .area) (c .before .before .before .before .args .vram .now) (c .before .before .before .before .args .vdp) (c .before .before .before .before .args .row .now) (c .enum-told .given .1)
-
--- src/lib.rt:104:19
-colours-of-requires : tie.Need-colours-of-requires
-colours-of-requires c κs = search needs
-
--- src/lib.rt:105:9
-render-line-requires : tie.Need-render-line-requires
-render-line-requires c κs = (c .before .before .before .before .before .before .before .before .before .before .pre .0, c .before .before .before .before .before .before .before .before .before .before .pre .1, row-low (c .before .before .before .before .before .before .before .before .before .before .args .area) _ _ (sym (c .before .before .before .before .before .before .before .before .before .before .pre .2) ∙ c .before .before .before .before .before .before .drawn .given .1))
-
 -- src/lib.rt:114:9
-with-cache-requires : tie.Need-with-cache-requires
-with-cache-requires c κs = search needs
+returns : tie.Need-returns
+returns c = drawn-none (c .before .before .before .before .args .area) (c .before .before .before .before .args .colours .now) (pictureOf (c .before .before .before .before .args .area) (c .before .before .before .before .args .reg) (c .before .before .before .before .args .scroll) (c .before .before .before .before .args .vram .now)) (c .before .before .before .before .args .row .now) (c .enum-told .given .1)
 
--- src/lib.rt:94:1
+-- src/lib.rt:116:5
+render-line-requires : tie.Need-render-line-requires
+render-line-requires c κs = (c .before .before .before .before .before .before .pre .0, c .before .before .before .before .before .before .pre .1, c .before .before .before .before .before .before .pre .2 _ (c .before .before .drawn .given .1))
+
+-- src/lib.rt:100:1
 same-length : tie.Need-same-length
 same-length c = search needs
 
--- src/lib.rt:94:1
+-- src/lib.rt:100:1
 returns-2 : tie.Need-returns-2
-returns-2 c = drawn-one (c .before .before .before .before .before .before .before .before .before .before .before .before .before .before .before .args .area) (c .before .before .before .before .before .before .before .before .before .before .before .before .before .before .before .args .vram .now) (c .before .before .before .before .before .before .before .before .before .before .before .before .before .before .before .args .vdp) (c .before .before .before .before .before .before .before .before .before .before .before .before .before .before .before .args .row .now) _ (c .before .before .before .before .before .before .before .before .before .before .before .drawn .given .1) (c .before .before .before .before .before .before .before .colours-of .ensures) (c .before .with-cache .ensures) (c .before .before .before .before .render-line .ensures .bytes) (c .before .before .before .before .render-line .ensures .status)
+returns-2 c = drawn-one (c .before .before .before .before .before .before .before .before .before .args .area) (c .before .before .before .before .before .before .before .before .before .args .colours .now) (pictureOf (c .before .before .before .before .before .before .before .before .before .args .area) (c .before .before .before .before .before .before .before .before .before .args .reg) (c .before .before .before .before .before .before .before .before .before .args .scroll) (c .before .before .before .before .before .before .before .before .before .args .vram .now)) (c .before .before .before .before .before .before .before .before .before .args .row .now) _ (c .before .before .before .before .before .drawn .given .1) (c .before .before .render-line .ensures .bytes) (c .before .before .render-line .ensures .status)
 
 pub draw-spec : {M : Type 1} → statement M
 draw-spec =
     tie.close
-    (tie.spec
-    enum-known-drawn
-    enum-told
-    returns
-    colours-of-requires
-    render-line-requires
-    with-cache-requires
-    same-length
-    returns-2)
+    (tie.spec enum-known-drawn enum-told returns render-line-requires same-length returns-2)

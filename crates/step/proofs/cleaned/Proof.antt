@@ -1,0 +1,30 @@
+use borrow.Author.Needs.{needs}
+use mathlib.Core.Path.{_≡_, refl, sym, ap, _∙_}
+use Rattle.step.proofs.cleaned.Statement.{statement}
+use Rattle.step.proofs.cleaned.Tie as tie
+use Rattle.step.proofs.cleaned.Reads as reads
+use Rattle.step.proofs.cleaned.Lts as lts
+use Rattle.vdp.proofs.VdpState.with_cache.Reads as with-cache-reads
+
+-- src/lib.rt:307:28
+enum-told : tie.Need-enum-told
+enum-told c = search needs
+
+-- src/lib.rt:308:31
+enum-told-2 : tie.Need-enum-told-2
+enum-told-2 c = search needs
+
+-- src/lib.rt:308:31
+with-cache-requires : tie.Need-with-cache-requires
+with-cache-requires c κs = search needs
+
+-- src/lib.rt:303:1
+returns : tie.Need-returns
+returns c = search needs
+
+-- src/lib.rt:303:1
+returns-2 : tie.Need-returns-2
+returns-2 c = rw (c .before .enum-told2 .given .1) (c .with-cache .ensures)
+
+pub cleaned-spec : {M : Type 1} → statement M
+cleaned-spec = tie.close (tie.spec enum-told enum-told-2 with-cache-requires returns returns-2)
