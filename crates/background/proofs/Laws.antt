@@ -1,6 +1,6 @@
 -- The laws of a row of background: the columns of one tile, their marks, and where runs of pixels start.
 -- Assumes nothing.
-use mathlib.Core.Path.{_≡_, sym, ap, _∙_}
+use mathlib.Core.Path.{_≡_, refl, sym, ap, _∙_}
 use mathlib.Core.Logic.{_⊎_, inr, ⊎-elim}
 use mathlib.Core.List.{List}
 use mathlib.Core.Bool.{Bool, true, false, cond, _&&_, _||_, and-false, or-false}
@@ -79,6 +79,12 @@ module _ (vram : List ℕ) (names sx y cut x n : ℕ) (small : n ≤ 8) (w : Who
       p ∙ e ∙ bytesOf-ext (prioTo vram names sx y cut x) (prioTo vram names sx y cut (x + n))
       (λ i l. sym (more false f i l ∙ rw (and-false (ltb (past i (placeAt cut x)) n)) (or-false (prioTo vram names sx y cut x i))))
 
+-- the marks of a tile that has priority or has it not
+pub where-front : (t : Bool) (solid : ℕ → Bool) → cond t (number 8 solid) 0 ≡ number 8 (λ j. t && solid j)
+unfolding number
+where-front true solid = refl
+where-front false solid = refl
+
 -- ---- where a run of pixels starts: at the row's start, or, in the row, at a tile's first pixel
 abbrev pub Starts : ℕ → ℕ → ℕ → Type 0
 Starts sx width x = (x ≡ 0) ⊎ (x < width → (8 ≤ sx % 8 + x) × ((sx + x) % 8 ≡ 0))
@@ -120,6 +126,13 @@ whole sx width cut x n d s l f r j h =
           beyond cut (x + j) a)
           d ∙ small-mod (x + j) b)
     ]
+
+-- the pixels of the row's first tile
+pub whole-first : (sx cut n : ℕ) → (cut ≡ 0) ⊎ (cut ≡ sx % 8) → sx % 8 + n ≤ 8 → Whole cut 0 n
+whole-first sx cut n d f j h =
+    let c8 : cut ≤ 8 = ⊎-elim (λ q. omega arith) (λ q. omega arith) d in
+    let lj : j < 8 - cut = ⊎-elim (λ q. omega arith) (λ q. omega arith) d in
+    first cut j c8 lj
 
 pub starts-next : (sx width x n : ℕ) → Starts sx width x → x < width → x + n ≤ width → (x + n < width → (sx + x) % 8 + n ≡ 8) → Starts sx width (x + n)
 starts-next sx width x n s l r e =

@@ -4,11 +4,12 @@ ghost use mathlib.Core.Bool.{cond};
 ghost use mathlib.Core.Logic.{_⊎_};
 ghost use Prim.Native.Nat.{_+_, _*_, _%_, _<_, _≤_};
 ghost use lib.ListN.{length};
+ghost use Rattle.laws.specs.Bits.{number};
 ghost use Rattle.laws.specs.Lists.{at};
 ghost use Rattle.laws.specs.Paint.{painted};
 ghost use Rattle.bitmap.specs.Mask.{withByte, bytesOf};
 ghost use Rattle.picture.specs.Tile.{turned, namesAt, tileLine};
-ghost use Rattle.background.specs.Background.{Room, backColour, shade, prioTo, placeAt, Whole};
+ghost use Rattle.background.specs.Background.{Room, backColour, backFront, shade, prioTo, placeAt, Whole};
 use bitmap::Bitmap;
 
 // Where the tile entries start.
@@ -94,7 +95,47 @@ fn render_tile(
     with_marks(prio, tile::is_set(hi, 4), place_of(cut, x), bits)
 }
 
+// The bits where `on`, else none.
+fn where_on(on: bool, bits: u8) -> u8
+    ensures { λ r. ⌜ r ≡ cond on bits 0 ⌝ }
+{
+    if on { bits } else { 0 }
+}
+
+// The eight pixels from x on, which are a whole tile; answers which of them stand in front of sprites.
+fn render_whole_tile(
+    row: &mut [u8],
+    vram: &[u8],
+    colours: &[u32; 32],
+    names: usize,
+    sx: usize,
+    y: usize,
+    x: usize,
+) -> u8
+    requires { ⌜ Room (now vram) names sx y ⌝ }
+    requires { ⌜ ((sx + x) % 8 ≡ 0) × ((x + 8) * 4 ≤ length (now row)) × (x < 256) ⌝ }
+    ensures { λ r. ⌜ now (row .exit) ≡ painted (now (row .entry)) x 8 (λ i. shade (now (colours .entry)) (backColour (now (vram .entry)) names sx y) (x + i)) ⌝ }
+    ensures { λ r. ⌜ r ≡ number 8 (λ i. backFront (now (vram .entry)) names sx y (x + i)) ⌝ }
+{
+    let mx = (sx + x) % 256;
+    let e = names + 2 * (32 * (y / 8) + mx / 8);
+    let lo = vram[e];
+    let hi = vram[e + 1];
+    let bits = tile::character_whole(
+        row,
+        vram,
+        colours,
+        line_at(lo, hi, y),
+        tile::is_set(hi, 1),
+        tile::weight(tile::is_set(hi, 3), 16),
+        x,
+    );
+    where_on(tile::is_set(hi, 4), bits)
+}
+
 // The background of a row whose pixel 0 shows the map's pixel (sx, y); answers the priority mask, the first tile's marks `cut` to the left.
+// The whole tiles between the first and the last have a loop of their own, which marks the mask where it stands: handed on and back for
+// each tile it would be copied.
 pub fn render_background_line(
     row: &mut [u8],
     vram: &[u8],
@@ -110,12 +151,21 @@ pub fn render_background_line(
     ensures { λ r. ⌜ now (row .exit) ≡ painted (now (row .entry)) 0 width (shade (now (colours .entry)) (backColour (now (vram .entry)) names sx y)) ⌝ }
     ensures { λ r. ⌜ r .bits ≡ bytesOf (prioTo (now (vram .entry)) names sx y cut width) ⌝ }
 {
-    let mut prio = Bitmap::new();
-    let mut x: usize = 0;
-    while x < width {
-        let n = tile::smaller(8 - (sx + x) % 8, width - x);
-        prio = render_tile(row, vram, colours, names, sx, y, x, n, cut, prio);
-        x += n;
+    let none = Bitmap::new();
+    let first = tile::smaller(8 - sx % 8, width);
+    let mut prio = render_tile(row, vram, colours, names, sx, y, 0, first, cut, none);
+    let mut x = first;
+    while x + 8 <= width {
+        let bits = render_whole_tile(row, vram, colours, names, sx, y, x);
+        let offset = x % 256;
+        let low = offset / 8;
+        let high = (low + 1) % 32;
+        prio.bits[low] |= bitmap::lower(bits, offset % 8);
+        prio.bits[high] |= bitmap::upper(bits, offset % 8);
+        x += 8;
+    }
+    if x < width {
+        prio = render_tile(row, vram, colours, names, sx, y, x, width - x, cut, prio);
     }
     prio
 }

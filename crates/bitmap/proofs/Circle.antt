@@ -7,7 +7,7 @@ use mathlib.Core.List.{List}
 use Prim.Native.Nat.{ℕ, _+_, _-_, _*_, _/_, _%_, _^_, _≤_, _<_}
 use native.Mathlib.Decide.{decLt, ℕ-discrete}
 use native.Mathlib.Omega.{arith}
-use lib.ListN.{length, getD, set, length-set}
+use lib.ListN.{length, getD, set, length-set, List·getD-eq-default}
 use lib.Seq.{getD-set-same, getD-set-other}
 use lib.Pow.{shr-le}
 use lib.Bits.{bitOr}
@@ -15,7 +15,7 @@ use Rattle.laws.specs.Bits.{bit, byteOf}
 use Rattle.laws.specs.Circle.{past}
 use Rattle.bitmap.specs.Mask.{bitOf, bytesOf, laid, cleared, withByte, byteAt}
 use Rattle.laws.proofs.Tables.{length-table, getD-table, is-table, table-ext}
-use Rattle.laws.proofs.Bits.{number-ext, bit-above, bit-shr, bit-shl, bit-shl-low, byte-or, byte-is, bit-byteOf}
+use Rattle.laws.proofs.Bits.{number-ext, number-lt, bit-above, bit-shr, bit-shl, bit-shl-low, byte-or, byte-is, bit-byteOf}
 
 -- ---- bits and bytes of a mask
 pub bitOf-at : (m : List ℕ) (k j : ℕ) → k < 32 → j < 8 → bitOf m (8 * k + j) ≡ bit (getD m k 0) j
@@ -203,3 +203,23 @@ module _ (m : List ℕ) (off : ℕ) (small : (k : ℕ) → getD m k 0 < 256) whe
       (omega (arith, shr-le (getD m (off % 256 / 8) 0) (off % 256 % 8), small (off % 256 / 8)))
       (omega arith)
       read
+
+-- ---- a mask of which a loop reads and marks two bytes where it stands
+pub small-bytesOf : (f : ℕ → Bool) (k : ℕ) → getD (bytesOf f) k 0 < 256
+unfolding bytesOf byteOf
+small-bytesOf f k =
+    elim (decLt k 32) [
+      | yes h ↦ rw (getD-table 32 (λ k. byteOf (λ j. f (8 * k + j))) k h) (number-lt 8 (λ j. f (8 * k + j)))
+      | no h ↦ rw (List·getD-eq-default (bytesOf f) 0 {n = k} (omega (arith, length-bytesOf f))) (omega arith)
+    ]
+
+pub mark-is : {m : List ℕ} (f : ℕ → Bool) (off v : ℕ) → m ≡ bytesOf f → v < 256
+    → set (set m (off % 256 / 8) (bitOr (getD m (off % 256 / 8) 0) (v * 2 ^ (off % 256 % 8) % 256))) ((off % 256 / 8 + 1) % 32)
+    (bitOr (getD (set m (off % 256 / 8) (bitOr (getD m (off % 256 / 8) 0) (v * 2 ^ (off % 256 % 8) % 256))) ((off % 256 / 8 + 1) % 32) 0)
+    (v / 2 / 2 ^ (8 - off % 256 % 8 - 1)))
+    ≡ withByte m off v
+mark-is {m} f off v e hv = set-is m off v (ap length e ∙ length-bytesOf f) (λ k. rw e (small-bytesOf f k)) hv
+
+pub read-is : {m : List ℕ} (f : ℕ → Bool) (off : ℕ) → m ≡ bytesOf f
+    → bitOr (getD m (off % 256 / 8) 0 / 2 ^ (off % 256 % 8)) (getD m ((off % 256 / 8 + 1) % 32) 0 * 2 % 256 * 2 ^ (8 - off % 256 % 8 - 1) % 256) ≡ byteAt m off
+read-is {m} f off e = get-is m off (λ k. rw e (small-bytesOf f k))

@@ -57,7 +57,7 @@ fn dump_line(
     ensures { λ r. ⌜ ((k : ℕ) → at (now (pixels .exit)) k ≡ cond (leb x (k / 4) && ltb (k / 4 - x) 8) (pixelByte (now (colours .entry)) sprite (codeAt (at (now (vram .entry))) addr (k / 4 - x)) (k % 4) (at (now (pixels .entry)) k)) (at (now (pixels .entry)) k)) ⌝ }
 {
     if sprite {
-        tile::character_line_sprite(pixels, vram, colours, addr, 0, 0, 32768, x, 0, 8);
+        tile::sprite_columns(pixels, vram, colours, addr, 0, 0, 32768, x, 0, 8);
     } else {
         tile::character_line(pixels, vram, colours, addr, false, 0, x, 0, 8);
     }

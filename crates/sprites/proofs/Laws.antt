@@ -1,6 +1,6 @@
 -- A sprite's line of bytes and marks shows the sprite laid on the canvas.
 -- Assumes nothing.
-use mathlib.Core.Path.{_≡_, sym, ap, _∙_}
+use mathlib.Core.Path.{_≡_, refl, sym, ap, _∙_}
 use mathlib.Core.List.{List}
 use mathlib.Core.Bool.{Bool, true, false, cond, _&&_, _||_, not, and-true, and-false, and-comm}
 use Prim.Native.Nat.{ℕ, _+_, _-_, _*_, _%_, _<_, _≤_}
@@ -25,8 +25,6 @@ use Rattle.picture.specs.declared.Stand.{Stand}
 use Rattle.picture.specs.Tile.{codeAt}
 use Rattle.picture.specs.Picture.{Canvas, solid, heldBack, marked, struck, drawn, laid}
 use Rattle.tile.specs.Line.{lineMarked, lineDrawn, spriteColour}
-use Rattle.sprites.specs.declared.Marks.{Marks}
-use Rattle.sprites.specs.Sprites.{Shows}
 
 -- ---- `mask & bits` is not 0 where a column is set in both
 pub hits-is : (m : List ℕ) (h pix : ℕ) → pix < 256 → not (eqb (bitAnd (byteAt m h) pix) 0) ≡ hits m h pix
@@ -140,32 +138,46 @@ module _ (s : Stand) (vram : List ℕ) (addr : ℕ) (f : ℕ → Bool) (c : Canv
     row-unseen q = painted-cong row₀ 0 width _ _ (λ p l. rw (q, and-false (leb (s .x) p)))
 
 -- ---- all of it
-module _ (s : Stand) (vram : List ℕ) (addr : ℕ) (f : ℕ → Bool) (c : Canvas) (low : s .end ≤ 8) (width : ℕ) (colours row₀ : List ℕ) where
-  pub shows-seen : {row row′ prio : List ℕ} {marks r : Marks} {held taken bits : ℕ} → s .seen ≡ true → width * 4 ≤ length row → prio ≡ bytesOf f → Shows row₀ colours width c row marks
-      → held ≡ byteAt prio (s .prio) → taken ≡ byteAt (marks .mask .bits) (s .mark)
-      → row′ ≡ overlaid row (s .x) 8 (lineDrawn vram addr (s .start) (s .end) held taken width (s .x)) (spriteColour colours vram addr (s .start))
-      → bits ≡ byteOf (lineMarked vram addr (s .start) (s .end) held)
-      → (r .hit ≡ (marks .hit || hits (marks .mask .bits) (s .mark) bits)) × (r .mask .bits ≡ withByte (marks .mask .bits) (s .mark) bits)
-      → Shows row₀ colours width (laid s (codeAt (at vram) addr) f c) row′ r
-  shows-seen q room pe sh he te re be me =
-      let hd : _ ≡ byteAt (bytesOf f) (s .prio) = he ∙ ap (λ (l : List ℕ). byteAt l (s .prio)) pe in
-      let tk : _ ≡ byteAt (bytesOf (c .mask)) (s .mark) = te ∙ ap (λ (l : List ℕ). byteAt l (s .mark)) (sh .mask) in
-      let bt : _ ≡ byteOf (marked s (codeAt (at vram) addr) f c) = be ∙ rw hd (bits-seen s vram addr f c low q) in
-      let rm : width * 4 ≤ length row₀ = omega (arith, ap length (sh .bytes) ∙ length-painted row₀ 0 width (λ x. at colours (c .colour x))) in
-      record {
-        bytes = re ∙ rw (hd, tk, sh .bytes) (row-seen s vram addr f c low width colours row₀ q rm);
-        mask = me .1 ∙ rw (sh .mask, bt) (mask-laid s (codeAt (at vram) addr) f c low);
-        hit = me .0 ∙ rw (sh .mask, sh .hit, bt) (hit-laid s (codeAt (at vram) addr) f c low);
-      }
+-- the row's bytes, the sprites' mask and whether two pixels met show the canvas c, painted on what was row₀
+pub record Shows (row₀ colours : List ℕ) (width : ℕ) (c : Canvas) (row marks : List ℕ) (met : Bool) : Type 0 where
+  pub bytes : row ≡ painted row₀ 0 width (λ x. at colours (c .colour x))
+  pub mask : marks ≡ bytesOf (c .mask)
+  pub hit : met ≡ c .hit
 
-  pub shows-unseen : {row : List ℕ} {marks r : Marks} {bits : ℕ} → s .seen ≡ false → Shows row₀ colours width c row marks
-      → bits ≡ byteOf (solid (s .start) (s .end) (codeAt (at vram) addr))
-      → (r .hit ≡ (marks .hit || hits (marks .mask .bits) (s .mark) bits)) × (r .mask .bits ≡ withByte (marks .mask .bits) (s .mark) bits)
-      → Shows row₀ colours width (laid s (codeAt (at vram) addr) f c) row r
-  shows-unseen q sh be me =
-      let bt : _ ≡ byteOf (marked s (codeAt (at vram) addr) f c) = be ∙ bits-unseen s vram addr f c low q in
+-- the pixels that a sprite marks, and the row with it, as the code finds them
+module _ (s : Stand) (vram : List ℕ) (addr : ℕ) (f : ℕ → Bool) (c : Canvas) (low : s .end ≤ 8) (width : ℕ) (colours row₀ : List ℕ) where
+  abbrev held : ℕ
+  held = byteAt (bytesOf f) (s .prio)
+
+  abbrev taken : ℕ
+  taken = byteAt (bytesOf (c .mask)) (s .mark)
+
+  bits-are : (b : Bool) → s .seen ≡ b
+      → cond b (byteOf (lineMarked vram addr (s .start) (s .end) held)) (byteOf (solid (s .start) (s .end) (codeAt (at vram) addr))) ≡ byteOf (marked s (codeAt (at vram) addr) f c)
+  bits-are true q = bits-seen s vram addr f c low q
+  bits-are false q = bits-unseen s vram addr f c low q
+
+  row-is : (b : Bool) → s .seen ≡ b → width * 4 ≤ length row₀
+      → cond b (overlaid (painted row₀ 0 width (λ x. at colours (c .colour x))) (s .x) 8 (lineDrawn vram addr (s .start) (s .end) held taken width (s .x)) (spriteColour colours vram addr (s .start)))
+      (painted row₀ 0 width (λ x. at colours (c .colour x)))
+      ≡ painted row₀ 0 width (λ x. at colours (laid s (codeAt (at vram) addr) f c .colour x))
+  row-is true q room = row-seen s vram addr f c low width colours row₀ q room
+  row-is false q room = row-unseen s vram addr f c low width colours row₀ q
+
+  pub shows-laid : {row row′ prio marks marks′ : List ℕ} {met met′ : Bool} {h t bits : ℕ} → width * 4 ≤ length row → prio ≡ bytesOf f → Shows row₀ colours width c row marks met
+      → h ≡ byteAt prio (s .prio) → t ≡ byteAt marks (s .mark) → bits < 256
+      → row′ ≡ cond (s .seen) (overlaid row (s .x) 8 (lineDrawn vram addr (s .start) (s .end) h t width (s .x)) (spriteColour colours vram addr (s .start))) row
+      → bits ≡ cond (s .seen) (byteOf (lineMarked vram addr (s .start) (s .end) h)) (byteOf (solid (s .start) (s .end) (codeAt (at vram) addr)))
+      → met′ ≡ (met || not (eqb (bitAnd t bits) 0)) → marks′ ≡ withByte marks (s .mark) bits
+      → Shows row₀ colours width (laid s (codeAt (at vram) addr) f c) row′ marks′ met′
+  shows-laid {marks} {met} {bits} room pe sh he te small re be me ke =
+      let hd : _ ≡ held = he ∙ ap (λ (l : List ℕ). byteAt l (s .prio)) pe in
+      let tk : _ ≡ taken = te ∙ ap (λ (l : List ℕ). byteAt l (s .mark)) (sh .mask) in
+      let bt : bits ≡ byteOf (marked s (codeAt (at vram) addr) f c) = be ∙ rw hd (bits-are (s .seen) refl) in
+      let rm : width * 4 ≤ length row₀ = omega (arith, ap length (sh .bytes) ∙ length-painted row₀ 0 width (λ x. at colours (c .colour x))) in
+      let ht : _ ≡ (met || hits marks (s .mark) bits) = me ∙ ap (λ (b : Bool). met || b) (ap (λ (k : ℕ). not (eqb (bitAnd k bits) 0)) te ∙ hits-is marks (s .mark) bits small) in
       record {
-        bytes = sh .bytes ∙ row-unseen s vram addr f c low width colours row₀ q;
-        mask = me .1 ∙ rw (sh .mask, bt) (mask-laid s (codeAt (at vram) addr) f c low);
-        hit = me .0 ∙ rw (sh .mask, sh .hit, bt) (hit-laid s (codeAt (at vram) addr) f c low);
+        bytes = re ∙ rw (hd, tk, sh .bytes) (row-is (s .seen) refl rm);
+        mask = ke ∙ rw (sh .mask, bt) (mask-laid s (codeAt (at vram) addr) f c low);
+        hit = ht ∙ rw (sh .mask, sh .hit, bt) (hit-laid s (codeAt (at vram) addr) f c low);
       }

@@ -1,15 +1,16 @@
 -- The list of sprites on a line, one at a time.
 -- Assumes nothing.
-use mathlib.Core.Path.{_≡_, refl, sym, _∙_, subst}
+use mathlib.Core.Path.{_≡_, refl, sym, ap, _∙_, subst}
 use mathlib.Core.List.{List, [], _∷_}
 use mathlib.Core.Bool.{Bool, true, false, cond, _&&_}
-use Prim.Native.Nat.{ℕ, suc, _+_, _-_, _*_, _%_, _<_, _≤_}
+use Prim.Native.Nat.{ℕ, suc, _+_, _-_, _*_, _%_, _^_, _<_, _≤_}
+use native.Mathlib.Decide.{decLt}
 use native.Mathlib.Numerals.{add-one}
 use native.Mathlib.Omega.{arith}
 use lib.Dec.{eqb, ltb, leb, leb·suc-suc}
 use lib.ListN.{length, take}
 use lib.Seq.{take-nil}
-use borrow.Author.Tests.{lt-ltb, le-ltb}
+use borrow.Author.Tests.{lt-ltb, le-ltb, le-leb, lt-leb}
 use Rattle.laws.specs.Lists.{at}
 use Rattle.laws.specs.Paint.{painted}
 use Rattle.bitmap.specs.Mask.{cleared}
@@ -19,7 +20,8 @@ use Rattle.picture.specs.Tile.{codeAt}
 use Rattle.picture.specs.View.{early}
 use Rattle.picture.specs.Picture.{Canvas, laid, tableAt, topOf, tall, onLine, listed, spriteLine, spriteCode, withSprite, withSprites, bare}
 use Rattle.sprites.specs.declared.Marks.{Marks}
-use Rattle.sprites.specs.Sprites.{Shows, standOf, Finished}
+use Rattle.sprites.specs.Sprites.{standOf, Follows, Laid}
+use Rattle.sprites.proofs.Laws.{Shows}
 
 -- the sprite that the code lays is sprite n
 pub with-sprite-is : (vram reg : List ℕ) (area : RenderArea) (line n d : ℕ) (f : ℕ → Bool) (c : Canvas) {s : Stand} {e table addr : ℕ} → table ≡ tableAt (at reg)
@@ -66,16 +68,16 @@ module _ (m g : ℕ → ℕ) (stand : ℕ → Stand) (l : ℕ) (f : ℕ → Bool
       → Going m g stand l f colour n count S → Going m g stand l f colour (n + 1) count S
   going-skips e o = record { canvas = o .canvas; shows = o .shows; rest = rw e at (o .rest); many = rw e at (o .many) }
 
-  pub going-on : {n count count′ : ℕ} {S : Canvas → Type 0} (S′ : Canvas → Type 0) → listed m g l (64 - n) n ≡ n ∷ listed m g l (64 - (n + 1)) (n + 1) → count < 8
-      → count′ ≡ count + 1 → (o : Going m g stand l f colour n count S) → S′ (withSprite m g stand l f n (o .canvas)) → Going m g stand l f colour (n + 1) count′ S′
+  pub going-on : {n p count count′ : ℕ} {S : Canvas → Type 0} (S′ : Canvas → Type 0) → listed m g l (64 - n) n ≡ p ∷ listed m g l (64 - (p + 1)) (p + 1) → count < 8
+      → count′ ≡ count + 1 → (o : Going m g stand l f colour n count S) → S′ (withSprite m g stand l f p (o .canvas)) → Going m g stand l f colour (p + 1) count′ S′
   unfolding withSprites
-  going-on {n} {count} {count′} S′ e h q o s =
+  going-on {n} {p} {count} {count′} S′ e h q o s =
       let k : 8 - count ≡ suc (8 - count′) = omega arith in
       record {
-        canvas = withSprite m g stand l f n (o .canvas);
+        canvas = withSprite m g stand l f p (o .canvas);
         shows = s;
         rest = rw (e, k) at (o .rest);
-        many = sym (leb·suc-suc (suc (8 - count′)) (length (listed m g l (64 - (n + 1)) (n + 1)))) ∙ (rw (e, k) at (o .many));
+        many = sym (leb·suc-suc (suc (8 - count′)) (length (listed m g l (64 - (p + 1)) (p + 1)))) ∙ (rw (e, k) at (o .many));
       }
 
   pub going-ends : {n count : ℕ} (S : Canvas → Type 0) → listed m g l (64 - n) n ≡ [] → Going m g stand l f colour n count S → Done m g stand l f colour false S
@@ -84,39 +86,76 @@ module _ (m g : ℕ → ℕ) (stand : ℕ → Stand) (l : ℕ) (f : ℕ → Bool
       let z : 0 ≤ 8 - count = omega arith in
       record { shows = subst S (rw (e, take-nil (8 - count)) at (o .rest)) (o .shows); many = sym (le-ltb (8 - count) 0 z) ∙ (rw e at (o .many)) }
 
-  pub going-full : {n count : ℕ} (S : Canvas → Type 0) → listed m g l (64 - n) n ≡ n ∷ listed m g l (64 - (n + 1)) (n + 1) → count ≡ 8
+  pub going-full : {n p count : ℕ} (S : Canvas → Type 0) → listed m g l (64 - n) n ≡ p ∷ listed m g l (64 - (p + 1)) (p + 1) → count ≡ 8
       → Going m g stand l f colour n count S → Done m g stand l f colour true S
   unfolding withSprites
-  going-full {n} {count} S e h o =
+  going-full {n} {p} {count} S e h o =
       let k : 8 - count ≡ 0 = omega arith in
-      let z : 0 < suc (length (listed m g l (64 - (n + 1)) (n + 1))) = omega arith in
-      record { shows = subst S (rw k at (o .rest)) (o .shows); many = sym (lt-ltb 0 (suc (length (listed m g l (64 - (n + 1)) (n + 1)))) z) ∙ (rw (e, k) at (o .many)) }
+      let z : 0 < suc (length (listed m g l (64 - (p + 1)) (p + 1))) = omega arith in
+      record { shows = subst S (rw k at (o .rest)) (o .shows); many = sym (lt-ltb 0 (suc (length (listed m g l (64 - (p + 1)) (p + 1)))) z) ∙ (rw (e, k) at (o .many)) }
 
-pub list-done : (m g : ℕ → ℕ) (l n : ℕ) → n ≡ 64 → listed m g l (64 - n) n ≡ []
+-- ---- the same, where the code has found the next sprite on the line already: sprite n, of which line d is shown
+pub record Facing (m g : ℕ → ℕ) (stand : ℕ → Stand) (l : ℕ) (f : ℕ → Bool) (colour : ℕ → ℕ) (n d count : ℕ) (S : Canvas → Type 0) : Type 0 where
+  pub from : ℕ
+  pub going : Going m g stand l f colour from count S
+  pub follows : Follows m g l from n d
+
+module _ (m g : ℕ → ℕ) (stand : ℕ → Stand) (l : ℕ) (f : ℕ → Bool) (colour : ℕ → ℕ) where
+  pub facing-on : {n d n′ d′ count count′ : ℕ} {S : Canvas → Type 0} (S′ : Canvas → Type 0) → n < 64 → count < 8 → count′ ≡ count + 1 → (o : Facing m g stand l f colour n d count S)
+      → S′ (withSprite m g stand l f n (o .going .canvas)) → Follows m g l (n + 1) n′ d′ → Facing m g stand l f colour n′ d′ count′ S′
+  facing-on {n} S′ low h q o s e = record { from = n + 1; going = going-on m g stand l f colour S′ (o .follows .next low) h q (o .going) s; follows = e }
+
+  pub facing-ends : {n d count : ℕ} (S : Canvas → Type 0) → 64 ≤ n → Facing m g stand l f colour n d count S → Done m g stand l f colour false S
+  facing-ends S h o = going-ends m g stand l f colour S (o .follows .none h) (o .going)
+
+  pub facing-full : {n d count : ℕ} (S : Canvas → Type 0) → n < 64 → count ≡ 8 → Facing m g stand l f colour n d count S → Done m g stand l f colour true S
+  facing-full S low h o = going-full m g stand l f colour S (o .follows .next low) h (o .going)
+
+pub list-done : (m g : ℕ → ℕ) (l n : ℕ) → 64 ≤ n → listed m g l (64 - n) n ≡ []
 unfolding listed
 list-done m g l n e = let z : 64 - n ≡ 0 = omega arith in rw z
 
--- ---- what the code's tests say of sprite n
-module _ (vram reg : List ℕ) (n : ℕ) {table : ℕ} (te : table ≡ tableAt (at reg)) where
-  pub byte-of : {b : Bool} → eqb (at vram (table + n)) 0xD0 ≡ b → eqb (at vram (tableAt (at reg) + n)) 0xD0 ≡ b
-  byte-of e = rw te at e
+-- ---- what the code's tests say of sprite n, whose Y byte is y
+module _ (m g : ℕ → ℕ) (l n : ℕ) {table y : ℕ} (te : table ≡ tableAt g) (ye : y ≡ m (table + n)) where
+  pub byte-of : {b : Bool} → eqb y 0xD0 ≡ b → eqb (m (tableAt g + n)) 0xD0 ≡ b
+  byte-of e = rw (ye, te) at e
 
-  pub top-is : {top : ℕ} → top ≡ (at vram (table + n) + 1) % 256 → top ≡ topOf (at vram) (at reg) n
-  unfolding topOf
-  top-is e = e ∙ rw te
+  module _ (top lines d : ℕ) (pe : top ≡ (y + 1) % 256) (le : lines ≡ cond (tall g) 16 8) (wr : (d + top) % 2 ^ 64 ≡ l) where
+    top-is : top ≡ topOf m g n
+    unfolding topOf
+    top-is = pe ∙ rw (ye, te)
 
-  pub on-line-of : (line : ℕ) {top : ℕ} {t r : Bool} → top ≡ (at vram (table + n) + 1) % 256 → t ≡ tall (at reg) → r ≡ (leb top line && ltb line (top + cond t 16 8))
-      → onLine (at vram) (at reg) line n ≡ r
-  unfolding onLine
-  on-line-of line e q p = sym (p ∙ rw (q, top-is e))
+    on-line-of : {b : Bool} → (leb top l && ltb l (top + lines)) ≡ b → onLine m g l n ≡ b
+    unfolding onLine
+    on-line-of e = rw (← top-is, ← le) e
+
+    pub on-line : lines ≤ 16 → d < lines → onLine m g l n ≡ true
+    on-line low h =
+        let a : top ≤ l = omega arith in
+        let b : l < top + lines = omega arith in
+        on-line-of (rw (le-leb top l a) (lt-ltb l (top + lines) b))
+
+    pub below-top : lines ≤ 16 → d < lines → d ≡ l - topOf m g n
+    below-top low h = let e : d ≡ l - top = omega arith in e ∙ ap (λ (k : ℕ). l - k) top-is
+
+    pub off-line : lines ≤ 16 → lines ≤ d → d < 2 ^ 64 → onLine m g l n ≡ false
+    off-line low h fits =
+        on-line-of
+        (elim (decLt l top) [
+          | yes a ↦ rw (lt-leb top l a)
+          | no a ↦
+              let b : top ≤ l = omega arith in
+              let k : top + lines ≤ l = omega arith in
+              rw (le-leb top l b) (le-ltb l (top + lines) k)
+        ])
 
 -- ---- a row of bytes
 module _ (m g : ℕ → ℕ) (stand : ℕ → Stand) (l : ℕ) (f : ℕ → Bool) (colour : ℕ → ℕ) (row₀ colours : List ℕ) (width : ℕ) where
-  pub row-starts : {row : List ℕ} {marks : Marks} → row ≡ painted row₀ 0 width (λ x. at colours (colour x)) → marks .mask .bits ≡ cleared → marks .hit ≡ false
-      → Going m g stand l f colour 0 0 (λ c. Shows row₀ colours width c row marks)
+  pub row-starts : {row marks : List ℕ} {met : Bool} → row ≡ painted row₀ 0 width (λ x. at colours (colour x)) → marks ≡ cleared → met ≡ false
+      → Going m g stand l f colour 0 0 (λ c. Shows row₀ colours width c row marks met)
   unfolding bare cleared
-  row-starts {row} {marks} b k h = going-starts m g stand l f colour (λ c. Shows row₀ colours width c row marks) (record { bytes = b; mask = k; hit = h })
+  row-starts {row} {marks} {met} b k h = going-starts m g stand l f colour (λ c. Shows row₀ colours width c row marks met) (record { bytes = b; mask = k; hit = h })
 
-  pub finished : {row : List ℕ} {marks : Marks} {ninth : Bool} → Done m g stand l f colour ninth (λ c. Shows row₀ colours width c row marks)
-      → Finished m g stand l f row₀ colours width colour row (marks .hit) ninth
-  finished d = record { bytes = d .shows .bytes; struck = d .shows .hit; many = d .many }
+  pub finished : {row : List ℕ} {r : Marks} → Done m g stand l f colour (r .ninth) (λ c. Shows row₀ colours width c row (r .mask .bits) (r .hit))
+      → Laid m g stand l f row₀ colours width colour row r
+  finished d = record { line = record { bytes = d .shows .bytes; struck = d .shows .hit; many = d .many }; marks = d .shows .mask }

@@ -1,9 +1,9 @@
--- What a row's bytes and a line's marks show.
+-- The sprites of a line, as the code goes through them, and what they leave in a row's bytes and in the marks.
 -- Assumes nothing.
 use mathlib.Core.Path.{_≡_}
-use mathlib.Core.List.{List}
+use mathlib.Core.List.{List, [], _∷_}
 use mathlib.Core.Bool.{Bool}
-use Prim.Native.Nat.{ℕ, _*_, _≤_, _<_}
+use Prim.Native.Nat.{ℕ, _+_, _-_, _*_, _≤_, _<_}
 use lib.ListN.{length, take}
 use lib.Dec.{ltb}
 use Rattle.laws.specs.Lists.{at}
@@ -13,14 +13,8 @@ use Rattle.picture.specs.declared.Stand.{Stand}
 use Rattle.picture.specs.declared.RenderArea.{RenderArea}
 use Rattle.picture.specs.declared.RenderArea.the-variants.{VisibleOnly, EffectiveArea}
 use Rattle.picture.specs.View.{visibleStand, effectiveStand}
-use Rattle.picture.specs.Picture.{Canvas, listed, withSprites, bare}
+use Rattle.picture.specs.Picture.{listed, topOf, withSprites, bare}
 use Rattle.sprites.specs.declared.Marks.{Marks}
-
--- the row's bytes and the marks show the canvas c, painted on what was row₀
-pub record Shows (row₀ colours : List ℕ) (width : ℕ) (c : Canvas) (row : List ℕ) (marks : Marks) : Type 0 where
-  pub bytes : row ≡ painted row₀ 0 width (λ x. at colours (c .colour x))
-  pub mask : marks .mask .bits ≡ bytesOf (c .mask)
-  pub hit : marks .hit ≡ c .hit
 
 -- where a sprite with X byte h stands in an area
 abbrev pub standOf : RenderArea → ℕ → ℕ → Stand
@@ -35,6 +29,12 @@ pub record Fits (s : Stand) : Type 0 where
   pub prio-low : s .prio < 512
   pub mark-low : s .mark < 512
 
+-- The sprites on line l from sprite `from` on begin with sprite n, of which line d is shown there; where n is 64 there are none.
+pub record Follows (m g : ℕ → ℕ) (l from n d : ℕ) : Type 0 where
+  pub none : 64 ≤ n → listed m g l (64 - from) from ≡ []
+  pub next : n < 64 → listed m g l (64 - from) from ≡ n ∷ listed m g l (64 - (n + 1)) (n + 1)
+  pub below : n < 64 → d ≡ l - topOf m g n
+
 pub record Room (vram row : List ℕ) (width : ℕ) : Type 0 where
   pub memory : length vram ≡ 16384
   pub bytes : width * 4 ≤ length row
@@ -44,3 +44,8 @@ pub record Finished (m g : ℕ → ℕ) (stand : ℕ → Stand) (l : ℕ) (f : �
   pub bytes : row ≡ painted row₀ 0 width (λ x. at colours (withSprites m g stand l f (take 8 (listed m g l 64 0)) (bare colour) .colour x))
   pub struck : hit ≡ withSprites m g stand l f (take 8 (listed m g l 64 0)) (bare colour) .hit
   pub many : ninth ≡ ltb 8 (length (listed m g l 64 0))
+
+-- the same, with the mask that the sprites leave
+pub record Laid (m g : ℕ → ℕ) (stand : ℕ → Stand) (l : ℕ) (f : ℕ → Bool) (row₀ colours : List ℕ) (width : ℕ) (colour : ℕ → ℕ) (row : List ℕ) (r : Marks) : Type 0 where
+  pub line : Finished m g stand l f row₀ colours width colour row (r .hit) (r .ninth)
+  pub marks : r .mask .bits ≡ bytesOf (withSprites m g stand l f (take 8 (listed m g l 64 0)) (bare colour) .mask)

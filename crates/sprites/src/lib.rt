@@ -1,26 +1,41 @@
 // The sprites of a line, over its background: which are on it, where each stands, and what their pixels meet.
 ghost use mathlib.Core.Path.{_≡_};
-ghost use mathlib.Core.Bool.{Bool, true, cond, _&&_, _||_};
+ghost use mathlib.Core.Bool.{Bool, cond, not, _||_};
 ghost use mathlib.Core.List.{List};
 ghost use Prim.Native.Nat.{ℕ, _+_, _-_, _*_, _/_, _%_, _<_, _≤_};
 ghost use lib.ListN.{length};
-ghost use lib.Dec.{ltb, leb};
+ghost use lib.Bits.{bitAnd};
+ghost use lib.Dec.{eqb};
+ghost use Rattle.laws.specs.Bits.{byteOf};
 ghost use Rattle.laws.specs.Lists.{at};
-ghost use Rattle.laws.specs.Paint.{painted};
-ghost use Rattle.bitmap.specs.Mask.{withByte, bytesOf, hits};
+ghost use Rattle.laws.specs.Paint.{painted, overlaid};
+ghost use Rattle.bitmap.specs.Mask.{bytesOf, cleared};
 ghost use Rattle.picture.specs.Tile.{codeAt};
 ghost use Rattle.picture.specs.View.{early, visibleEnd, visibleSeen, visibleStand, effectiveStand};
-ghost use Rattle.picture.specs.Picture.{Canvas, laid, tableAt, topOf, spriteLine, withSprite};
-ghost use Rattle.sprites.specs.Sprites.{Shows, standOf, Fits, Finished, Room};
+ghost use Rattle.picture.specs.Picture.{solid, tableAt, tall, spriteLine};
+ghost use Rattle.tile.specs.Line.{lineMarked, lineDrawn, spriteColour};
+ghost use Rattle.sprites.specs.Sprites.{standOf, Fits, Follows, Finished, Laid, Room};
 use bitmap::Bitmap;
 use picture::RenderArea;
 use picture::Stand;
 
-// What the sprites of a line have left so far: their mask, whether a pixel met it, and how many they are.
-pub struct Marks {
-    pub mask: Bitmap,
-    pub hit: bool,
-    pub count: usize,
+// The next sprite of the list that is on a line, and the line of it that is shown there; number 64 where there is none.
+struct Next {
+    n: usize,
+    d: usize,
+}
+
+// What one sprite leaves: the pixels that it marks, and how many sprites the line has with it.
+struct Marked {
+    bits: u8,
+    count: usize,
+}
+
+// What the sprites of a line leave: their mask, whether a pixel met it, and whether there was a ninth.
+struct Marks {
+    mask: Bitmap,
+    hit: bool,
+    ninth: bool,
 }
 
 // What a whole line of sprites tells: whether two pixels met, and whether there was a ninth.
@@ -153,19 +168,6 @@ fn height(tall: bool) -> usize
     if tall { 16 } else { 8 }
 }
 
-// Whether a sprite that starts at line `top` is on the line.
-fn covers(top: usize, tall: bool, line: usize) -> bool
-    requires { ⌜ top < 256 ⌝ }
-    ensures { λ r. ⌜ r ≡ (leb top line && ltb line (top + cond tall 16 8)) ⌝ }
-    ensures { λ r. ⌜ (r ≡ true → (top ≤ line) × (line < top + 16)) ⌝ }
-{
-    if top <= line {
-        line < top + height(tall)
-    } else {
-        false
-    }
-}
-
 // The first address of the sprites' tiles.
 fn pattern_base(high: bool) -> usize
     ensures { λ r. ⌜ r ≡ cond high 8192 0 ⌝ }
@@ -208,54 +210,38 @@ fn or(a: bool, b: bool) -> bool
     if a { true } else { b }
 }
 
-// Whether one of the pixels `bits`, from `place` up, is set in the mask.
-fn collision_calc(mask: Bitmap, place: usize, bits: u8) -> bool
-    ensures { λ r. ⌜ r ≡ hits (mask .bits) place bits ⌝ }
+// Whether one of the pixels `bits` is among those that are `taken`.
+fn collision_calc(taken: u8, bits: u8) -> bool
+    ensures { λ r. ⌜ r ≡ not (eqb (bitAnd taken bits) 0) ⌝ }
 {
-    mask.get(place) & bits != 0
+    taken & bits != 0
 }
 
-// What a sprite leaves that marks the pixels `bits` from `place` up and is number `count` of the line.
-fn collision_check(marks: Marks, place: usize, bits: u8, count: usize) -> Marks
-    ensures { λ r. ⌜ (r .hit ≡ (marks .hit || hits (marks .mask .bits) place bits)) × (r .mask .bits ≡ withByte (marks .mask .bits) place bits) ⌝ }
-    ensures { λ r. ⌜ r .count ≡ count ⌝ }
-{
-    let mask = marks.mask;
-    let hit = or(marks.hit, collision_calc(mask, place, bits));
-    Marks {
-        mask: mask.set(place, bits),
-        hit: hit,
-        count: count,
-    }
-}
-
-// A sprite that stands at s and whose tile line is at addr. An unseen one counts and marks too, and draws nothing.
+// A sprite that stands at s and whose tile line is at addr, where `held` is what priority holds back, `taken` what others have marked and
+// `count` how many they are. An unseen one counts and marks too, and draws nothing.
 fn render_sprite(
     row: &mut [u8],
     vram: &[u8],
     colours: &[u32; 32],
     width: usize,
-    prio: Bitmap,
+    held: u8,
+    taken: u8,
     s: Stand,
     addr: usize,
-    marks: Marks,
-) -> Marks
+    count: usize,
+) -> Marked
     requires { ⌜ Fits s ⌝ }
-    requires { ⌜ (addr + 4 ≤ length (now vram)) × (width * 4 ≤ length (now row)) × (marks .count < 8) ⌝ }
-    ensures { λ r. ⌜ ((row₀ : List ℕ) (f : ℕ → Bool) (c : Canvas) → prio .bits ≡ bytesOf f → Shows row₀ (now (colours .entry)) width c (now (row .entry)) marks → Shows row₀ (now (colours .entry)) width (laid s (codeAt (at (now (vram .entry))) addr) f c) (now (row .exit)) r) ⌝ }
-    ensures { λ r. ⌜ r .count ≡ marks .count + 1 ⌝ }
+    requires { ⌜ (addr + 4 ≤ length (now vram)) × (width * 4 ≤ length (now row)) × (count < 8) ⌝ }
+    ensures { λ r. ⌜ now (row .exit) ≡ cond (s .seen) (overlaid (now (row .entry)) (s .x) 8 (lineDrawn (now (vram .entry)) addr (s .start) (s .end) held taken width (s .x)) (spriteColour (now (colours .entry)) (now (vram .entry)) addr (s .start))) (now (row .entry)) ⌝ }
+    ensures { λ r. ⌜ r .bits ≡ cond (s .seen) (byteOf (lineMarked (now (vram .entry)) addr (s .start) (s .end) held)) (byteOf (solid (s .start) (s .end) (codeAt (at (now (vram .entry))) addr))) ⌝ }
+    ensures { λ r. ⌜ r .count ≡ count + 1 ⌝ }
 {
     let seen = s.seen;
     let x = s.x;
     let start = s.start;
     let end = s.end;
-    let place = s.mark;
-    let old = marks.count;
-    let count = old + 1;
+    let more = count + 1;
     if seen {
-        let held = prio.get(s.prio);
-        let mask = marks.mask;
-        let taken = mask.get(place);
         let columns = tile::character_line_sprite(
             row,
             vram,
@@ -268,41 +254,96 @@ fn render_sprite(
             start,
             end,
         );
-        return collision_check(marks, place, columns.marks, count);
+        return Marked {
+            bits: columns.marks,
+            count: more,
+        };
     }
     let bits = tile::character_line_sprite_bitmap(vram, addr, start, end);
-    collision_check(marks, place, bits, count)
+    Marked {
+        bits: bits,
+        count: more,
+    }
 }
 
-// Sprite n of the table, on a line that is d below its top.
-fn sprite_at(
+// ---- the line
+
+// The next sprite on the line, of those from sprite `from` on.
+fn next_on(vram: &[u8], table: usize, from: usize, line: usize, lines: usize) -> Next
+    requires { ⌜ (length (now vram) ≡ 16384) × (table ≤ 16128) × (from ≤ 64) × (lines ≤ 16) ⌝ }
+    ensures { λ r. ⌜ ((g : ℕ → ℕ) → table ≡ tableAt g → lines ≡ cond (tall g) 16 8 → Follows (at (now (vram .entry))) g line from (r .n) (r .d)) ⌝ }
+    ensures { λ r. ⌜ (from ≤ r .n) × (r .n ≤ 64) × (r .d < 16) ⌝ }
+{
+    let mut n = from;
+    while n < 64 {
+        let y = vram[table + n];
+        if y == 0xD0 {
+            return Next { n: 64, d: 0 };
+        }
+        let d = std::num::wrapping_sub_usize(line, top_of(y));
+        if d < lines {
+            return Next { n: n, d: d };
+        }
+        n += 1;
+    }
+    Next { n: 64, d: 0 }
+}
+
+// The sprites of a line, over its background, under the priority mask `prio`, with what they mark joined to `mask`. Both masks come by
+// value; the loop reads and marks them where they stand.
+fn sprites_line(
     row: &mut [u8],
     vram: &[u8],
     colours: &[u32; 32],
     area: RenderArea,
     reg: [u8; 11],
-    table: usize,
     line: usize,
-    d: usize,
     width: usize,
     prio: Bitmap,
-    n: usize,
-    marks: Marks,
+    mut mask: Bitmap,
 ) -> Marks
-    requires { ⌜ (table ≡ tableAt (at reg)) × (table ≤ 16128) × (n < 64) × (d < 16) × (d ≡ line - topOf (at (now vram)) (at reg) n) × (marks .count < 8) ⌝ }
     requires { ⌜ Room (now vram) (now row) width ⌝ }
-    ensures { λ r. ⌜ ((row₀ : List ℕ) (f : ℕ → Bool) (c : Canvas) → prio .bits ≡ bytesOf f → Shows row₀ (now (colours .entry)) width c (now (row .entry)) marks → Shows row₀ (now (colours .entry)) width (withSprite (at (now (vram .entry))) (at reg) (standOf area (early (at reg))) line f n c) (now (row .exit)) r) ⌝ }
-    ensures { λ r. ⌜ r .count ≡ marks .count + 1 ⌝ }
+    ensures { λ r. ⌜ ((row₀ : List ℕ) (f : ℕ → Bool) (colour : ℕ → ℕ) → prio .bits ≡ bytesOf f → mask .bits ≡ cleared → now (row .entry) ≡ painted row₀ 0 width (λ x. at (now (colours .entry)) (colour x)) → Laid (at (now (vram .entry))) (at reg) (standOf area (early (at reg))) line f row₀ (now (colours .entry)) width colour (now (row .exit)) r) ⌝ }
 {
-    let k = table + 128 + 2 * n;
-    let h = vram[k];
-    let num = vram[k + 1];
-    let s = settings(area, early_of(reg), h);
-    let addr = line_at(reg, num, d);
-    render_sprite(row, vram, colours, width, prio, s, addr, marks)
+    let table = table_at(reg);
+    let lines = height(tile::is_set(reg[1], 1));
+    let e = early_of(reg);
+    let mut hit = false;
+    let mut count: usize = 0;
+    let mut next = next_on(vram, table, 0, line, lines);
+    while next.n < 64 {
+        if count >= 8 {
+            return Marks {
+                mask: mask,
+                hit: hit,
+                ninth: true,
+            };
+        }
+        let k = table + 128 + 2 * next.n;
+        let s = settings(area, e, vram[k]);
+        let addr = line_at(reg, vram[k + 1], next.d);
+        let front = s.prio % 256;
+        let p = front / 8;
+        let held = bitmap::window(prio.bits[p], prio.bits[(p + 1) % 32], front % 8);
+        let place = s.mark % 256;
+        let low = place / 8;
+        let high = (low + 1) % 32;
+        let taken = bitmap::window(mask.bits[low], mask.bits[high], place % 8);
+        let one = render_sprite(row, vram, colours, width, held, taken, s, addr, count);
+        let bits = one.bits;
+        hit = or(hit, collision_calc(taken, bits));
+        mask.bits[low] |= bitmap::lower(bits, place % 8);
+        mask.bits[high] |= bitmap::upper(bits, place % 8);
+        count = one.count;
+        let after = next.n + 1;
+        next = next_on(vram, table, after, line, lines);
+    }
+    Marks {
+        mask: mask,
+        hit: hit,
+        ninth: false,
+    }
 }
-
-// ---- the line
 
 // The sprites of a line, over its background, under the priority mask `prio`.
 pub fn render_sprites_line(
@@ -318,52 +359,10 @@ pub fn render_sprites_line(
     requires { ⌜ Room (now vram) (now row) width ⌝ }
     ensures { λ r. ⌜ ((row₀ : List ℕ) (f : ℕ → Bool) (colour : ℕ → ℕ) → prio .bits ≡ bytesOf f → now (row .entry) ≡ painted row₀ 0 width (λ x. at (now (colours .entry)) (colour x)) → Finished (at (now (vram .entry))) (at reg) (standOf area (early (at reg))) line f row₀ (now (colours .entry)) width colour (now (row .exit)) (r .hit) (r .ninth)) ⌝ }
 {
-    let table = table_at(reg);
-    let tall = tile::is_set(reg[1], 1);
-    let mask = Bitmap::new();
-    let mut marks = Marks {
-        mask: mask,
-        hit: false,
-        count: 0,
-    };
-    let mut n: usize = 0;
-    while n < 64 {
-        let y = vram[table + n];
-        if y == 0xD0 {
-            return Line {
-                hit: marks.hit,
-                ninth: false,
-            };
-        }
-        let top = top_of(y);
-        if !covers(top, tall, line) {
-            n += 1;
-            continue;
-        }
-        if marks.count >= 8 {
-            return Line {
-                hit: marks.hit,
-                ninth: true,
-            };
-        }
-        marks = sprite_at(
-            row,
-            vram,
-            colours,
-            area,
-            reg,
-            table,
-            line,
-            line - top,
-            width,
-            prio,
-            n,
-            marks,
-        );
-        n += 1;
-    }
+    let none = Bitmap::new();
+    let marks = sprites_line(row, vram, colours, area, reg, line, width, prio, none);
     Line {
         hit: marks.hit,
-        ninth: false,
+        ninth: marks.ninth,
     }
 }

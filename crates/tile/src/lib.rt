@@ -241,8 +241,49 @@ fn paint_by(row: &mut [u8], colours: &[u32], palette: usize, x: usize, codes: u6
     paint(row, &colours[palette..top], x, codes, n);
 }
 
+// The colour that lane k names.
+fn lane_colour(colours: &[u32], codes: u64, k: usize) -> u32
+    requires { ⌜ (k < 8) × (lane codes k < length (now colours)) ⌝ }
+    ensures { λ r. ⌜ r ≡ at (now (colours .entry)) (lane codes k) ⌝ }
+{
+    let c = ((codes >> (8 * k)) % 256) as usize;
+    colours[c]
+}
+
+// The colours that the eight lanes name, from pixel x of the row on. All are read before the first is stored: a store could not change
+// them, but the compiler does not know that.
+fn paint_whole(row: &mut [u8], colours: &[u32], x: usize, codes: u64)
+    requires { ⌜ (x < 65536) × ((x + 8) * 4 ≤ length (now row)) × ((k : ℕ) → k < 8 → lane codes k < length (now colours)) ⌝ }
+    ensures { λ r. ⌜ now (row .exit) ≡ painted (now (row .entry)) x 8 (λ k. at (now (colours .entry)) (lane codes k)) ⌝ }
+{
+    let c0 = lane_colour(colours, codes, 0);
+    let c1 = lane_colour(colours, codes, 1);
+    let c2 = lane_colour(colours, codes, 2);
+    let c3 = lane_colour(colours, codes, 3);
+    let c4 = lane_colour(colours, codes, 4);
+    let c5 = lane_colour(colours, codes, 5);
+    let c6 = lane_colour(colours, codes, 6);
+    let c7 = lane_colour(colours, codes, 7);
+    pixel_set_full(row, x, c0);
+    pixel_set_full(row, x + 1, c1);
+    pixel_set_full(row, x + 2, c2);
+    pixel_set_full(row, x + 3, c3);
+    pixel_set_full(row, x + 4, c4);
+    pixel_set_full(row, x + 5, c5);
+    pixel_set_full(row, x + 6, c6);
+    pixel_set_full(row, x + 7, c7);
+}
+
+// The same by 16 of the colours, from colour `palette` on.
+fn paint_whole_by(row: &mut [u8], colours: &[u32], palette: usize, x: usize, codes: u64)
+    requires { ⌜ (x < 65536) × ((x + 8) * 4 ≤ length (now row)) × (palette + 16 ≤ length (now colours)) × ((k : ℕ) → k < 8 → lane codes k < 16) ⌝ }
+    ensures { λ r. ⌜ now (row .exit) ≡ painted (now (row .entry)) x 8 (λ k. at (now (colours .entry)) (palette + lane codes k)) ⌝ }
+{
+    let top = palette + 16;
+    paint_whole(row, &colours[palette..top], x, codes);
+}
+
 // n pixels of the line at addr, from the tile's pixel start on, drawn from pixel x of the row on; answers which are not of code 0.
-// The whole line has a way of its own, on which the compiler knows how many columns there are.
 pub fn character_line(
     row: &mut [u8],
     vram: &[u8],
@@ -264,12 +305,30 @@ pub fn character_line(
     let p3 = vram[addr + 3];
     let codes = codes_of(flip, p0, p1, p2, p3);
     let bits = faced(flip, p0 | p1 | p2 | p3);
-    if n == 8 {
-        paint_by(row, colours, palette, x, codes, 8);
-        return bits;
-    }
     paint_by(row, colours, palette, x, codes >> (8 * (start % 8)), n);
     cut(bits, start, n)
+}
+
+// The whole line at addr, drawn from pixel x of the row on; answers which pixels are not of code 0.
+pub fn character_whole(
+    row: &mut [u8],
+    vram: &[u8],
+    colours: &[u32; 32],
+    addr: usize,
+    flip: bool,
+    palette: usize,
+    x: usize,
+) -> u8
+    requires { ⌜ (addr + 4 ≤ length (now vram)) × (palette ≤ 16) × (x < 65536) × ((x + 8) * 4 ≤ length (now row)) ⌝ }
+    ensures { λ r. ⌜ now (row .exit) ≡ painted (now (row .entry)) x 8 (lineColour (now (colours .entry)) palette (now (vram .entry)) addr flip 0) ⌝ }
+    ensures { λ r. ⌜ r ≡ number 8 (lineSolid (now (vram .entry)) addr flip 0) ⌝ }
+{
+    let p0 = vram[addr];
+    let p1 = vram[addr + 1];
+    let p2 = vram[addr + 2];
+    let p3 = vram[addr + 3];
+    paint_whole_by(row, colours, palette, x, codes_of(flip, p0, p1, p2, p3));
+    faced(flip, p0 | p1 | p2 | p3)
 }
 
 // ---- a sprite
@@ -282,7 +341,7 @@ pub struct Columns {
 }
 
 // The columns of the line at addr, from the tile's pixel start to below end, drawn from pixel x of the row on where `held` and `taken` let them.
-fn sprite_columns(
+pub fn sprite_columns(
     row: &mut [u8],
     vram: &[u8],
     colours: &[u32; 32],

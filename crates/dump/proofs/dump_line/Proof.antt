@@ -10,11 +10,11 @@ use Rattle.dump.proofs.dump_line.Tie as tie
 use Rattle.dump.proofs.dump_line.Reads as reads
 use Rattle.dump.proofs.dump_line.Lts as lts
 use Rattle.tile.proofs.character_line.Reads as character-line-reads
-use Rattle.tile.proofs.character_line_sprite.Reads as character-line-sprite-reads
+use Rattle.tile.proofs.sprite_columns.Reads as sprite-columns-reads
 
 -- src/lib.rt:45:9
-character-line-sprite-requires : tie.Need-character-line-sprite-requires
-character-line-sprite-requires c κs = search needs
+sprite-columns-requires : tie.Need-sprite-columns-requires
+sprite-columns-requires c κs = search needs
 
 -- src/lib.rt:47:9
 character-line-requires : tie.Need-character-line-requires
@@ -30,7 +30,7 @@ returns c =
     λ k.
     let a = c .before .before .before .before .before .before .before .args in
     rw (c .before .before .before .before .if1 .taken)
-    (ap (λ (l : List ℕ). at l k) (c .before .before .character-line-sprite .ensures .0) ∙ sprite-byte (a .pixels .now) (a .vram .now) (a .colours .now) (a .addr) (a .x) k (omega arith) (omega arith))
+    (ap (λ (l : List ℕ). at l k) (c .before .before .sprite-columns .ensures .0) ∙ sprite-byte (a .pixels .now) (a .vram .now) (a .colours .now) (a .addr) (a .x) k (omega arith) (omega arith))
 
 -- src/lib.rt:40:1
 same-length-2 : tie.Need-same-length-2
@@ -48,7 +48,7 @@ pub dump-line-spec : {M : Type 1} → statement M
 dump-line-spec =
     tie.close
     (tie.spec
-    character-line-sprite-requires
+    sprite-columns-requires
     character-line-requires
     same-length
     returns

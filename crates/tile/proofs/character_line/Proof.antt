@@ -19,82 +19,55 @@ use Rattle.tile.proofs.cut.Reads as cut-reads
 use Rattle.tile.proofs.faced.Reads as faced-reads
 use Rattle.tile.proofs.paint_by.Reads as paint-by-reads
 
--- src/lib.rt:261:14
+-- src/lib.rt:302:14
 shared-slice-read-p0 : tie.Need-shared-slice-read-p0
 shared-slice-read-p0 c = search needs
 
--- src/lib.rt:262:19
+-- src/lib.rt:303:19
 add-p1 : tie.Need-add-p1
 add-p1 c = search needs
 
--- src/lib.rt:262:14
+-- src/lib.rt:303:14
 shared-slice-read-p1 : tie.Need-shared-slice-read-p1
 shared-slice-read-p1 c = search needs
 
--- src/lib.rt:263:19
+-- src/lib.rt:304:19
 add-p2 : tie.Need-add-p2
 add-p2 c = search needs
 
--- src/lib.rt:263:14
+-- src/lib.rt:304:14
 shared-slice-read-p2 : tie.Need-shared-slice-read-p2
 shared-slice-read-p2 c = search needs
 
--- src/lib.rt:264:19
+-- src/lib.rt:305:19
 add-p3 : tie.Need-add-p3
 add-p3 c = search needs
 
--- src/lib.rt:264:14
+-- src/lib.rt:305:14
 shared-slice-read-p3 : tie.Need-shared-slice-read-p3
 shared-slice-read-p3 c = search needs
 
--- src/lib.rt:265:9
+-- src/lib.rt:306:9
 codes-of-requires : tie.Need-codes-of-requires
 codes-of-requires c κs = search needs
 
--- src/lib.rt:266:9
+-- src/lib.rt:307:9
 faced-requires : tie.Need-faced-requires
 faced-requires c κs = search needs
 
--- src/lib.rt:268:9
-paint-by-requires : tie.Need-paint-by-requires
-paint-by-requires c κs =
-    let a = c .before .before .before .before .before .before .before .before .before .before .before .args in
-    let q = lane-code _ _ _ _ (c .before .before .before .before .codes-of .result) (turned (a .flip)) (c .before .before .before .before .codes-of .ensures) in
-    (search needs, search needs, search needs, λ k h. rw (q k h) (code-lt _ _ _ _ _))
-
--- src/lib.rt:269:9
-same-length : tie.Need-same-length
-same-length c = search needs
-
--- src/lib.rt:269:9
-returns : tie.Need-returns
-returns c =
-    let a = c .before .before .before .before .before .before .before .before .before .before .before .before .before .before .args in
-    let s : a .start ≡ 0 = omega arith in
-    let n : a .n ≡ 8 = omega arith in
-    let w = c .before .before .before .before .before .before .before .codes-of .result in
-    let z : (k : _) → k ≡ a .start + k = λ k. omega arith in (
-      rw n
-          (c .before .before .paint-by .ensures
-          ∙ painted-cong _ _ _ _ _ (λ k h. ap (λ i. at (a .colours .now) (a .palette + lane w i)) (z k) ∙ line-colour (a .vram .now) (a .addr) (a .flip) (a .colours .now) (a .palette) (a .start) w (c .before .before .before .before .before .before .before .codes-of .ensures) k (omega (arith, z k)))),
-      rw n
-          (c .before .before .before .before .before .before .faced .ensures
-          ∙ number-ext 8 _ _ (λ k h. ap (λ i. bit (all (a .vram .now) (a .addr) (a .flip)) (7 - turned (a .flip) i)) (z k) ∙ line-solid (a .vram .now) (a .addr) (a .flip) (a .start) k)),
-    )
-
--- src/lib.rt:271:50
+-- src/lib.rt:308:50
 mul-paint-by : tie.Need-mul-paint-by
 mul-paint-by c = search needs
 
--- src/lib.rt:271:40
+-- src/lib.rt:308:40
 shr-paint-by : tie.Need-shr-paint-by
 shr-paint-by c = search needs
 
--- src/lib.rt:271:5
-paint-by-requires-2 : tie.Need-paint-by-requires-2
-paint-by-requires-2 c κs =
-    let a = c .before .before .before .before .before .before .before .before .before .before .before .args in
-    let q = lane-code _ _ _ _ (c .before .before .before .before .codes-of .result) (turned (a .flip)) (c .before .before .before .before .codes-of .ensures) in (
+-- src/lib.rt:308:5
+paint-by-requires : tie.Need-paint-by-requires
+paint-by-requires c κs =
+    let a = c .before .before .before .before .before .before .before .before .before .before .args in
+    let q = lane-code _ _ _ _ (c .before .before .before .codes-of .result) (turned (a .flip)) (c .before .before .before .codes-of .ensures) in (
       search needs,
       search needs,
       search needs,
@@ -103,28 +76,28 @@ paint-by-requires-2 c κs =
           rw (lane-past, q (a .start % 8 + k) e) (code-lt _ _ _ _ _),
     )
 
--- src/lib.rt:272:5
+-- src/lib.rt:309:5
 cut-requires : tie.Need-cut-requires
 cut-requires c κs = search needs
 
--- src/lib.rt:246:1
-same-length-2 : tie.Need-same-length-2
-same-length-2 c = search needs
+-- src/lib.rt:287:1
+same-length : tie.Need-same-length
+same-length c = search needs
 
--- src/lib.rt:246:1
-returns-2 : tie.Need-returns-2
-returns-2 c =
-    let a = c .before .before .before .before .before .before .before .before .before .before .before .before .before .before .before .args in
-    let w = c .before .before .before .before .before .before .before .before .codes-of .result in (
-      c .before .before .before .paint-by2 .ensures
+-- src/lib.rt:287:1
+returns : tie.Need-returns
+returns c =
+    let a = c .before .before .before .before .before .before .before .before .before .before .before .before .before .before .args in
+    let w = c .before .before .before .before .before .before .before .codes-of .result in (
+      c .before .before .before .paint-by .ensures
           ∙ painted-cong _ _ _ _ _ (λ k h.
           let e : a .start % 8 + k ≡ a .start + k = omega arith in
           ap (λ i. at (a .colours .now) (a .palette + i)) (lane-past w (a .start % 8) k ∙ ap (lane w) e)
-          ∙ line-colour (a .vram .now) (a .addr) (a .flip) (a .colours .now) (a .palette) (a .start) w (c .before .before .before .before .before .before .before .before .codes-of .ensures) k (omega arith)),
+          ∙ line-colour (a .vram .now) (a .addr) (a .flip) (a .colours .now) (a .palette) (a .start) w (c .before .before .before .before .before .before .before .codes-of .ensures) k (omega arith)),
       c .cut .ensures
           ∙ number-ext _ _ _ (λ k h.
           let l : a .start + k < 8 = omega arith in
-          ap (λ b. bit b (a .start + k)) (c .before .before .before .before .before .before .before .faced .ensures) ∙ bit-number 8 _ (a .start + k) l ∙ line-solid (a .vram .now) (a .addr) (a .flip) (a .start) k),
+          ap (λ b. bit b (a .start + k)) (c .before .before .before .before .before .before .faced .ensures) ∙ bit-number 8 _ (a .start + k) l ∙ line-solid (a .vram .now) (a .addr) (a .flip) (a .start) k),
     )
 
 pub character-line-spec : {M : Type 1} → statement M
@@ -140,12 +113,9 @@ character-line-spec =
     shared-slice-read-p3
     codes-of-requires
     faced-requires
-    paint-by-requires
-    same-length
-    returns
     mul-paint-by
     shr-paint-by
-    paint-by-requires-2
+    paint-by-requires
     cut-requires
-    same-length-2
-    returns-2)
+    same-length
+    returns)
