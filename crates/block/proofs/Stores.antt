@@ -1,13 +1,11 @@
 -- The parts of a block that a step reads and writes, each by itself.
 -- Assumes nothing.
 use mathlib.Core.Path.{_≡_, refl, sym, ap, _∙_}
-use mathlib.Core.Bool.{Bool}
 use mathlib.Core.List.{List, _++_, append-nil, append-assoc}
 use Prim.Native.Nat.{ℕ, _+_, _≤_}
 use native.Mathlib.Omega.{arith}
-use lib.ListN.{length, take, drop, set, length-append, length-take, length-drop, drop-of-length-le, replicate}
+use lib.ListN.{length, take, drop, length-append, length-take, length-drop, drop-of-length-le, replicate}
 use lib.Seq.{paste, drop-at}
-use Rattle.laws.specs.Lists.{at}
 use Rattle.laws.proofs.Parts.{pasted, set-past}
 use Rattle.raster.specs.declared.Raster.{Raster}
 use Rattle.vdp.specs.declared.VdpState.{VdpState}

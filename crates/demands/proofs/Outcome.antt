@@ -2,7 +2,7 @@
 -- Assumes nothing.
 use mathlib.Core.Path.{refl, sym, _∙_}
 use denote.Ref.{now}
-use Rattle.step.proofs.Steps.{feeding, feeding-fed, same-beat}
+use Rattle.step.proofs.Steps.{reads-so, same-points}
 use Rattle.demands.specs.Outcome.{OneOutcome, OneOutcomeSeen, PaintedRow}
 use Rattle.bitmap.proofs.Bitmap.new as bitmap-new
 use Rattle.bitmap.proofs.Bitmap.set as bitmap-set
@@ -28,8 +28,8 @@ use Rattle.vdp.proofs.VdpState.with_raster
 use Rattle.vdp.proofs.VdpState.with_cache
 use Rattle.vdp.proofs.VdpState.out
 use Rattle.vdp.proofs.VdpState.input
-use Rattle.step.proofs.row_beat
-use Rattle.step.proofs.frame_beat
+use Rattle.step.proofs.row_points
+use Rattle.step.proofs.frame_points
 use Rattle.step.proofs.row_step
 use Rattle.step.proofs.frame_step
 use Rattle.step.proofs.row_view
@@ -153,22 +153,20 @@ pub input-once : OneOutcome 1 input.Kinds.ps input.Kinds.r input.Reads.Asked inp
 input-once κs a q z z′ w w′ e f = (e ∙ sym f, refl)
 
 -- ---- step
--- each by the step of one device that has what the call reads
-pub row-beat-once : OneOutcome 3 row_beat.Kinds.ps row_beat.Kinds.r row_beat.Reads.Asked row_beat.Reads.Learnt
-row-beat-once κs a q z z′ w w′ e f =
-    let d = feeding (a .0) (a .1 .0) (a .1 .1 .0) (now (a .1 .1 .1 .0)) in
-    let g = feeding-fed (a .0) (a .1 .0) (a .1 .1 .0) (now (a .1 .1 .1 .0)) in
-    let x = e d g in
-    let y = f d g in
-    (same-beat d (x .answer ∙ sym (y .answer)), λ i. (tt, (tt, (tt, (tt, (tt, ((x .bytes ∙ sym (y .bytes)) i, w .1 .1 .1 .1 .1 .1)))))))
+-- the points of a step: each by the step of one device that reads as the arguments say
+pub row-points-once : OneOutcome 3 row_points.Kinds.ps row_points.Kinds.r row_points.Reads.Asked row_points.Reads.Learnt
+row-points-once κs a q z z′ w w′ e f =
+    let g = reads-so (a .0) (a .1 .0) (a .1 .1 .0) (now (a .1 .1 .1 .0)) in
+    let x = e _ g in
+    let y = f _ g in
+    (same-points _ (x .answer ∙ sym (y .answer)), λ i. (tt, (tt, (tt, (tt, (tt, ((x .bytes ∙ sym (y .bytes)) i, w .1 .1 .1 .1 .1 .1)))))))
 
-pub frame-beat-once : OneOutcome 3 frame_beat.Kinds.ps frame_beat.Kinds.r frame_beat.Reads.Asked frame_beat.Reads.Learnt
-frame-beat-once κs a q z z′ w w′ e f =
-    let d = feeding (a .0) (a .1 .0) (a .1 .1 .0) (now (a .1 .1 .1 .0)) in
-    let g = feeding-fed (a .0) (a .1 .0) (a .1 .1 .0) (now (a .1 .1 .1 .0)) in
-    let x = e d g in
-    let y = f d g in
-    (same-beat d (x .answer ∙ sym (y .answer)), λ i. (tt, (tt, (tt, (tt, (tt, ((x .bytes ∙ sym (y .bytes)) i, w .1 .1 .1 .1 .1 .1)))))))
+pub frame-points-once : OneOutcome 3 frame_points.Kinds.ps frame_points.Kinds.r frame_points.Reads.Asked frame_points.Reads.Learnt
+frame-points-once κs a q z z′ w w′ e f =
+    let g = reads-so (a .0) (a .1 .0) (a .1 .1 .0) (now (a .1 .1 .1 .0)) in
+    let x = e _ g in
+    let y = f _ g in
+    (same-points _ (x .answer ∙ sym (y .answer)), λ i. (tt, (tt, (tt, (tt, (tt, ((x .bytes ∙ sym (y .bytes)) i, w .1 .1 .1 .1 .1 .1)))))))
 
 pub row-step-once : OneOutcome 2 row_step.Kinds.ps row_step.Kinds.r row_step.Reads.Asked row_step.Reads.Learnt
 row-step-once κs a q z z′ w w′ e f = (e .answer ∙ sym (f .answer), λ i. (tt, (tt, ((e .bytes ∙ sym (f .bytes)) i, w .1 .1 .1))))

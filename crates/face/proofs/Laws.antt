@@ -6,7 +6,9 @@ use mathlib.Core.List.{List, []}
 use Prim.Native.Nat.{ℕ, _+_, _*_, _<_, _≤_}
 use borrow.Author.Tests.{eq-eqb, ne-eqb, le-leb, lt-leb}
 use lib.ListN.{length}
+use Rattle.laws.specs.Lists.{at}
 use Rattle.picture.specs.declared.RenderArea.{RenderArea}
+use Rattle.raster.specs.declared.Raster.{Raster}
 use Rattle.vdp.specs.declared.VdpState.{VdpState}
 use Rattle.vdp.specs.declared.Written.{Written}
 use Rattle.vdp.specs.declared.ReadBack.{ReadBack}
@@ -17,16 +19,19 @@ use Rattle.vdp.specs.Refusals.{refusalNumber}
 use Rattle.vdp.specs.Ports.{WriteLeaves, portRead}
 use Rattle.block.specs.declared.Decoded.{Decoded}
 use Rattle.block.specs.Block.{wellFormed, stateOf, blockOf, decoded, encoded, Sized}
-use Rattle.block.proofs.Whole.{good-is, device-is, encoded-is}
+use Rattle.block.proofs.Whole.{good-is, device-is, encoded-is, long}
+use Rattle.block.proofs.RoundTrip.{block-back}
+use Rattle.block.proofs.Stores.{sized}
 use Rattle.step.specs.declared.Stepped.{Stepped}
-use Rattle.step.specs.declared.Beat.{Beat}
-use Rattle.step.specs.Beat.{answer, cleaned}
+use Rattle.step.specs.declared.Points.{Points}
+use Rattle.step.specs.Points.{Reads, cleaned, joined}
+use Rattle.step.specs.Step.{coloursNow}
 use Rattle.step.specs.declared.DrawnRow.{DrawnRow}
 use Rattle.step.specs.declared.DrawnRow.the-variants.{NoRow, Drawn}
 use Rattle.step.specs.Dump.{DumpLeaves}
 use Rattle.step.specs.Frame.{RowStepLeaves, FrameStepLeaves}
 use Rattle.picture.specs.Area.{areaFrom}
-use Rattle.face.specs.Face.{Called, Leaves, stepWord, onBlock, onArea, newCall, outOn, outCall, inputOn, inputCall, stepOn, stepCall, rowStepOn, rowStepCall, dumpOn, dumpCall}
+use Rattle.face.specs.Face.{Called, Leaves, stepWord, onBlock, onArea, newCall, outOn, outCall, inputOn, inputCall, steppedTo, stepOn, stepCall, rowStepOn, rowStepCall, dumpOn, dumpCall}
 
 -- what is left, by a path from it to what the definition says
 leaves : {c k : Called} → c ≡ k → Leaves k (c .word) (c .block) (c .lent)
@@ -105,60 +110,6 @@ module _ (b : List ℕ) {d : Decoded} (e : d ≡ decoded b) where
         lent = refl;
       })
 
-  -- ---- then the area number
-  abbrev inArea : ℕ → List ℕ → (VdpState → RenderArea → Called) → VdpState → Called
-  inArea n x call s = onArea n b x (call s)
-
-  eleven :
-      d .good ≡ true → (x : List ℕ) (n : ℕ) → 1 < n → (call : VdpState → RenderArea → Called) {r : ℕ} → r ≡ refusalNumber UnknownArea
-      → Leaves (onBlock b x (inArea n x call)) r b x
-  eleven g x n h call er = rw er (leaves (sym (rw (lt-leb n 1 h)) ∙ on g x (inArea n x call)))
-
-  chosen :
-      d .good ≡ true → (x : List ℕ) (n : ℕ) → n ≤ 1 → (call : VdpState → RenderArea → Called) {a : RenderArea} → a ≡ areaFrom n
-      → call (d .vdp) a ≡ onBlock b x (inArea n x call)
-  chosen g x n h call ea = ap (call (d .vdp)) ea ∙ sym (rw (le-leb n 1 h)) ∙ on g x (inArea n x call)
-
-  pub step-ten : d .good ≡ false → (m frame : List ℕ) (n : ℕ) {r : ℕ} → r ≡ refusalNumber BlockMalformed → Leaves (stepCall b m frame n) r b frame
-  unfolding stepCall
-  step-ten g m frame n er = ten g frame (inArea n frame (stepOn m frame)) er
-
-  pub step-eleven : d .good ≡ true → (m frame : List ℕ) (n : ℕ) → 1 < n → {r : ℕ} → r ≡ refusalNumber UnknownArea → Leaves (stepCall b m frame n) r b frame
-  unfolding stepCall
-  step-eleven g m frame n h er = eleven g frame n h (stepOn m frame) er
-
-  pub step-done :
-      d .good ≡ true → (m frame : List ℕ) (n : ℕ) → n ≤ 1 → {a : RenderArea} {s : Stepped} {frame′ b′ : List ℕ} {w : ℕ} → a ≡ areaFrom n
-      → FrameStepLeaves a m (d .vdp) frame s frame′ → b′ ≡ encoded (s .vdp) b → w ≡ stepWord s → Leaves (stepCall b m frame n) w b′ frame′
-  unfolding stepCall
-  step-done g m frame n h {s = s} ea l eb ew =
-      along (chosen g frame n h (stepOn m frame) ea)
-      (record {
-        word = ew ∙ ap stepWord (l .answer);
-        block = kept g (s .vdp) eb ∙ ap (λ (x : Stepped). blockOf (x .vdp)) (l .answer);
-        lent = l .bytes;
-      })
-
-  pub row-ten : d .good ≡ false → (m row : List ℕ) (n : ℕ) {r : ℕ} → r ≡ refusalNumber BlockMalformed → Leaves (rowStepCall b m row n) r b row
-  unfolding rowStepCall
-  row-ten g m row n er = ten g row (inArea n row (rowStepOn m row)) er
-
-  pub row-eleven : d .good ≡ true → (m row : List ℕ) (n : ℕ) → 1 < n → {r : ℕ} → r ≡ refusalNumber UnknownArea → Leaves (rowStepCall b m row n) r b row
-  unfolding rowStepCall
-  row-eleven g m row n h er = eleven g row n h (rowStepOn m row) er
-
-  pub row-done :
-      d .good ≡ true → (m row : List ℕ) (n : ℕ) → n ≤ 1 → {a : RenderArea} {s : Stepped} {row′ b′ : List ℕ} {w : ℕ} → a ≡ areaFrom n
-      → RowStepLeaves a m (d .vdp) row s row′ → b′ ≡ encoded (s .vdp) b → w ≡ stepWord s → Leaves (rowStepCall b m row n) w b′ row′
-  unfolding rowStepCall
-  row-done g m row n h {s = s} ea l eb ew =
-      along (chosen g row n h (rowStepOn m row) ea)
-      (record {
-        word = ew ∙ ap stepWord (l .answer);
-        block = kept g (s .vdp) eb ∙ ap (λ (x : Stepped). blockOf (x .vdp)) (l .answer);
-        lent = l .bytes;
-      })
-
   -- ---- the dump
   pub dump-ten : d .good ≡ false → (m pixels : List ℕ) {n : ℕ} → n ≡ refusalNumber BlockMalformed → Leaves (dumpCall b m pixels) n b pixels
   unfolding dumpCall
@@ -171,39 +122,61 @@ module _ (b : List ℕ) {d : Decoded} (e : d ≡ decoded b) where
   dump-done g m pixels l en =
       along (on g pixels (dumpOn b m pixels)) (record { word = en ∙ ap refusalNumber (l .refusal); block = refl; lent = l .bytes })
 
+-- ---- a step: the block is tested, the area number, and then the block's parts are read each by itself
+module _ (b m x : List ℕ) (n : ℕ) where
+  -- a call that asks for an area, on block and area
+  abbrev asked : (VdpState → RenderArea → Called) → Called
+  asked call = onBlock b x (λ s. onArea n b x (call s))
+
+  bad : (call : VdpState → RenderArea → Called) {r : ℕ} → wellFormed b ≡ false → r ≡ refusalNumber BlockMalformed → Leaves (asked call) r b x
+  bad call w er = rw er (leaves (sym (rw w)))
+
+  unknown : (call : VdpState → RenderArea → Called) {r : ℕ} → wellFormed b ≡ true → 1 < n → r ≡ refusalNumber UnknownArea → Leaves (asked call) r b x
+  unknown call w h er = rw er (leaves (sym (rw (w, lt-leb n 1 h))))
+
+  pub step-bad : {r : ℕ} → wellFormed b ≡ false → r ≡ refusalNumber BlockMalformed → Leaves (stepCall b m x n) r b x
+  unfolding stepCall
+  step-bad = bad (stepOn m x)
+
+  pub row-bad : {r : ℕ} → wellFormed b ≡ false → r ≡ refusalNumber BlockMalformed → Leaves (rowStepCall b m x n) r b x
+  unfolding rowStepCall
+  row-bad = bad (rowStepOn m x)
+
+  pub step-unknown : {r : ℕ} → wellFormed b ≡ true → 1 < n → r ≡ refusalNumber UnknownArea → Leaves (stepCall b m x n) r b x
+  unfolding stepCall
+  step-unknown = unknown (stepOn m x)
+
+  pub row-unknown : {r : ℕ} → wellFormed b ≡ true → 1 < n → r ≡ refusalNumber UnknownArea → Leaves (rowStepCall b m x n) r b x
+  unfolding rowStepCall
+  row-unknown = unknown (rowStepOn m x)
+
+  -- a step, by what its points answer and leave, the block that they are stored in, and their word
+  module _
+      {a : RenderArea} {points : Points} {reg : List ℕ} {raster : Raster} {status : ℕ} {colours b′ x′ : List ℕ} {r : ℕ}
+      (bytes : (i : ℕ) → at b i < 256) (w : wellFormed b ≡ true) (h : n ≤ 1) (ea : a ≡ areaFrom n) (g : Reads (stateOf b) reg raster status colours)
+      (es : (s : VdpState) → Sized s → colours ≡ coloursNow s → b ≡ blockOf s → b′ ≡ blockOf (joined s points .vdp))
+      (er : (d : VdpState) → r ≡ stepWord (joined d points))
+    where
+      stored :
+          (call : VdpState → RenderArea → Called) {s : Stepped} {y : List ℕ} → call (stateOf b) a ≡ steppedTo s y → joined (stateOf b) points ≡ s → x′ ≡ y
+          → Leaves (asked call) r b′ x′
+      stored call ec e ey =
+          along (sym ec ∙ ap (call (stateOf b)) ea ∙ sym (rw (w, le-leb n 1 h)))
+          (record {
+            word = er (stateOf b) ∙ ap stepWord e;
+            block = es (stateOf b) (sized b (long b w)) (g .cache) (sym (block-back b w bytes)) ∙ ap (λ (s : Stepped). blockOf (s .vdp)) e;
+            lent = ey;
+          })
+
+      pub step-kept : ((d : VdpState) → Reads d reg raster status colours → FrameStepLeaves a m d x (joined d points) x′) → Leaves (stepCall b m x n) r b′ x′
+      unfolding stepCall
+      step-kept l = let k = l (stateOf b) g in stored (stepOn m x) refl (k .answer) (k .bytes)
+
+      pub row-kept : ((d : VdpState) → Reads d reg raster status colours → RowStepLeaves a m d x (joined d points) x′) → Leaves (rowStepCall b m x n) r b′ x′
+      unfolding rowStepCall
+      row-kept l = let k = l (stateOf b) g in stored (rowStepOn m x) refl (k .answer) (k .bytes)
+
 -- a step's colours keep the sizes
 pub cleaned-sized : (r : DrawnRow) (s : VdpState) (colours : List ℕ) → Sized s → Sized (cleaned r s colours)
 cleaned-sized NoRow s colours g = g
 cleaned-sized (Drawn y) s colours g = record { registers = g .registers; palette = g .palette }
-
--- ---- a step, by what it reads and leaves of the block's device
-module _ (b : List ℕ) where
-  read-bad : wellFormed b ≡ false → decoded b .good ≡ false
-  read-bad w = good-is b ∙ w
-
-  read : wellFormed b ≡ true → (record { good = true; vdp = stateOf b }) ≡ decoded b
-  read w = sym (λ i. record { good = (good-is b ∙ w) i; vdp = device-is b w i })
-
-  pub step-bad : wellFormed b ≡ false → (m frame : List ℕ) (n : ℕ) {r : ℕ} → r ≡ refusalNumber BlockMalformed → Leaves (stepCall b m frame n) r b frame
-  step-bad w = step-ten b refl (read-bad w)
-
-  pub step-unknown : wellFormed b ≡ true → (m frame : List ℕ) (n : ℕ) → 1 < n → {r : ℕ} → r ≡ refusalNumber UnknownArea → Leaves (stepCall b m frame n) r b frame
-  step-unknown w = step-eleven b (read w) refl
-
-  pub step-kept :
-      wellFormed b ≡ true → (m frame : List ℕ) (n : ℕ) → n ≤ 1 → {a : RenderArea} (k : Beat) {frame′ b′ : List ℕ} {w : ℕ} → a ≡ areaFrom n
-      → FrameStepLeaves a m (stateOf b) frame (answer (stateOf b) k) frame′ → b′ ≡ blockOf (answer (stateOf b) k .vdp) → w ≡ stepWord (answer (stateOf b) k)
-      → Leaves (stepCall b m frame n) w b′ frame′
-  step-kept w m frame n h k ea l eb ew = step-done b (read w) refl m frame n h ea l (eb ∙ sym (encoded-is (answer (stateOf b) k .vdp) b w)) ew
-
-  pub row-bad : wellFormed b ≡ false → (m row : List ℕ) (n : ℕ) {r : ℕ} → r ≡ refusalNumber BlockMalformed → Leaves (rowStepCall b m row n) r b row
-  row-bad w = row-ten b refl (read-bad w)
-
-  pub row-unknown : wellFormed b ≡ true → (m row : List ℕ) (n : ℕ) → 1 < n → {r : ℕ} → r ≡ refusalNumber UnknownArea → Leaves (rowStepCall b m row n) r b row
-  row-unknown w = row-eleven b (read w) refl
-
-  pub row-kept :
-      wellFormed b ≡ true → (m row : List ℕ) (n : ℕ) → n ≤ 1 → {a : RenderArea} (k : Beat) {row′ b′ : List ℕ} {w : ℕ} → a ≡ areaFrom n
-      → RowStepLeaves a m (stateOf b) row (answer (stateOf b) k) row′ → b′ ≡ blockOf (answer (stateOf b) k .vdp) → w ≡ stepWord (answer (stateOf b) k)
-      → Leaves (rowStepCall b m row n) w b′ row′
-  row-kept w m row n h k ea l eb ew = row-done b (read w) refl m row n h ea l (eb ∙ sym (encoded-is (answer (stateOf b) k .vdp) b w)) ew

@@ -7,13 +7,13 @@ ghost use lib.ListN.{length};
 ghost use Rattle.vdp.specs.declared.VdpState.{VdpState};
 ghost use Rattle.block.specs.Block.{stateOf, blockOf, Sized};
 ghost use Rattle.step.specs.Step.{interruptNumber, reportNumber, coloursNow};
-ghost use Rattle.step.specs.Beat.{answer, cleaned};
+ghost use Rattle.step.specs.Points.{cleaned, joined};
 ghost use Rattle.picture.specs.Area.{areaFrom};
 ghost use Rattle.face.specs.Face.{rowBits, stepWord, newCall, outCall, inputCall, stepCall, rowStepCall, dumpCall, Leaves};
 use picture::RenderArea;
-use step::Beat;
 use step::DisplayRefresh;
 use step::DrawnRow;
+use step::Points;
 use step::VdpInt;
 use vdp::Refusal;
 use vdp::VdpState;
@@ -67,13 +67,13 @@ fn row_bits(r: DrawnRow) -> u32
     }
 }
 
-fn word_of(s: Beat) -> u32
-    ensures { λ r. ⌜ ((d : VdpState) → r ≡ stepWord (answer d s)) ⌝ }
+fn word_of(points: Points) -> u32
+    ensures { λ r. ⌜ ((d : VdpState) → r ≡ stepWord (joined d points)) ⌝ }
 {
-    let refusal = s.refusal;
-    let interrupt = s.interrupt;
-    let report = s.report;
-    let row = s.row;
+    let refusal = points.refusal;
+    let interrupt = points.interrupt;
+    let report = points.report;
+    let row = points.row;
     number(refusal)
         + 256 * interrupt_number(interrupt)
         + 512 * report_number(report)
@@ -159,15 +159,15 @@ fn store_colours(state: &mut [u8], row: DrawnRow, colours: &[u32; 32])
     }
 }
 
-// What a step leaves of the device, into its block.
-fn store(state: &mut [u8], beat: Beat, colours: &[u32; 32])
+// What the points of a step leave of the device, into its block.
+fn store(state: &mut [u8], points: Points, colours: &[u32; 32])
     requires { ⌜ length (now state) ≡ 219 ⌝ }
-    ensures { λ _. ⌜ ((s : VdpState) → Sized s → now (colours .entry) ≡ coloursNow s → now (state .entry) ≡ blockOf s → now (state .exit) ≡ blockOf (answer s beat .vdp)) ⌝ }
+    ensures { λ _. ⌜ ((s : VdpState) → Sized s → now (colours .entry) ≡ coloursNow s → now (state .entry) ≡ blockOf s → now (state .exit) ≡ blockOf (joined s points .vdp)) ⌝ }
 {
-    let row = beat.row;
-    let raster = beat.raster;
+    let row = points.row;
+    let raster = points.raster;
     store_colours(state, row, colours);
-    block::store_raster(state, beat.status, raster);
+    block::store_raster(state, points.status, raster);
 }
 
 // A step, whose row goes to its place in the frame.
@@ -182,7 +182,7 @@ pub extern "C" fn vdp_step(state: &mut [u8], vram: &[u8], frame: &mut [u8], area
         return number(Refusal::UnknownArea);
     }
     let colours = colours_of(state);
-    let beat = step::frame_beat(
+    let points = step::frame_points(
         block::registers(state),
         block::raster_in(state),
         state[2],
@@ -191,8 +191,8 @@ pub extern "C" fn vdp_step(state: &mut [u8], vram: &[u8], frame: &mut [u8], area
         frame,
         area_from(area),
     );
-    store(state, beat, &colours);
-    word_of(beat)
+    store(state, points, &colours);
+    word_of(points)
 }
 
 // A step, whose row goes to the first bytes of the row buffer.
@@ -207,7 +207,7 @@ pub extern "C" fn vdp_row_step(state: &mut [u8], vram: &[u8], row: &mut [u8], ar
         return number(Refusal::UnknownArea);
     }
     let colours = colours_of(state);
-    let beat = step::row_beat(
+    let points = step::row_points(
         block::registers(state),
         block::raster_in(state),
         state[2],
@@ -216,8 +216,8 @@ pub extern "C" fn vdp_row_step(state: &mut [u8], vram: &[u8], row: &mut [u8], ar
         row,
         area_from(area),
     );
-    store(state, beat, &colours);
-    word_of(beat)
+    store(state, points, &colours);
+    word_of(points)
 }
 
 // All tiles into the pixels; the block is only read.

@@ -1,6 +1,6 @@
 -- Which row a line draws, and where that row lies in a frame.
 -- Assumes nothing.
-use mathlib.Core.Path.{_≡_, refl}
+use mathlib.Core.Path.{_≡_, refl, sym, _∙_}
 use mathlib.Core.Bool.{Bool, true, false, cond, _&&_}
 use Prim.Native.Nat.{ℕ, _+_, _-_, _*_, _<_, _≤_}
 use native.Mathlib.Omega.{arith}
@@ -13,6 +13,8 @@ use Rattle.picture.specs.Area.{rows, firstLine, rowSize, frameSize}
 use Rattle.step.specs.declared.DrawnRow.{DrawnRow}
 use Rattle.step.specs.declared.DrawnRow.the-variants.{NoRow, Drawn}
 use Rattle.step.specs.Step.{rowOn}
+use Rattle.step.specs.Points.{RowIn}
+use Rattle.step.specs.Frame.{startOf}
 
 -- a row is drawn: its number is below the area's, and its line is known
 told : (a : RenderArea) (l y : ℕ) (t : Bool) → (leb (firstLine a) l && ltb l (firstLine a + rows a)) ≡ t → cond t (Drawn (l - firstLine a)) NoRow ≡ Drawn y → (y < rows a) × (l ≡ firstLine a + y)
@@ -50,14 +52,26 @@ pub none-after : (a : RenderArea) (l : ℕ) → firstLine a + rows a ≤ l → r
 unfolding rowOn
 none-after a l h = rw (le-ltb l (firstLine a + rows a) h) (none-by (leb (firstLine a) l) (Drawn (l - firstLine a)))
 
--- the row's part lies in the frame
-pub part-end : (a : RenderArea) (n y : ℕ) → frameSize a ≤ n → y < rows a → y * rowSize a + rowSize a ≤ n
-part-end VisibleOnly n y h k = omega arith
-part-end EffectiveArea n y h k = omega arith
+pub row-in : (a : RenderArea) (l : ℕ) {r : DrawnRow} → r ≡ rowOn a l → RowIn a r
+row-in a l e = λ y q. row-low a l y (sym e ∙ q)
 
-pub row-fits : (a : RenderArea) (n : ℕ) → frameSize a ≤ n → rowSize a ≤ n
-row-fits VisibleOnly n h = omega arith
-row-fits EffectiveArea n h = omega arith
+-- ---- a row's part of a frame: it lies in the frame, and its places are numbers of the machine
+pub row-end : (a : RenderArea) (y : ℕ) → y < rows a → y * rowSize a + rowSize a ≤ frameSize a
+row-end VisibleOnly y h = omega arith
+row-end EffectiveArea y h = omega arith
+
+pub part-end : (a : RenderArea) (r : DrawnRow) → RowIn a r → startOf a r + rowSize a ≤ frameSize a
+part-end VisibleOnly NoRow i = omega arith
+part-end EffectiveArea NoRow i = omega arith
+part-end a (Drawn y) i = row-end a y (i y refl)
+
+pub frame-small : (a : RenderArea) → frameSize a ≤ 229376
+frame-small VisibleOnly = omega arith
+frame-small EffectiveArea = omega arith
+
+pub start-small : (a : RenderArea) (y : ℕ) → y < 256 → y * rowSize a ≤ 261120
+start-small VisibleOnly y h = omega arith
+start-small EffectiveArea y h = omega arith
 
 pub frame-rows : (a : RenderArea) → frameSize a ≡ rowSize a * rows a
 frame-rows VisibleOnly = refl

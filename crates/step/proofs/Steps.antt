@@ -1,4 +1,4 @@
--- A step on a row buffer, and on a frame by the part that is lent.
+-- The five points of a step, on a row buffer and on a frame by the part that is lent.
 -- Assumes nothing.
 use mathlib.Core.Path.{_≡_, refl, sym, ap, _∙_}
 use mathlib.Core.Bool.{false, cond, _&&_, _||_}
@@ -10,7 +10,7 @@ use native.Mathlib.Omega.{arith}
 use borrow.Author.Tests.{eq-eqb, ne-eqb, le-leb, lt-leb}
 use borrow.Rule.Slice.PartMut.{midOf, postOf, putMid, put-same, mid-len, post-is}
 use lib.Bits.{bitOr, or-zero-r}
-use lib.Dec.{eqb}
+use lib.Dec.{eqb, leb}
 use lib.ListN.{length, drop, drop-of-length-le}
 use Rattle.laws.specs.Bits.{bit}
 use Rattle.laws.specs.Lists.{at, withRow}
@@ -20,23 +20,24 @@ use Rattle.picture.specs.Area.{columns, rowSize, frameSize, rowBytes, statusBit
 use Rattle.raster.specs.declared.Raster.{Raster}
 use Rattle.raster.specs.Raster.{advanced, lineInterrupt, counted}
 use Rattle.vdp.specs.declared.VdpState.{VdpState}
-use Rattle.vdp.specs.declared.Refusal.the-variants.{Accepted, VramLength, PixelLength}
 use Rattle.vdp.specs.declared.Refusal.{Refusal}
+use Rattle.vdp.specs.declared.Refusal.the-variants.{Accepted, VramLength, PixelLength}
 use Rattle.vdp.specs.declared.WriteDest.the-variants.{None}
 use Rattle.vdp.specs.declared.Latch.the-variants.{Empty}
 use Rattle.vdp.specs.Device.{device, withStatus, withRaster}
+use Rattle.vdp.specs.Refusals.{whole}
 use Rattle.step.specs.declared.VdpInt.{VdpInt}
 use Rattle.step.specs.declared.VdpInt.the-variants.{NoInterrupt, InterruptGenerated}
 use Rattle.step.specs.declared.DisplayRefresh.{DisplayRefresh}
 use Rattle.step.specs.declared.DisplayRefresh.the-variants.{NoDisplay, ScreenDone, ScreenDoneNoRefresh}
 use Rattle.step.specs.declared.DrawnRow.{DrawnRow}
 use Rattle.step.specs.declared.DrawnRow.the-variants.{NoRow, Drawn}
-use Rattle.step.specs.declared.Beat.{Beat}
+use Rattle.step.specs.declared.Points.{Points}
 use Rattle.step.specs.declared.Stepped.{Stepped}
-use Rattle.step.specs.Beat.{bitsOf, bytesOf, refusedBeat, Fed, cleaned, answer}
+use Rattle.step.specs.Points.{RowIn, bitsOf, bytesOf, refusedPoints, Reads, cleaned, joined}
 use Rattle.step.specs.Step.{register, lineOf, advance, rowOn, coloursNow, drawnBy, endScreen, reportOf, interruptOf, countLine, stepped, refusedStep, stepWith}
-use Rattle.step.specs.Frame.{drawnBytes, rowWith, frameWith, rowAfter, frameAfter, RowStepLeaves, FrameStepLeaves}
-use Rattle.step.proofs.Rows.{row-low, part-end, row-fits}
+use Rattle.step.specs.Frame.{startOf, drawnBytes, rowWith, frameWith, rowAfter, frameAfter, RowStepLeaves, FrameStepLeaves}
+use Rattle.step.proofs.Rows.{row-in, part-end}
 
 -- ---- drawing: the row's bytes, and the status bits that it sets
 module _ (a : RenderArea) (colours : List ℕ) (picture : ℕ → Row) (b : List ℕ) {row : DrawnRow} where
@@ -50,38 +51,24 @@ module _ (a : RenderArea) (colours : List ℕ) (picture : ℕ → Row) (b : List
   unfolding bitsOf bytesOf
   drawn-one y e eb es = (es ∙ rw e, eb ∙ rw e)
 
--- ---- a row buffer
-module _ (a : RenderArea) (vram : List ℕ) (d : VdpState) (b : List ℕ) where
-  pub row-refuses-8 : {r : Stepped} → length vram ≢ 16384 → r ≡ refusedStep VramLength d → RowStepLeaves a vram d b r b
-  unfolding stepWith rowAfter
-  row-refuses-8 h e = let t = ne-eqb (length vram) 16384 h in record { answer = e ∙ rw t; bytes = rw t }
+-- ---- a refused step: its answer, and the buffer b of which it needs `need` bytes and which would hold b′ after it
+module _ (need : ℕ) (a : RenderArea) (vram : List ℕ) (d : VdpState) (b b′ : List ℕ) where
+  abbrev AsItWas : Stepped → Type 0
+  AsItWas r = (r ≡ stepWith need a vram (length b) d) × (b ≡ cond (whole vram && leb need (length b)) b′ b)
 
-  module _ {w : ℕ} (mem : length vram ≡ 16384) (ew : w ≡ rowSize a) where
-    pub row-refuses-9 : {r : Stepped} → length b < w → r ≡ refusedStep PixelLength d → RowStepLeaves a vram d b r b
-    unfolding stepWith rowAfter
-    row-refuses-9 h e =
-        let t = eq-eqb (length vram) 16384 mem in
-        let u = rw ew at (lt-leb w (length b) h) in
-        record { answer = e ∙ rw (t, u); bytes = rw (t, u) }
+  refused-8 : {r : Stepped} → length vram ≢ 16384 → r ≡ refusedStep VramLength d → AsItWas r
+  unfolding stepWith
+  refused-8 h e = let t = ne-eqb (length vram) 16384 h in (e ∙ rw t, rw t)
 
-    -- points 1 to 5, each by its equation
-    pub row-steps :
-        {up shown ended last : VdpState} {l : ℕ} {row : DrawnRow} {b′ : List ℕ} {i : VdpInt} {report : DisplayRefresh}
-        → w ≤ length b → up ≡ advance d → l ≡ lineOf up → row ≡ rowOn a l
-        → shown ≡ drawnBy row a vram up → b′ ≡ rowWith row a vram up b
-        → ended ≡ endScreen shown → i ≡ interruptOf ended → report ≡ reportOf up → last ≡ countLine ended
-        → RowStepLeaves a vram d b (record { refusal = Accepted; interrupt = i; report = report; row = row; vdp = last }) b′
-    unfolding stepWith stepped rowAfter
-    row-steps h eu el er es eb ee ei ep ec =
-        let t = eq-eqb (length vram) 16384 mem in
-        let u = rw ew at (le-leb w (length b) h) in
-        record {
-          answer = rw (t, u, ei, ep, ec, ee, es, er, el, eu);
-          bytes = rw (t, u, eb, er, el, eu);
-        }
+  refused-9 : {r : Stepped} {w : ℕ} → length vram ≡ 16384 → w ≡ need → length b < w → r ≡ refusedStep PixelLength d → AsItWas r
+  unfolding stepWith
+  refused-9 {w = w} mem ew h e =
+      let t = eq-eqb (length vram) 16384 mem in
+      let u = rw ew at (lt-leb w (length b) h) in
+      (e ∙ rw (t, u), rw (t, u))
 
--- ---- the same by what a step reads and leaves of the device
-module _ (a : RenderArea) (vram : List ℕ) (d : VdpState) (b : List ℕ) where
+-- ---- the points, each as the device's own step has it: r is the row that is drawn
+module _ (a : RenderArea) (vram : List ℕ) (d : VdpState) where
   abbrev risen : Raster
   risen = advanced (register d) (d .raster)
 
@@ -91,146 +78,143 @@ module _ (a : RenderArea) (vram : List ℕ) (d : VdpState) (b : List ℕ) where
   abbrev lastStatus : DrawnRow → ℕ
   lastStatus r = cond (eqb (risen .«v_counter») 0xC1) (bitOr (bitOr (d .status) (bitsOf r pictures)) 0x80) (bitOr (d .status) (bitsOf r pictures))
 
-  settled : (r : DrawnRow) → withRaster (withStatus (cleaned r d (coloursNow d)) (lastStatus r)) (counted (register d) risen) ≡ countLine (endScreen (drawnBy r a vram (advance d)))
+  abbrev ended : DrawnRow → VdpState
+  ended r = endScreen (drawnBy r a vram (advance d))
+
+  settled : (r : DrawnRow) → withRaster (withStatus (cleaned r d (coloursNow d)) (lastStatus r)) (counted (register d) risen) ≡ countLine (ended r)
   unfolding drawnBy endScreen bitsOf
   settled NoRow = rw (or-zero-r (d .status))
   settled (Drawn y) = refl
 
-  interrupted : (r : DrawnRow) → cond ((bit (register d 1) 5 && bit (lastStatus r) 7) || lineInterrupt (register d) risen) InterruptGenerated NoInterrupt ≡ interruptOf (endScreen (drawnBy r a vram (advance d)))
+  interrupted :
+      (r : DrawnRow)
+      → cond ((bit (register d 1) 5 && bit (lastStatus r) 7) || lineInterrupt (register d) risen) InterruptGenerated NoInterrupt ≡ interruptOf (ended r)
   unfolding drawnBy endScreen bitsOf interruptOf
   interrupted NoRow = rw (or-zero-r (d .status))
   interrupted (Drawn y) = refl
 
-  filled : (r : DrawnRow) → bytesOf r a (coloursNow d) pictures b ≡ rowWith r a vram (advance d) b
+  filled : (b : List ℕ) (r : DrawnRow) → bytesOf r a (coloursNow d) pictures b ≡ rowWith r a vram (advance d) b
   unfolding bytesOf rowWith drawnBytes
-  filled NoRow = refl
-  filled (Drawn y) = refl
+  filled b NoRow = refl
+  filled b (Drawn y) = refl
 
   reported : cond (eqb (risen .«v_counter») 0xC1) (cond (bit (register d 1) 6) ScreenDone ScreenDoneNoRefresh) NoDisplay ≡ reportOf (advance d)
   unfolding reportOf
   reported = refl
 
-module _ (a : RenderArea) (vram : List ℕ) (d : VdpState) (b : List ℕ) {reg : List ℕ} {raster : Raster} {status : ℕ} {colours : List ℕ} (f : Fed d reg raster status colours) where
-  -- a refused step leaves the device
-  pub same-left : (r : Refusal) {k : Beat} → k ≡ refusedBeat r status raster → answer d k ≡ refusedStep r d
-  same-left r e = rw (e, f .bits, f .lines)
-
-  pub lines-up : {up : Raster} → up ≡ advanced (at reg) raster → up .«v_counter» ≡ lineOf (advance d)
-  lines-up e = ap (λ (x : Raster). x .«v_counter») e ∙ rw (f .registers, f .lines)
-
-  pub beat-refuses-8 : {k : Beat} → length vram ≢ 16384 → k ≡ refusedBeat VramLength status raster → RowStepLeaves a vram d b (answer d k) b
-  beat-refuses-8 h e = row-refuses-8 a vram d b h (same-left VramLength e)
-
-  module _ {w : ℕ} (mem : length vram ≡ 16384) (ew : w ≡ rowSize a) where
-    pub beat-refuses-9 : {k : Beat} → length b < w → k ≡ refusedBeat PixelLength status raster → RowStepLeaves a vram d b (answer d k) b
-    beat-refuses-9 h e = row-refuses-9 a vram d b mem ew h (same-left PixelLength e)
-
-    pub beat-steps :
-        {up after : Raster} {row : DrawnRow} {bits last : ℕ} {b′ : List ℕ} {i : VdpInt} {report : DisplayRefresh}
-        → w ≤ length b → up ≡ advanced (at reg) raster → row ≡ rowOn a (up .«v_counter»)
-        → bits ≡ bitsOf row (pictureOf a reg (up .«vertical_scroll») vram) → b′ ≡ bytesOf row a colours (pictureOf a reg (up .«vertical_scroll») vram) b
-        → last ≡ cond (eqb (up .«v_counter») 0xC1) (bitOr (bitOr status bits) 0x80) (bitOr status bits)
-        → i ≡ cond ((bit (at reg 1) 5 && bit last 7) || lineInterrupt (at reg) up) InterruptGenerated NoInterrupt
-        → report ≡ cond (eqb (up .«v_counter») 0xC1) (cond (bit (at reg 1) 6) ScreenDone ScreenDoneNoRefresh) NoDisplay → after ≡ counted (at reg) up
-        → RowStepLeaves a vram d b (answer d (record { refusal = Accepted; interrupt = i; report = report; row = row; status = last; raster = after })) b′
-    beat-steps {up} {after} {row} {bits} {last} {b′} {i} {report} h eu er es eb el ei ep ea =
-        let u : up ≡ risen a vram d b = eu ∙ rw (f .registers, f .lines) in
-        let s : bits ≡ bitsOf row (pictures a vram d b) = es ∙ rw (u, f .registers) in
-        let l : last ≡ lastStatus a vram d b row = el ∙ rw (u, f .bits, s) in
-        let g : after ≡ counted (register d) (risen a vram d b) = ea ∙ rw (u, f .registers) in
-        let v : withRaster (withStatus (cleaned row d (coloursNow d)) last) after ≡ countLine (endScreen (drawnBy row a vram (advance d))) = rw (l, g) (settled a vram d b row) in
-        let n : i ≡ interruptOf (endScreen (drawnBy row a vram (advance d))) = ei ∙ rw (f .registers, l, u) (interrupted a vram d b row) in
-        let p : report ≡ reportOf (advance d) = ep ∙ rw (u, f .registers) (reported a vram d b) in
-        let y : b′ ≡ rowWith row a vram (advance d) b = eb ∙ rw (u, f .registers, f .cache) (filled a vram d b row) in
-        row-steps a vram d b mem ew h refl refl (er ∙ rw u) refl y refl n p v
-
--- ---- a frame
-module _ (a : RenderArea) (vram : List ℕ) (d : VdpState) (f : List ℕ) where
-  pub frame-refuses-8 : {r : Stepped} → length vram ≢ 16384 → r ≡ refusedStep VramLength d → FrameStepLeaves a vram d f r f
-  unfolding stepWith frameAfter
-  frame-refuses-8 h e = let t = ne-eqb (length vram) 16384 h in record { answer = e ∙ rw t; bytes = rw t }
-
-  pub frame-refuses-9 : {r : Stepped} → length vram ≡ 16384 → length f < frameSize a → r ≡ refusedStep PixelLength d → FrameStepLeaves a vram d f r f
-  unfolding stepWith frameAfter
-  frame-refuses-9 mem h e =
+  accepted :
+      (b : List ℕ) {w : ℕ} {last : VdpState} {row : DrawnRow} {b′ : List ℕ} {i : VdpInt} {report : DisplayRefresh}
+      → length vram ≡ 16384 → w ≡ rowSize a → w ≤ length b → row ≡ rowOn a (lineOf (advance d))
+      → b′ ≡ rowWith row a vram (advance d) b → i ≡ interruptOf (ended row) → report ≡ reportOf (advance d) → last ≡ countLine (ended row)
+      → RowStepLeaves a vram d b (record { refusal = Accepted; interrupt = i; report = report; row = row; vdp = last }) b′
+  unfolding stepWith stepped rowAfter
+  accepted b {w} mem ew h er eb ei ep el =
       let t = eq-eqb (length vram) 16384 mem in
-      let u = lt-leb (frameSize a) (length f) h in
-      record { answer = e ∙ rw (t, u); bytes = rw (t, u) }
+      let u = rw ew at (le-leb w (length b) h) in
+      record { answer = rw (t, u, ei, ep, el, er); bytes = rw (t, u, eb, er) }
 
-module _ (a : RenderArea) (vram : List ℕ) (d : VdpState) (f : List ℕ) {reg : List ℕ} {raster : Raster} {status : ℕ} {colours : List ℕ} (g : Fed d reg raster status colours) where
-  pub frame-beat-8 : {k : Beat} → length vram ≢ 16384 → k ≡ refusedBeat VramLength status raster → FrameStepLeaves a vram d f (answer d k) f
-  frame-beat-8 h e = frame-refuses-8 a vram d f h (same-left a vram d f g VramLength e)
+-- ---- the points of a device that reads so
+module _ {d : VdpState} {reg : List ℕ} {raster : Raster} {status : ℕ} {colours : List ℕ} (f : Reads d reg raster status colours) where
+  -- refused ones leave the device
+  left : (r : Refusal) {k : Points} → k ≡ refusedPoints r status raster → joined d k ≡ refusedStep r d
+  left r e = rw (e, f .bits, f .lines)
 
-  pub frame-beat-9 : {k : Beat} → length vram ≡ 16384 → length f < frameSize a → k ≡ refusedBeat PixelLength status raster → FrameStepLeaves a vram d f (answer d k) f
-  frame-beat-9 mem h e = frame-refuses-9 a vram d f mem h (same-left a vram d f g PixelLength e)
+  row-is : (a : RenderArea) {up : Raster} {r : DrawnRow} → up ≡ advanced (at reg) raster → r ≡ rowOn a (up .«v_counter») → r ≡ rowOn a (lineOf (advance d))
+  row-is a eu er = er ∙ ap (λ (x : Raster). rowOn a (x .«v_counter»)) eu ∙ rw (f .registers, f .lines)
 
--- the part of the frame that is row y's, and the first row's
-abbrev pub partOf : RenderArea → ℕ → List ℕ → List ℕ
-partOf a y f = midOf (y * rowSize a) (y * rowSize a + rowSize a - y * rowSize a) f
+  module _ (a : RenderArea) (vram b : List ℕ) where
+    pub row-refuses-8 : {k : Points} → length vram ≢ 16384 → k ≡ refusedPoints VramLength status raster → RowStepLeaves a vram d b (joined d k) b
+    unfolding rowAfter
+    row-refuses-8 h e = let p = refused-8 (rowSize a) a vram d b _ h (left VramLength e) in record { answer = p .0; bytes = p .1 }
 
-abbrev pub firstPart : RenderArea → List ℕ → List ℕ
-firstPart a f = midOf 0 (rowSize a - 0) f
+    pub frame-refuses-8 : {k : Points} → length vram ≢ 16384 → k ≡ refusedPoints VramLength status raster → FrameStepLeaves a vram d b (joined d k) b
+    unfolding frameAfter
+    frame-refuses-8 h e = let p = refused-8 (frameSize a) a vram d b _ h (left VramLength e) in record { answer = p .0; bytes = p .1 }
+
+    module _ {w : ℕ} (mem : length vram ≡ 16384) where
+      pub row-refuses-9 : {k : Points} → w ≡ rowSize a → length b < w → k ≡ refusedPoints PixelLength status raster → RowStepLeaves a vram d b (joined d k) b
+      unfolding rowAfter
+      row-refuses-9 ew h e = let p = refused-9 (rowSize a) a vram d b _ mem ew h (left PixelLength e) in record { answer = p .0; bytes = p .1 }
+
+      pub frame-refuses-9 : {k : Points} → w ≡ frameSize a → length b < w → k ≡ refusedPoints PixelLength status raster → FrameStepLeaves a vram d b (joined d k) b
+      unfolding frameAfter
+      frame-refuses-9 ew h e = let p = refused-9 (frameSize a) a vram d b _ mem ew h (left PixelLength e) in record { answer = p .0; bytes = p .1 }
+
+      pub row-accepts :
+          {up after : Raster} {row : DrawnRow} {bits last : ℕ} {b′ : List ℕ} {i : VdpInt} {report : DisplayRefresh}
+          → w ≡ rowSize a → w ≤ length b → up ≡ advanced (at reg) raster → row ≡ rowOn a (up .«v_counter»)
+          → bits ≡ bitsOf row (pictureOf a reg (up .«vertical_scroll») vram) → b′ ≡ bytesOf row a colours (pictureOf a reg (up .«vertical_scroll») vram) b
+          → last ≡ cond (eqb (up .«v_counter») 0xC1) (bitOr (bitOr status bits) 0x80) (bitOr status bits)
+          → i ≡ cond ((bit (at reg 1) 5 && bit last 7) || lineInterrupt (at reg) up) InterruptGenerated NoInterrupt
+          → report ≡ cond (eqb (up .«v_counter») 0xC1) (cond (bit (at reg 1) 6) ScreenDone ScreenDoneNoRefresh) NoDisplay → after ≡ counted (at reg) up
+          → RowStepLeaves a vram d b (joined d (record { refusal = Accepted; interrupt = i; report = report; row = row; status = last; raster = after })) b′
+      row-accepts {up} {after} {row} {bits} {last} {b′} {i} {report} ew h eu er es eb el ei ep ea =
+          let u : up ≡ risen a vram d = eu ∙ rw (f .registers, f .lines) in
+          let s : bits ≡ bitsOf row (pictures a vram d) = es ∙ rw (u, f .registers) in
+          let l : last ≡ lastStatus a vram d row = el ∙ rw (u, f .bits, s) in
+          let g : after ≡ counted (register d) (risen a vram d) = ea ∙ rw (u, f .registers) in
+          let v : withRaster (withStatus (cleaned row d (coloursNow d)) last) after ≡ countLine (ended a vram d row) = rw (l, g) (settled a vram d row) in
+          let n : i ≡ interruptOf (ended a vram d row) = ei ∙ rw (f .registers, l, u) (interrupted a vram d row) in
+          let p : report ≡ reportOf (advance d) = ep ∙ rw (u, f .registers) (reported a vram d) in
+          let y : b′ ≡ rowWith row a vram (advance d) b = eb ∙ rw (u, f .registers, f .cache) (filled a vram d b row) in
+          accepted a vram d b mem ew h (row-is a eu er) y n p v
+
+-- ---- a frame, by the part of it that is lent
+abbrev pub partOf : RenderArea → DrawnRow → List ℕ → List ℕ
+partOf a r f = midOf (startOf a r) (startOf a r + rowSize a - startOf a r) f
+
+module _ (a : RenderArea) (vram : List ℕ) (d : VdpState) (f : List ℕ) (mem : length vram ≡ 16384) (size : frameSize a ≤ length f) where
+  -- a row's bytes are enough for the row step, as the frame's are for the frame step
+  answered : {n : ℕ} {s : Stepped} → n ≡ rowSize a → s ≡ stepWith (rowSize a) a vram n d → s ≡ stepWith (frameSize a) a vram (length f) d
+  unfolding stepWith
+  answered {n} h e = let k : rowSize a ≤ n = omega arith in e ∙ rw (le-leb (rowSize a) n k, le-leb (frameSize a) (length f) size)
+
+  part-length : (r : DrawnRow) → RowIn a r → length (partOf a r f) ≡ rowSize a
+  part-length r i = mid-len (startOf a r) (startOf a r + rowSize a) f (omega (arith, part-end a r i)) ∙ omega arith
+
+  -- the part put back as the row step leaves it
+  placed :
+      (r : DrawnRow) {ys : List ℕ} → length (partOf a r f) ≡ rowSize a → ys ≡ rowWith r a vram (advance d) (partOf a r f)
+      → putMid (startOf a r) (startOf a r + rowSize a - startOf a r) f ys ≡ frameWith r a vram (advance d) f
+  unfolding rowWith frameWith withRow
+  placed NoRow n p = rw p (put-same 0 (0 + rowSize a - 0) f)
+  placed (Drawn y) {ys} n p =
+      let k : length (partOf a (Drawn y) f) ≤ rowSize a = omega arith in
+      let q : ys ≡ drawnBytes a vram (advance d) y = p ∙ rw (drop-of-length-le (partOf a (Drawn y) f) k) (append-nil (drawnBytes a vram (advance d) y)) in
+      let z : postOf (y * rowSize a) (y * rowSize a + rowSize a - y * rowSize a) f ≡ drop (y * rowSize a + rowSize a) f =
+      post-is (y * rowSize a) (y * rowSize a + rowSize a) f (omega arith) in
+      rw (q, z, mul-comm (rowSize a) y)
+
+  lent :
+      (r : DrawnRow) {s : Stepped} {ys : List ℕ} → r ≡ rowOn a (lineOf (advance d)) → RowStepLeaves a vram d (partOf a r f) s ys
+      → FrameStepLeaves a vram d f s (putMid (startOf a r) (startOf a r + rowSize a - startOf a r) f ys)
+  unfolding rowAfter frameAfter
+  lent r {s} {ys} er e =
+      let n : length (partOf a r f) ≡ rowSize a = part-length r (row-in a (lineOf (advance d)) er) in
+      let h : rowSize a ≤ length (partOf a r f) = omega arith in
+      let t = eq-eqb (length vram) 16384 mem in
+      let p : ys ≡ rowWith r a vram (advance d) (partOf a r f) = e .bytes ∙ rw (t, le-leb (rowSize a) (length (partOf a r f)) h, sym er) in
+      record { answer = answered n (e .answer); bytes = rw (t, le-leb (frameSize a) (length f) size, sym er) (placed r n p) }
 
 module _
-    (a : RenderArea) (vram : List ℕ) (d : VdpState) (f : List ℕ) (mem : length vram ≡ 16384) (size : frameSize a ≤ length f)
-    {up : VdpState} {l : ℕ} {r : DrawnRow} (eu : up ≡ advance d) (el : l ≡ lineOf up) (er : r ≡ rowOn a l)
+    {d : VdpState} {reg : List ℕ} {raster : Raster} {status : ℕ} {colours : List ℕ} (g : Reads d reg raster status colours)
+    (a : RenderArea) (vram f : List ℕ) {n s w : ℕ} {up : Raster} {r : DrawnRow}
+    (mem : length vram ≡ 16384) (en : n ≡ frameSize a) (h : n ≤ length f) (eu : up ≡ advanced (at reg) raster) (er : r ≡ rowOn a (up .«v_counter»))
+    (es : s ≡ startOf a r) (ew : w ≡ rowSize a)
   where
-    row-is : {r′ : DrawnRow} → r ≡ r′ → rowOn a (lineOf (advance d)) ≡ r′
-    row-is e = rw (← eu, ← el, ← er) e
+    pub frame-accepts : {k : Stepped} {ys : List ℕ} → RowStepLeaves a vram d (midOf s (s + w - s) f) k ys → FrameStepLeaves a vram d f k (putMid s (s + w - s) f ys)
+    frame-accepts e = rw (es, ew) (lent a vram d f mem (omega arith) r (row-is g a eu er) (rw (es, ew) at e))
 
-    -- a row's bytes are enough for the row step, as the frame's are for the frame step
-    answered : {n : ℕ} {s : Stepped} → n ≡ rowSize a → s ≡ stepWith (rowSize a) a vram n d → s ≡ stepWith (frameSize a) a vram (length f) d
-    unfolding stepWith
-    answered {n} h e = let k : rowSize a ≤ n = omega arith in e ∙ rw (le-leb (rowSize a) n k, le-leb (frameSize a) (length f) size)
+-- ---- a device that reads as these registers, raster, status and colours
+abbrev pub readAs : List ℕ → Raster → ℕ → List ℕ → VdpState
+readAs reg raster status colours = device status reg raster 0 0 None [] Empty Empty false colours
 
-    module _ (y : ℕ) (ey : r ≡ Drawn y) where
-      part-length : length (partOf a y f) ≡ rowSize a
-      part-length = mid-len (y * rowSize a) (y * rowSize a + rowSize a) f (part-end a (length f) y size (row-low a l y (sym er ∙ ey))) ∙ omega arith
+pub reads-so : (reg : List ℕ) (raster : Raster) (status : ℕ) (colours : List ℕ) → Reads (readAs reg raster status colours) reg raster status colours
+reads-so reg raster status colours = record { registers = refl; lines = refl; bits = refl; cache = refl }
 
-      put-in : {ys : List ℕ} → ys ≡ rowAfter a vram d (partOf a y f) → putMid (y * rowSize a) (y * rowSize a + rowSize a - y * rowSize a) f ys ≡ frameAfter a vram d f
-      unfolding rowAfter frameAfter rowWith frameWith withRow
-      put-in {ys} e =
-          let n : length (partOf a y f) ≡ rowSize a = part-length in
-          let h : rowSize a ≤ length (partOf a y f) = omega arith in
-          let k : length (partOf a y f) ≤ rowSize a = omega arith in
-          let t = eq-eqb (length vram) 16384 mem in
-          let p : ys ≡ drawnBytes a vram (advance d) y =
-          e ∙ rw (t, le-leb (rowSize a) (length (partOf a y f)) h, row-is ey, drop-of-length-le (partOf a y f) k) (append-nil (drawnBytes a vram (advance d) y)) in
-          let q : postOf (y * rowSize a) (y * rowSize a + rowSize a - y * rowSize a) f ≡ drop (y * rowSize a + rowSize a) f =
-          post-is (y * rowSize a) (y * rowSize a + rowSize a) f (omega arith) in
-          rw (p, q, t, le-leb (frameSize a) (length f) size, row-is ey, mul-comm (rowSize a) y)
-
-      pub frame-drawn :
-          {s : Stepped} {ys : List ℕ} → RowStepLeaves a vram d (partOf a y f) s ys
-          → FrameStepLeaves a vram d f s (putMid (y * rowSize a) (y * rowSize a + rowSize a - y * rowSize a) f ys)
-      frame-drawn e = record { answer = answered part-length (e .answer); bytes = put-in (e .bytes) }
-
-    first-length : length (firstPart a f) ≡ rowSize a
-    first-length = mid-len 0 (rowSize a) f (row-fits a (length f) size) ∙ omega arith
-
-    left-as-it-is : r ≡ NoRow → {ys : List ℕ} → ys ≡ rowAfter a vram d (firstPart a f) → putMid 0 (rowSize a - 0) f ys ≡ frameAfter a vram d f
-    unfolding rowAfter frameAfter rowWith frameWith
-    left-as-it-is e {ys} q =
-        let n : length (firstPart a f) ≡ rowSize a = first-length in
-        let h : rowSize a ≤ length (firstPart a f) = omega arith in
-        let t = eq-eqb (length vram) 16384 mem in
-        let p : ys ≡ firstPart a f = q ∙ rw (t, le-leb (rowSize a) (length (firstPart a f)) h, row-is e) in
-        rw (p, t, le-leb (frameSize a) (length f) size, row-is e) (put-same 0 (rowSize a - 0) f)
-
-    pub frame-undrawn :
-        r ≡ NoRow → {s : Stepped} {ys : List ℕ} → RowStepLeaves a vram d (firstPart a f) s ys → FrameStepLeaves a vram d f s (putMid 0 (rowSize a - 0) f ys)
-    frame-undrawn e q = record { answer = answered first-length (q .answer); bytes = left-as-it-is e (q .bytes) }
-
--- ---- a device that has these registers, raster, status and colours
-abbrev pub feeding : List ℕ → Raster → ℕ → List ℕ → VdpState
-feeding reg raster status colours = device status reg raster 0 0 None [] Empty Empty false colours
-
-pub feeding-fed : (reg : List ℕ) (raster : Raster) (status : ℕ) (colours : List ℕ) → Fed (feeding reg raster status colours) reg raster status colours
-feeding-fed reg raster status colours = record { registers = refl; lines = refl; bits = refl; cache = refl }
-
--- a step of one device leaves one answer
-pub same-beat : (d : VdpState) {k k′ : Beat} → answer d k ≡ answer d k′ → k ≡ k′
-same-beat d {k} {k′} e =
+-- of one device's answer there is one `Points`
+pub same-points : (d : VdpState) {k k′ : Points} → joined d k ≡ joined d k′ → k ≡ k′
+same-points d {k} {k′} e =
     λ i. record {
       refusal = e i .refusal;
       interrupt = e i .interrupt;

@@ -12,20 +12,18 @@ use Rattle.picture.specs.declared.RenderArea.{RenderArea}
 use Rattle.picture.specs.Area.{rows, rowSize, frameSize}
 use Rattle.step.specs.Frame.{rowView}
 
-module _ (f : List ℕ) {a : RenderArea} (y : ℕ) where
-  pub seen :
-      {v : RenderArea} → a ≡ v → y < rows v → frameSize v ≤ length f
-      → take (y * rowSize v + rowSize v - y * rowSize v) (drop (y * rowSize v) f) ≡ rowView f a y
-  unfolding rowView rowOf
-  seen {v} e h k =
-      let w : ℕ = rowSize v in
-      let n : y * w + w - y * w ≡ w = omega arith in
-      rw (e, lt-ltb y (rows v) h, le-leb (frameSize v) (length f) k, mul-comm (rowSize v) y, n)
-
-  pub no-row : {v : RenderArea} → a ≡ v → rows v ≤ y → [] ≡ rowView f a y
+module _ (f : List ℕ) (a : RenderArea) (y : ℕ) {n : ℕ} (en : n ≡ rows a) where
+  pub no-row : n ≤ y → [] ≡ rowView f a y
   unfolding rowView
-  no-row {v} e h = rw (e, le-ltb y (rows v) h)
+  no-row h = rw (le-ltb y (rows a) (omega arith))
 
-  pub no-frame : {v : RenderArea} → a ≡ v → y < rows v → length f < frameSize v → [] ≡ rowView f a y
-  unfolding rowView
-  no-frame {v} e h k = rw (e, lt-ltb y (rows v) h, lt-leb (frameSize v) (length f) k)
+  module _ {m : ℕ} (h : y < n) (em : m ≡ frameSize a) where
+    pub no-frame : length f < m → [] ≡ rowView f a y
+    unfolding rowView
+    no-frame k = rw (lt-ltb y (rows a) (omega arith), lt-leb (frameSize a) (length f) (omega arith))
+
+    pub seen : {w : ℕ} → w ≡ rowSize a → m ≤ length f → take (y * w + w - y * w) (drop (y * w) f) ≡ rowView f a y
+    unfolding rowView rowOf
+    seen {w} ew k =
+        let z : y * rowSize a + rowSize a - y * rowSize a ≡ rowSize a = omega arith in
+        rw (ew, lt-ltb y (rows a) (omega arith), le-leb (frameSize a) (length f) (omega arith), z, mul-comm (rowSize a) y)

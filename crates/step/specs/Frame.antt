@@ -3,7 +3,7 @@
 use mathlib.Core.Path.{_≡_}
 use mathlib.Core.Bool.{cond, _&&_}
 use mathlib.Core.List.{List, [], _++_}
-use Prim.Native.Nat.{ℕ}
+use Prim.Native.Nat.{ℕ, _*_}
 use lib.Dec.{ltb, leb}
 use lib.ListN.{length, drop}
 use Rattle.laws.specs.Lists.{rowOf, withRow}
@@ -29,6 +29,11 @@ rowWith (Drawn y) a vram d buffer = drawnBytes a vram d y ++ drop (rowSize a) bu
 unfoldable pub frameWith : DrawnRow → RenderArea → List ℕ → VdpState → List ℕ → List ℕ
 frameWith NoRow a vram d frame = frame
 frameWith (Drawn y) a vram d frame = withRow (rowSize a) y (drawnBytes a vram d y) frame
+
+-- where the row's part of a frame starts; with no row, the first row's
+abbrev pub startOf : RenderArea → DrawnRow → ℕ
+startOf a NoRow = 0
+startOf a (Drawn y) = y * rowSize a
 
 -- the buffer and the frame that a step leaves, refused or not
 unfoldable pub rowAfter : RenderArea → List ℕ → VdpState → List ℕ → List ℕ

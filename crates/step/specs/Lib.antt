@@ -1,5 +1,5 @@
 -- What the contracts of `step` cite.
 pub mod Step
-pub mod Beat
+pub mod Points
 pub mod Frame
 pub mod Dump

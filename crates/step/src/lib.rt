@@ -1,4 +1,5 @@
-// The step: into a row buffer, or into a frame of which it lends one row. And the view of a frame's row, and the dump of all tiles.
+// The step: its five points by what they read and leave of a device, and the step of a whole device, into a row buffer or into a frame of which it lends one row.
+// And the view of a frame's row, and the dump of all tiles.
 ghost use mathlib.Core.Path.{_≡_};
 ghost use mathlib.Core.Bool.{cond, _&&_, _||_};
 ghost use Prim.Native.Nat.{_≤_};
@@ -8,16 +9,15 @@ ghost use lib.ListN.{length};
 ghost use Rattle.laws.specs.Bits.{bit};
 ghost use Rattle.laws.specs.Lists.{at};
 ghost use Rattle.colour.specs.Colour.{coloursOf};
-ghost use Rattle.picture.specs.Area.{rowSize, pictureOf};
-ghost use Rattle.picture.specs.declared.RenderArea.the-variants.{VisibleOnly, EffectiveArea};
+ghost use Rattle.picture.specs.Area.{rows, rowSize, frameSize, pictureOf};
 ghost use Rattle.raster.specs.Raster.{lineInterrupt};
 ghost use Rattle.vdp.specs.declared.VdpState.{VdpState};
 ghost use Rattle.step.specs.declared.VdpInt.the-variants.{NoInterrupt, InterruptGenerated};
 ghost use Rattle.step.specs.declared.DisplayRefresh.the-variants.{NoDisplay, ScreenDone, ScreenDoneNoRefresh};
 ghost use Rattle.step.specs.Step.{rowOn, coloursNow};
-ghost use Rattle.step.specs.Beat.{RowIn, bitsOf, bytesOf, refusedBeat, Fed, answer, cleaned};
+ghost use Rattle.step.specs.Points.{RowIn, bitsOf, bytesOf, refusedPoints, Reads, cleaned, joined};
 ghost use Rattle.step.specs.Dump.{DumpLeaves};
-ghost use Rattle.step.specs.Frame.{RowStepLeaves, FrameStepLeaves, rowView};
+ghost use Rattle.step.specs.Frame.{startOf, RowStepLeaves, FrameStepLeaves, rowView};
 use picture::RenderArea;
 use raster::Raster;
 use vdp::Refusal;
@@ -42,8 +42,8 @@ pub enum DrawnRow {
     Drawn(u8),
 }
 
-// What a step answers, with all that it leaves of a device but the colours.
-pub struct Beat {
+// What the five points of a step answer, and what they leave of status and raster.
+pub struct Points {
     pub refusal: Refusal,
     pub interrupt: VdpInt,
     pub report: DisplayRefresh,
@@ -147,16 +147,26 @@ fn interrupt_of(reg: [u8; 11], status: u8, raster: Raster) -> VdpInt
 }
 
 // A refused step: no interrupt, no display report, no row, and all unchanged.
-fn refused(refusal: Refusal, status: u8, raster: Raster) -> Beat
-    ensures { λ r. ⌜ r ≡ refusedBeat refusal status raster ⌝ }
+fn refused(refusal: Refusal, status: u8, raster: Raster) -> Points
+    ensures { λ r. ⌜ r ≡ refusedPoints refusal status raster ⌝ }
 {
-    Beat {
+    Points {
         refusal: refusal,
         interrupt: VdpInt::NoInterrupt,
         report: DisplayRefresh::NoDisplay,
         row: DrawnRow::NoRow,
         status: status,
         raster: raster,
+    }
+}
+
+// How many rows a frame has, the bytes of a row and of a frame, and where a row's part of a frame starts (with no row, the first row's).
+fn row_count(area: RenderArea) -> usize
+    ensures { λ r. ⌜ r ≡ rows area ⌝ }
+{
+    match area {
+        RenderArea::VisibleOnly => 144,
+        RenderArea::EffectiveArea => 224,
     }
 }
 
@@ -169,8 +179,26 @@ fn row_size(area: RenderArea) -> usize
     }
 }
 
-// A step of any device with these registers, raster, status and colours, whose row goes to the first bytes of the row buffer.
-pub fn row_beat(
+fn frame_size(area: RenderArea) -> usize
+    ensures { λ r. ⌜ r ≡ frameSize area ⌝ }
+{
+    match area {
+        RenderArea::VisibleOnly => 92160,
+        RenderArea::EffectiveArea => 229376,
+    }
+}
+
+fn start_of(area: RenderArea, row: DrawnRow) -> usize
+    ensures { λ r. ⌜ r ≡ startOf area row ⌝ }
+{
+    match row {
+        DrawnRow::NoRow => 0,
+        DrawnRow::Drawn(y) => (y as usize) * row_size(area),
+    }
+}
+
+// Points 1 to 5 of a step of any device that has these registers, raster, status and colours; the row goes to the first bytes of the row buffer.
+pub fn row_points(
     reg: [u8; 11],
     raster: Raster,
     status: u8,
@@ -178,8 +206,8 @@ pub fn row_beat(
     vram: &[u8],
     row: &mut [u8],
     area: RenderArea,
-) -> Beat
-    ensures { λ r. ⌜ ((d : VdpState) → Fed d reg raster status (now (colours .entry)) → RowStepLeaves area (now (vram .entry)) d (now (row .entry)) (answer d r) (now (row .exit))) ⌝ }
+) -> Points
+    ensures { λ r. ⌜ ((d : VdpState) → Reads d reg raster status (now (colours .entry)) → RowStepLeaves area (now (vram .entry)) d (now (row .entry)) (joined d r) (now (row .exit))) ⌝ }
 {
     if vram.len() != 16384 {
         return refused(Refusal::VramLength, status, raster);
@@ -193,7 +221,7 @@ pub fn row_beat(
     let drawn = row_on(area, line);
     let bits = draw(reg, up.vertical_scroll, colours, vram, row, area, drawn);
     let last = ended(status | bits, line);
-    Beat {
+    Points {
         refusal: Refusal::Accepted,
         interrupt: interrupt_of(reg, last, up),
         report: report_of(reg, line),
@@ -203,89 +231,8 @@ pub fn row_beat(
     }
 }
 
-// A step on a frame, which lends the row's part of it to the row step; with no row to draw, the first row's, which that leaves as it is.
-fn visible_beat(
-    reg: [u8; 11],
-    raster: Raster,
-    status: u8,
-    colours: &[u32; 32],
-    vram: &[u8],
-    frame: &mut [u8],
-) -> Beat
-    requires { ⌜ (length (now vram) ≡ 16384) × (92160 ≤ length (now frame)) ⌝ }
-    ensures { λ r. ⌜ ((d : VdpState) → Fed d reg raster status (now (colours .entry)) → FrameStepLeaves VisibleOnly (now (vram .entry)) d (now (frame .entry)) (answer d r) (now (frame .exit))) ⌝ }
-{
-    let up = raster.advance(reg);
-    let drawn = row_on(RenderArea::VisibleOnly, up.v_counter);
-    match drawn {
-        DrawnRow::Drawn(y) => {
-            let row = y as usize;
-            let a = row * 640;
-            let e = a + 640;
-            row_beat(
-                reg,
-                raster,
-                status,
-                colours,
-                vram,
-                &mut frame[a..e],
-                RenderArea::VisibleOnly,
-            )
-        }
-        DrawnRow::NoRow => row_beat(
-            reg,
-            raster,
-            status,
-            colours,
-            vram,
-            &mut frame[0..640],
-            RenderArea::VisibleOnly,
-        ),
-    }
-}
-
-fn effective_beat(
-    reg: [u8; 11],
-    raster: Raster,
-    status: u8,
-    colours: &[u32; 32],
-    vram: &[u8],
-    frame: &mut [u8],
-) -> Beat
-    requires { ⌜ (length (now vram) ≡ 16384) × (229376 ≤ length (now frame)) ⌝ }
-    ensures { λ r. ⌜ ((d : VdpState) → Fed d reg raster status (now (colours .entry)) → FrameStepLeaves EffectiveArea (now (vram .entry)) d (now (frame .entry)) (answer d r) (now (frame .exit))) ⌝ }
-{
-    let up = raster.advance(reg);
-    let drawn = row_on(RenderArea::EffectiveArea, up.v_counter);
-    match drawn {
-        DrawnRow::Drawn(y) => {
-            let row = y as usize;
-            let a = row * 1024;
-            let e = a + 1024;
-            row_beat(
-                reg,
-                raster,
-                status,
-                colours,
-                vram,
-                &mut frame[a..e],
-                RenderArea::EffectiveArea,
-            )
-        }
-        DrawnRow::NoRow => row_beat(
-            reg,
-            raster,
-            status,
-            colours,
-            vram,
-            &mut frame[0..1024],
-            RenderArea::EffectiveArea,
-        ),
-    }
-}
-
-// A step of any such device on a whole frame.
-pub fn frame_beat(
+// The points on a frame: the row's part of it is lent; with no row to draw, the first row's, which stays as it is.
+pub fn frame_points(
     reg: [u8; 11],
     raster: Raster,
     status: u8,
@@ -293,26 +240,21 @@ pub fn frame_beat(
     vram: &[u8],
     frame: &mut [u8],
     area: RenderArea,
-) -> Beat
-    ensures { λ r. ⌜ ((d : VdpState) → Fed d reg raster status (now (colours .entry)) → FrameStepLeaves area (now (vram .entry)) d (now (frame .entry)) (answer d r) (now (frame .exit))) ⌝ }
+) -> Points
+    ensures { λ r. ⌜ ((d : VdpState) → Reads d reg raster status (now (colours .entry)) → FrameStepLeaves area (now (vram .entry)) d (now (frame .entry)) (joined d r) (now (frame .exit))) ⌝ }
 {
     if vram.len() != 16384 {
         return refused(Refusal::VramLength, status, raster);
     }
-    match area {
-        RenderArea::VisibleOnly => {
-            if frame.len() < 92160 {
-                return refused(Refusal::PixelLength, status, raster);
-            }
-            visible_beat(reg, raster, status, colours, vram, frame)
-        }
-        RenderArea::EffectiveArea => {
-            if frame.len() < 229376 {
-                return refused(Refusal::PixelLength, status, raster);
-            }
-            effective_beat(reg, raster, status, colours, vram, frame)
-        }
+    let need = frame_size(area);
+    if frame.len() < need {
+        return refused(Refusal::PixelLength, status, raster);
     }
+    let up = raster.advance(reg);
+    let drawn = row_on(area, up.v_counter);
+    let a = start_of(area, drawn);
+    let e = a + row_size(area);
+    row_points(reg, raster, status, colours, vram, &mut frame[a..e], area)
 }
 
 // The device after a step that drew this row: clean colours, if it drew one.
@@ -325,18 +267,18 @@ fn cleaned(vdp: VdpState, row: DrawnRow, colours: [u32; 32]) -> VdpState
     }
 }
 
-// The answer of a device's step, with the device after it.
-fn answer(vdp: VdpState, beat: Beat, colours: [u32; 32]) -> Stepped
+// The answer of the device's own step, from what the points answer and leave.
+fn joined(vdp: VdpState, points: Points, colours: [u32; 32]) -> Stepped
     requires { ⌜ colours ≡ coloursNow vdp ⌝ }
-    ensures { λ r. ⌜ r ≡ answer vdp beat ⌝ }
+    ensures { λ r. ⌜ r ≡ joined vdp points ⌝ }
 {
-    let refusal = beat.refusal;
-    let interrupt = beat.interrupt;
-    let report = beat.report;
-    let row = beat.row;
-    let raster = beat.raster;
+    let refusal = points.refusal;
+    let interrupt = points.interrupt;
+    let report = points.report;
+    let row = points.row;
+    let raster = points.raster;
     let mut next = cleaned(vdp, row, colours);
-    next.status = beat.status;
+    next.status = points.status;
     Stepped {
         refusal: refusal,
         interrupt: interrupt,
@@ -353,8 +295,8 @@ pub fn row_step(vdp: VdpState, vram: &[u8], row: &mut [u8], area: RenderArea) ->
     let reg = vdp.reg;
     let raster = vdp.raster;
     let colours = colours_of(vdp, vdp.cram_dirty);
-    let beat = row_beat(reg, raster, vdp.status, &colours, vram, row, area);
-    answer(vdp, beat, colours)
+    let points = row_points(reg, raster, vdp.status, &colours, vram, row, area);
+    joined(vdp, points, colours)
 }
 
 // A step on a whole frame.
@@ -364,38 +306,24 @@ pub fn frame_step(vdp: VdpState, vram: &[u8], frame: &mut [u8], area: RenderArea
     let reg = vdp.reg;
     let raster = vdp.raster;
     let colours = colours_of(vdp, vdp.cram_dirty);
-    let beat = frame_beat(reg, raster, vdp.status, &colours, vram, frame, area);
-    answer(vdp, beat, colours)
+    let points = frame_points(reg, raster, vdp.status, &colours, vram, frame, area);
+    joined(vdp, points, colours)
 }
 
 // A row of a frame, as a part of the caller's own frame; the empty part where it does not fit.
 pub fn row_view<'a>(frame: &'a [u8], area: RenderArea, row: usize) -> &'a [u8]
     ensures { λ r. ⌜ now r ≡ rowView (now (frame .entry)) area row ⌝ }
 {
-    match area {
-        RenderArea::VisibleOnly => {
-            if 144 <= row {
-                return &frame[0..0];
-            }
-            if frame.len() < 92160 {
-                return &frame[0..0];
-            }
-            let start = row * 640;
-            let end = start + 640;
-            &frame[start..end]
-        }
-        RenderArea::EffectiveArea => {
-            if 224 <= row {
-                return &frame[0..0];
-            }
-            if frame.len() < 229376 {
-                return &frame[0..0];
-            }
-            let start = row * 1024;
-            let end = start + 1024;
-            &frame[start..end]
-        }
+    if row_count(area) <= row {
+        return &frame[0..0];
     }
+    if frame.len() < frame_size(area) {
+        return &frame[0..0];
+    }
+    let size = row_size(area);
+    let start = row * size;
+    let end = start + size;
+    &frame[start..end]
 }
 
 // All tiles, side by side. It draws with the cache as it stands, and leaves the device.

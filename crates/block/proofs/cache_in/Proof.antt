@@ -1,5 +1,4 @@
 use borrow.Author.Needs.{needs}
-use mathlib.Core.Path.{_≡_, refl, sym, ap, _∙_}
 use Rattle.block.specs.Block.{stateOf}
 use Rattle.block.proofs.cache_in.Statement.{statement}
 use Rattle.block.proofs.cache_in.Tie as tie

@@ -1,5 +1,4 @@
 use borrow.Author.Needs.{needs}
-use mathlib.Core.Path.{_≡_, refl, sym, ap, _∙_}
 use Rattle.block.proofs.Stores.{palette-is}
 use Rattle.block.proofs.palette_in.Statement.{statement}
 use Rattle.block.proofs.palette_in.Tie as tie

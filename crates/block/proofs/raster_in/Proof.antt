@@ -1,5 +1,5 @@
 use borrow.Author.Needs.{needs}
-use mathlib.Core.Path.{_≡_, refl, sym, ap, _∙_}
+use mathlib.Core.Path.{refl}
 use Rattle.block.specs.Block.{stateOf}
 use Rattle.block.proofs.raster_in.Statement.{statement}
 use Rattle.block.proofs.raster_in.Tie as tie

@@ -1,5 +1,4 @@
 use borrow.Author.Needs.{needs}
-use mathlib.Core.Path.{_≡_, refl, sym, ap, _∙_}
 use Rattle.block.proofs.Stores.{registers-are}
 use Rattle.block.proofs.registers.Statement.{statement}
 use Rattle.block.proofs.registers.Tie as tie

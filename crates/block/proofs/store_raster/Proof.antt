@@ -1,9 +1,6 @@
 use borrow.Author.Needs.{needs}
-use mathlib.Core.Path.{_≡_, refl, sym, ap, _∙_}
 use native.Mathlib.Omega.{arith}
-use mathlib.Core.List.{List}
-use Prim.Native.Nat.{ℕ}
-use lib.ListN.{length-set, set}
+use lib.ListN.{length-set}
 use Rattle.block.proofs.store_raster.Statement.{statement}
 use Rattle.block.proofs.store_raster.Tie as tie
 use Rattle.block.proofs.store_raster.Reads as reads

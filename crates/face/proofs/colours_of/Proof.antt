@@ -1,7 +1,7 @@
 use borrow.Author.Needs.{needs}
-use mathlib.Core.Path.{_≡_, refl, sym, ap, _∙_}
-use borrow.Author.Tests.{eq-eqb, ne-eqb, not-true, not-false}
-use Rattle.block.specs.Block.{stateOf, blockOf}
+use mathlib.Core.Path.{ap, _∙_}
+use borrow.Author.Tests.{eq-eqb, ne-eqb}
+use Rattle.block.specs.Block.{stateOf}
 use Rattle.colour.specs.Colour.{coloursOf}
 use Rattle.face.proofs.colours_of.Statement.{statement}
 use Rattle.face.proofs.colours_of.Tie as tie

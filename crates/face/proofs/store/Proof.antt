@@ -1,9 +1,6 @@
 use borrow.Author.Needs.{needs}
-use mathlib.Core.Path.{_≡_, refl, sym, ap, _∙_}
-use mathlib.Core.List.{List}
-use Prim.Native.Nat.{ℕ}
-use Rattle.block.specs.Block.{blockOf, Sized}
-use Rattle.step.specs.Beat.{cleaned}
+use mathlib.Core.Path.{_∙_}
+use Rattle.step.specs.Points.{cleaned}
 use Rattle.step.specs.Step.{coloursNow}
 use Rattle.block.proofs.Stores.{raster-stored}
 use Rattle.face.proofs.Laws.{cleaned-sized}
@@ -31,9 +28,9 @@ returns : tie.Need-returns
 returns c =
     λ s g k e.
     let a = c .before .before .before .before .before .before .before .before .before .before .args in
-    let r = a .beat .row in
+    let r = a .points .row in
     let h = rw k at (c .before .before .before .before .before .before .store-colours .ensures s g e) in
-    c .before .before .store-raster .ensures ∙ raster-stored (cleaned r s (coloursNow s)) (cleaned-sized r s (coloursNow s) g) _ (a .beat .status) (a .beat .raster) h
+    c .before .before .store-raster .ensures ∙ raster-stored (cleaned r s (coloursNow s)) (cleaned-sized r s (coloursNow s) g) _ (a .points .status) (a .points .raster) h
 
 pub store-spec : {M : Type 1} → statement M
 store-spec = tie.close (tie.spec store-colours-requires store-raster-requires same-length returns)

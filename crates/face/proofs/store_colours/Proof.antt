@@ -1,5 +1,5 @@
 use borrow.Author.Needs.{needs}
-use mathlib.Core.Path.{_≡_, refl, sym, ap, _∙_}
+use mathlib.Core.Path.{_∙_}
 use Rattle.block.proofs.Stores.{cache-stored}
 use Rattle.face.proofs.store_colours.Statement.{statement}
 use Rattle.face.proofs.store_colours.Tie as tie

@@ -1,14 +1,9 @@
 use borrow.Author.Needs.{needs}
-use mathlib.Core.Path.{_≡_, refl, sym, ap, _∙_}
-use borrow.Author.Tests.{eq-eqb, ne-eqb, not-true, not-false}
+use mathlib.Core.Path.{refl, sym, _∙_}
+use borrow.Author.Tests.{not-true, not-false}
 use native.Mathlib.Omega.{arith}
-use Rattle.block.specs.Block.{stateOf, blockOf}
-use lib.ListN.{length}
-use Rattle.block.specs.Block.{wellFormed}
+use Rattle.block.specs.Block.{stateOf}
 use Rattle.block.proofs.Whole.{long}
-use Rattle.block.proofs.Stores.{sized}
-use Rattle.block.proofs.RoundTrip.{block-back}
-use mathlib.Core.Bool.{true}
 use Rattle.face.proofs.Laws.{step-bad, step-unknown, step-kept}
 use Rattle.face.proofs.vdp_step.Statement.{statement}
 use Rattle.face.proofs.vdp_step.Tie as tie
@@ -22,7 +17,7 @@ use Rattle.face.proofs.colours_of.Reads as colours-of-reads
 use Rattle.face.proofs.number.Reads as number-reads
 use Rattle.face.proofs.store.Reads as store-reads
 use Rattle.face.proofs.word_of.Reads as word-of-reads
-use Rattle.step.proofs.frame_beat.Reads as frame-beat-reads
+use Rattle.step.proofs.frame_points.Reads as frame-points-reads
 
 -- src/lib.rt:178:9
 well-formed-requires : tie.Need-well-formed-requires
@@ -38,7 +33,7 @@ same-length c = search needs
 
 -- src/lib.rt:179:9
 returns : tie.Need-returns
-returns c = step-bad (c .before .before .before .before .before .before .before .args .state .now) (sym (c .before .before .well-formed .ensures) ∙ not-true _ (c .before .if1 .taken)) (c .before .before .before .before .before .before .before .args .vram .now) (c .before .before .before .before .before .before .before .args .frame .now) (c .before .before .before .before .before .before .before .args .area) (c .number .ensures .0)
+returns c = step-bad (c .before .before .before .before .before .before .before .args .state .now) (c .before .before .before .before .before .before .before .args .vram .now) (c .before .before .before .before .before .before .before .args .frame .now) (c .before .before .before .before .before .before .before .args .area) (sym (c .before .before .well-formed .ensures) ∙ not-true _ (c .before .if1 .taken)) (c .number .ensures .0)
 
 -- src/lib.rt:182:9
 number-requires-2 : tie.Need-number-requires-2
@@ -50,7 +45,7 @@ same-length-2 c = search needs
 
 -- src/lib.rt:182:9
 returns-2 : tie.Need-returns-2
-returns-2 c = step-unknown (c .before .before .before .before .before .before .before .before .args .state .now) (sym (c .before .before .before .well-formed .ensures) ∙ not-false _ (c .before .before .if1 .left)) (c .before .before .before .before .before .before .before .before .args .vram .now) (c .before .before .before .before .before .before .before .before .args .frame .now) (c .before .before .before .before .before .before .before .before .args .area) (c .before .if2 .taken) (c .number2 .ensures .0)
+returns-2 c = step-unknown (c .before .before .before .before .before .before .before .before .args .state .now) (c .before .before .before .before .before .before .before .before .args .vram .now) (c .before .before .before .before .before .before .before .before .args .frame .now) (c .before .before .before .before .before .before .before .before .args .area) (sym (c .before .before .before .well-formed .ensures) ∙ not-false _ (c .before .before .if1 .left)) (c .before .if2 .taken) (c .number2 .ensures .0)
 
 -- src/lib.rt:184:19
 colours-of-requires : tie.Need-colours-of-requires
@@ -65,16 +60,16 @@ raster-in-requires : tie.Need-raster-in-requires
 raster-in-requires c κs = long (c .before .before .before .before .before .before .before .before .before .before .before .before .args .state .now) (sym (c .before .before .before .before .before .before .before .well-formed .ensures) ∙ not-false _ (c .before .before .before .before .before .before .if1 .left))
 
 -- src/lib.rt:188:9
-slice-read-frame-beat : tie.Need-slice-read-frame-beat
-slice-read-frame-beat c = omega (arith, long (c .before .before .before .before .before .before .before .before .before .before .before .before .before .before .args .state .now) (sym (c .before .before .before .before .before .before .before .before .before .well-formed .ensures) ∙ not-false _ (c .before .before .before .before .before .before .before .before .if1 .left)))
+slice-read-frame-points : tie.Need-slice-read-frame-points
+slice-read-frame-points c = omega (arith, long (c .before .before .before .before .before .before .before .before .before .before .before .before .before .before .args .state .now) (sym (c .before .before .before .before .before .before .before .before .before .well-formed .ensures) ∙ not-false _ (c .before .before .before .before .before .before .before .before .if1 .left)))
 
 -- src/lib.rt:192:9
 area-from-requires : tie.Need-area-from-requires
 area-from-requires c κs = search needs
 
 -- src/lib.rt:185:9
-frame-beat-requires : tie.Need-frame-beat-requires
-frame-beat-requires c κs = search needs
+frame-points-requires : tie.Need-frame-points-requires
+frame-points-requires c κs = search needs
 
 -- src/lib.rt:194:5
 store-requires : tie.Need-store-requires
@@ -96,14 +91,20 @@ same-length-4 c = search needs
 returns-3 : tie.Need-returns-3
 unfolding stateOf
 returns-3 c =
-    let a = c .before .before .before .before .before .before .before .before .before .before .before .before .before .before .before .before .before .before .before .before .before .before .before .before .before .before .args in
-    let b = a .state .now in
-    let w : wellFormed b ≡ true = sym (c .before .before .before .before .before .before .before .before .before .before .before .before .before .before .before .before .before .before .before .before .before .well-formed .ensures) ∙ not-false _ (c .before .before .before .before .before .before .before .before .before .before .before .before .before .before .before .before .before .before .before .before .if1 .left) in
-    let k = c .before .before .before .before .before .before .before .before .frame-beat .result in
-    step-kept b w (a .vram .now) (a .frame .now) (a .area) (c .before .before .before .before .before .before .before .before .before .before .before .before .before .before .before .before .before .before .before .if2 .left) k (c .before .before .before .before .before .before .before .before .before .area-from .ensures)
-    (c .before .before .before .before .before .before .before .before .frame-beat .ensures (stateOf b) record { registers = c .before .before .before .before .before .before .before .before .before .before .before .before .before .before .before .registers .ensures; lines = c .before .before .before .before .before .before .before .before .before .before .before .before .before .raster-in .ensures; bits = refl; cache = c .before .before .before .before .before .before .before .before .before .before .before .before .before .before .before .before .before .colours-of .ensures })
-    (c .before .before .before .store .ensures (stateOf b) (sized b (long b w)) (c .before .before .before .before .before .before .before .before .before .before .before .before .before .before .before .before .before .colours-of .ensures) (sym (block-back b w (λ i. omega (arith, c .before .before .before .before .before .before .before .before .before .before .before .before .before .before .before .before .before .before .before .before .before .before .before .before .before .slice-known .given i)))))
-    (c .word-of .ensures (stateOf b))
+    step-kept (c .before .before .before .before .before .before .before .before .before .before .before .before .before .before .before .before .before .before .before .before .before .before .before .before .before .before .args .state .now) (c .before .before .before .before .before .before .before .before .before .before .before .before .before .before .before .before .before .before .before .before .before .before .before .before .before .before .args .vram .now) (c .before .before .before .before .before .before .before .before .before .before .before .before .before .before .before .before .before .before .before .before .before .before .before .before .before .before .args .frame .now) (c .before .before .before .before .before .before .before .before .before .before .before .before .before .before .before .before .before .before .before .before .before .before .before .before .before .before .args .area)
+    (λ i. omega (arith, c .before .before .before .before .before .before .before .before .before .before .before .before .before .before .before .before .before .before .before .before .before .before .before .before .before .slice-known .given i))
+    (sym (c .before .before .before .before .before .before .before .before .before .before .before .before .before .before .before .before .before .before .before .before .before .well-formed .ensures) ∙ not-false _ (c .before .before .before .before .before .before .before .before .before .before .before .before .before .before .before .before .before .before .before .before .if1 .left))
+    (c .before .before .before .before .before .before .before .before .before .before .before .before .before .before .before .before .before .before .before .if2 .left)
+    (c .before .before .before .before .before .before .before .before .before .area-from .ensures)
+    (record {
+      registers = c .before .before .before .before .before .before .before .before .before .before .before .before .before .before .before .registers .ensures;
+      lines = c .before .before .before .before .before .before .before .before .before .before .before .before .before .raster-in .ensures;
+      bits = refl;
+      cache = c .before .before .before .before .before .before .before .before .before .before .before .before .before .before .before .before .before .colours-of .ensures;
+    })
+    (c .before .before .before .store .ensures)
+    (c .word-of .ensures)
+    (c .before .before .before .before .before .before .before .before .frame-points .ensures)
 
 pub vdp-step-spec : {M : Type 1} → statement M
 vdp-step-spec =
@@ -119,9 +120,9 @@ vdp-step-spec =
     colours-of-requires
     registers-requires
     raster-in-requires
-    slice-read-frame-beat
+    slice-read-frame-points
     area-from-requires
-    frame-beat-requires
+    frame-points-requires
     store-requires
     word-of-requires
     same-length-3

@@ -1,5 +1,4 @@
 use borrow.Author.Needs.{needs}
-use mathlib.Core.Path.{_≡_, refl, sym, ap, _∙_}
 use Rattle.step.proofs.cleaned.Statement.{statement}
 use Rattle.step.proofs.cleaned.Tie as tie
 use Rattle.step.proofs.cleaned.Reads as reads

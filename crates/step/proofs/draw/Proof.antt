@@ -1,5 +1,4 @@
 use borrow.Author.Needs.{needs}
-use mathlib.Core.Path.{_≡_, refl, sym, ap, _∙_}
 use Rattle.step.proofs.Steps.{drawn-none, drawn-one}
 use Rattle.picture.specs.Area.{pictureOf}
 use Rattle.step.proofs.draw.Statement.{statement}

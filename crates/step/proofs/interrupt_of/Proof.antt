@@ -1,5 +1,5 @@
 use borrow.Author.Needs.{needs}
-use mathlib.Core.Path.{_≡_, refl, sym, ap, _∙_}
+use mathlib.Core.Path.{sym}
 use Rattle.laws.specs.Bits.{bit}
 use Rattle.step.proofs.interrupt_of.Statement.{statement}
 use Rattle.step.proofs.interrupt_of.Tie as tie

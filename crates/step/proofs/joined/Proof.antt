@@ -1,9 +1,8 @@
 use borrow.Author.Needs.{needs}
-use mathlib.Core.Path.{_≡_, refl, sym, ap, _∙_}
-use Rattle.step.proofs.answer.Statement.{statement}
-use Rattle.step.proofs.answer.Tie as tie
-use Rattle.step.proofs.answer.Reads as reads
-use Rattle.step.proofs.answer.Lts as lts
+use Rattle.step.proofs.joined.Statement.{statement}
+use Rattle.step.proofs.joined.Tie as tie
+use Rattle.step.proofs.joined.Reads as reads
+use Rattle.step.proofs.joined.Lts as lts
 use Rattle.step.proofs.cleaned.Reads as cleaned-reads
 use Rattle.vdp.proofs.VdpState.with_raster.Reads as with-raster-reads
 
@@ -19,5 +18,5 @@ with-raster-requires c κs = search needs
 returns : tie.Need-returns
 returns c = simp (c .with-raster .ensures, c .before .cleaned .ensures, c .before .before .before .pre)
 
-pub answer-spec : {M : Type 1} → statement M
-answer-spec = tie.close (tie.spec cleaned-requires with-raster-requires returns)
+pub joined-spec : {M : Type 1} → statement M
+joined-spec = tie.close (tie.spec cleaned-requires with-raster-requires returns)

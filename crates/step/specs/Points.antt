@@ -1,4 +1,4 @@
--- A step by what it reads and leaves of a device, and not the device itself.
+-- Document 01, "A step": its five points by what they read and leave of a device, and not by the whole device.
 -- Assumes nothing.
 use mathlib.Core.Path.{_≡_}
 use mathlib.Core.List.{List, _++_}
@@ -15,7 +15,7 @@ use Rattle.step.specs.declared.VdpInt.the-variants.{NoInterrupt}
 use Rattle.step.specs.declared.DisplayRefresh.the-variants.{NoDisplay}
 use Rattle.step.specs.declared.DrawnRow.{DrawnRow}
 use Rattle.step.specs.declared.DrawnRow.the-variants.{NoRow, Drawn}
-use Rattle.step.specs.declared.Beat.{Beat}
+use Rattle.step.specs.declared.Points.{Points}
 use Rattle.step.specs.declared.Stepped.{Stepped}
 use Rattle.step.specs.Step.{coloursNow}
 
@@ -32,11 +32,13 @@ unfoldable pub bytesOf : DrawnRow → RenderArea → List ℕ → (ℕ → Row) 
 bytesOf NoRow a colours picture buffer = buffer
 bytesOf (Drawn y) a colours picture buffer = rowBytes colours (columns a) (picture y) ++ drop (rowSize a) buffer
 
-abbrev pub refusedBeat : Refusal → ℕ → Raster → Beat
-refusedBeat r status raster = record { refusal = r; interrupt = NoInterrupt; report = NoDisplay; row = NoRow; status = status; raster = raster }
+-- what is answered and left where the step is refused before its points
+abbrev pub refusedPoints : Refusal → ℕ → Raster → Points
+refusedPoints r status raster =
+    record { refusal = r; interrupt = NoInterrupt; report = NoDisplay; row = NoRow; status = status; raster = raster }
 
--- a device with these registers, raster, status and colours to draw with
-pub record Fed (d : VdpState) (reg : List ℕ) (raster : Raster) (status : ℕ) (colours : List ℕ) : Type 0 where
+-- the device d reads as these registers, raster, status and colours to draw with
+pub record Reads (d : VdpState) (reg : List ℕ) (raster : Raster) (status : ℕ) (colours : List ℕ) : Type 0 where
   pub registers : reg ≡ d .reg
   pub lines : raster ≡ d .raster
   pub bits : status ≡ d .status
@@ -47,13 +49,13 @@ abbrev pub cleaned : DrawnRow → VdpState → List ℕ → VdpState
 cleaned NoRow d colours = d
 cleaned (Drawn y) d colours = withCache d colours
 
--- the answer of the device's own step
-abbrev pub answer : VdpState → Beat → Stepped
-answer d b =
+-- the answer of the device's own step, from what the points answer and leave
+abbrev pub joined : VdpState → Points → Stepped
+joined d points =
     record {
-      refusal = b .refusal;
-      interrupt = b .interrupt;
-      report = b .report;
-      row = b .row;
-      vdp = withRaster (withStatus (cleaned (b .row) d (coloursNow d)) (b .status)) (b .raster);
+      refusal = points .refusal;
+      interrupt = points .interrupt;
+      report = points .report;
+      row = points .row;
+      vdp = withRaster (withStatus (cleaned (points .row) d (coloursNow d)) (points .status)) (points .raster);
     }
