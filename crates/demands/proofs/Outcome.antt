@@ -7,6 +7,9 @@ use Rattle.demands.specs.Outcome.{OneOutcome, OneOutcomeSeen, PaintedRow
 use Rattle.bitmap.proofs.Bitmap.new as bitmap-new
 use Rattle.bitmap.proofs.Bitmap.set as bitmap-set
 use Rattle.bitmap.proofs.Bitmap.get as bitmap-get
+use Rattle.bitmap.proofs.window
+use Rattle.bitmap.proofs.lower
+use Rattle.bitmap.proofs.upper
 use Rattle.colour.proofs.rgb
 use Rattle.colour.proofs.palette_recompute
 use Rattle.raster.proofs.Raster.advance
@@ -18,6 +21,8 @@ use Rattle.tile.proofs.weight
 use Rattle.tile.proofs.is_set
 use Rattle.tile.proofs.both
 use Rattle.tile.proofs.character_line
+use Rattle.tile.proofs.character_whole
+use Rattle.tile.proofs.sprite_columns
 use Rattle.tile.proofs.character_line_sprite
 use Rattle.tile.proofs.character_line_sprite_bitmap
 use Rattle.background.proofs.names_at
@@ -65,6 +70,15 @@ bitmap-set-once κs a q z z′ w w′ e f = (λ i. record { bits = (e ∙ sym f)
 pub bitmap-get-once : OneOutcome 0 bitmap-get.Kinds.ps bitmap-get.Kinds.r bitmap-get.Reads.Asked bitmap-get.Reads.Learnt
 bitmap-get-once κs a q z z′ w w′ e f = (e ∙ sym f, refl)
 
+pub window-once : OneOutcome 0 window.Kinds.ps window.Kinds.r window.Reads.Asked window.Reads.Learnt
+window-once κs a q z z′ w w′ e f = (e ∙ sym f, refl)
+
+pub lower-once : OneOutcome 0 lower.Kinds.ps lower.Kinds.r lower.Reads.Asked lower.Reads.Learnt
+lower-once κs a q z z′ w w′ e f = (e ∙ sym f, refl)
+
+pub upper-once : OneOutcome 0 upper.Kinds.ps upper.Kinds.r upper.Reads.Asked upper.Reads.Learnt
+upper-once κs a q z z′ w w′ e f = (e ∙ sym f, refl)
+
 -- ---- colour
 pub rgb-once : OneOutcome 0 rgb.Kinds.ps rgb.Kinds.r rgb.Reads.Asked rgb.Reads.Learnt
 rgb-once κs a q z z′ w w′ e f = (e ∙ sym f, refl)
@@ -101,8 +115,21 @@ both-once κs a q z z′ w w′ e f = (e ∙ sym f, refl)
 pub character-line-once : OneOutcome 3 character_line.Kinds.ps character_line.Kinds.r character_line.Reads.Asked character_line.Reads.Learnt
 character-line-once κs a q z z′ w w′ e f = (e .1 ∙ sym (f .1), λ i. ((e .0 ∙ sym (f .0)) i, w .1))
 
+pub character-whole-once : OneOutcome 3 character_whole.Kinds.ps character_whole.Kinds.r character_whole.Reads.Asked character_whole.Reads.Learnt
+character-whole-once κs a q z z′ w w′ e f = (e .1 ∙ sym (f .1), λ i. ((e .0 ∙ sym (f .0)) i, w .1))
+
 pub character-line-sprite-once : OneOutcome 3 character_line_sprite.Kinds.ps character_line_sprite.Kinds.r character_line_sprite.Reads.Asked character_line_sprite.Reads.Learnt
 character-line-sprite-once κs a q z z′ w w′ e f = (
+  λ i. record {
+    marks = (e .1 .0 ∙ sym (f .1 .0)) i;
+    drawn = (e .1 .1 ∙ sym (f .1 .1)) i;
+    held = (e .1 .2 ∙ sym (f .1 .2)) i;
+  },
+  λ i. ((e .0 ∙ sym (f .0)) i, w .1),
+)
+
+pub sprite-columns-once : OneOutcome 3 sprite_columns.Kinds.ps sprite_columns.Kinds.r sprite_columns.Reads.Asked sprite_columns.Reads.Learnt
+sprite-columns-once κs a q z z′ w w′ e f = (
   λ i. record {
     marks = (e .1 .0 ∙ sym (f .1 .0)) i;
     drawn = (e .1 .1 ∙ sym (f .1 .1)) i;
