@@ -217,6 +217,15 @@ fn collision_calc(taken: u8, bits: u8) -> bool
     taken & bits != 0
 }
 
+fn leaves(bits: u8, count: usize) -> Marked
+    ensures { λ r. ⌜ (r .bits ≡ bits) × (r .count ≡ count) ⌝ }
+{
+    Marked {
+        bits: bits,
+        count: count,
+    }
+}
+
 // A sprite that stands at s and whose tile line is at addr, where `held` is what priority holds back, `taken` what others have marked and
 // `count` how many they are. An unseen one counts and marks too, and draws nothing.
 fn render_sprite(
@@ -254,16 +263,10 @@ fn render_sprite(
             start,
             end,
         );
-        return Marked {
-            bits: columns.marks,
-            count: more,
-        };
+        return leaves(columns.marks, more);
     }
     let bits = tile::character_line_sprite_bitmap(vram, addr, start, end);
-    Marked {
-        bits: bits,
-        count: more,
-    }
+    leaves(bits, more)
 }
 
 // ---- the line
