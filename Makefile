@@ -33,7 +33,7 @@ memcheck: build ## hold 10,000 calls beside the Rust under valgrind, with each b
 damaged: build ## show that the comparison catches copies of the library with one constant changed
 	@sh oracle/damaged.sh
 
-bench: build ## time one pass of 261 visible steps, ours and the published Rust's: ROUNDS=400 SEED=1
+bench: build ## time passes of 261 steps, ours and the published Rust's, and count their instructions: ROUNDS=400 SEED=1
 	@sh bench/run.sh $(ROUNDS) $(SEED)
 
 prove: setup ## prove every crate that has changed

@@ -1,8 +1,11 @@
-//! The time of one pass of 261 visible steps, ours and the published Rust's, in one run: all 64 sprites in the list, 16 high, eight on
-//! each of 128 rows; tiles of which one in four is empty, names with all flags, scroll 5. The frames are compared before anything is timed.
+//! The time of one pass of 261 steps, ours and the published Rust's, in one run, for each line of a table; the first line is the pass that the
+//! customer asked about. Frames and states are compared before anything is timed, and again afterwards.
 //!
-//!   bench ROUNDS SEED
+//!   bench check SEED                     compares them and no more
+//!   bench count SEED LINES               to be counted from outside: one pass of each side of the first LINES lines, then of the floors
+//!   bench time ROUNDS SEED COUNTS PLOT   prints the table and writes the plot; COUNTS are the instructions, as run.sh collects them (or no file)
 
+mod engine;
 #[path = "../oracle/face.rs"]
 #[allow(dead_code)] // of the calls, the steps alone are timed
 mod face;
@@ -13,73 +16,86 @@ mod gears;
 mod io {
     include!(concat!(env!("GEARS"), "/io.rs"));
 }
+mod plot;
+mod workload;
 
-use rules::model::{Area, Device, BLOCK_SIZE, VIDEO_SIZE};
-use rules::random::Random;
+use engine::{Engine, Floor};
+use rules::model::Area;
 use std::time::{Duration, Instant};
+use workload::{List, STEPS};
 
-const STEPS: usize = 261;
-
-/// The workload: a device and its video memory.
-fn workload(seed: u64) -> ([u8; BLOCK_SIZE], Vec<u8>) {
-    let mut random = Random::new(seed);
-    let mut device = Device::fresh();
-    // display on, sprites 16 high; names at 3800, sprites at 3F00 with patterns of their own; scroll 5
-    device.registers = [0, 0x42, 0x0E, 0xFF, 0xFF, 0x7E, 0x04, 0, 5, 5, 1];
-    device.vertical_scroll = 5;
-    random.fill(&mut device.palette);
-    let mut video = vec![0; VIDEO_SIZE];
-    random.fill(&mut video);
-    for tile in 0..512 {
-        if random.chance(1, 4) {
-            video[32 * tile..32 * tile + 32].fill(0);
-        }
-    }
-    for entry in 0..28 * 32 {
-        video[0x3800 + 2 * entry] = random.byte();
-        video[0x3800 + 2 * entry + 1] = random.byte() & 0x1F;
-    }
-    // eight bands of 16 rows with eight sprites each: rows 0 to 127, which are lines 24 to 151
-    for n in 0..64 {
-        video[0x3F00 + n] = (23 + 16 * (n / 8)) as u8;
-        video[0x3F80 + 2 * n] = (48 + random.below(152)) as u8;
-        video[0x3F80 + 2 * n + 1] = random.byte();
-    }
-    (device.encode(), video)
+/// A line of the table: which of our calls draws what. The Rust draws the same beside it.
+struct Line {
+    name: &'static str,
+    call: Call,
+    area: Area,
+    list: List,
 }
 
-/// Our device, stepped into a frame or into a row.
-struct Ours {
-    block: Vec<u8>,
-    video: Vec<u8>,
-    frame: Vec<u8>,
-    row: Vec<u8>,
+#[derive(PartialEq)]
+enum Call {
+    Frame,
+    Row,
 }
 
-impl Ours {
-    fn pass(&mut self) {
-        for _ in 0..STEPS {
-            face::vdp_step(&mut self.block, &self.video, &mut self.frame, 0);
+const fn line(name: &'static str, call: Call, area: Area, list: List) -> Line {
+    Line { name, call, area, list }
+}
+
+const LINES: [Line; 13] = [
+    line("visible, 8 on each of 128 rows", Call::Frame, Area::Visible, List::Each(8)),
+    line("the same by row steps", Call::Row, Area::Visible, List::Each(8)),
+    line("visible, 7 on each", Call::Frame, Area::Visible, List::Each(7)),
+    line("visible, 6 on each", Call::Frame, Area::Visible, List::Each(6)),
+    line("visible, 5 on each", Call::Frame, Area::Visible, List::Each(5)),
+    line("visible, 4 on each", Call::Frame, Area::Visible, List::Each(4)),
+    line("visible, 3 on each", Call::Frame, Area::Visible, List::Each(3)),
+    line("visible, 2 on each", Call::Frame, Area::Visible, List::Each(2)),
+    line("visible, 1 on each", Call::Frame, Area::Visible, List::Each(1)),
+    line("visible, 64 listed, none on a row", Call::Frame, Area::Visible, List::Each(0)),
+    line("visible, empty list", Call::Frame, Area::Visible, List::Empty),
+    line("effective, 8 on each of 128 rows", Call::Frame, Area::Effective, List::Each(8)),
+    line("effective, empty list", Call::Frame, Area::Effective, List::Empty),
+];
+
+impl Line {
+    /// Ours and the Rust's device in the same state.
+    fn engines(&self, seed: u64) -> (Box<dyn Engine>, Box<dyn Engine>) {
+        let (block, video) = workload::make(self.list, seed);
+        let ours: Box<dyn Engine> = match self.call {
+            Call::Frame => Box::new(engine::Frame::new(self.area, &block, &video)),
+            Call::Row => Box::new(engine::Row::new(self.area, &block, &video)),
+        };
+        (ours, Box::new(engine::Rust::new(self.area, &block, &video)))
+    }
+
+    /// They, once they have drawn the same.
+    fn compared(&self, seed: u64) -> (Box<dyn Engine>, Box<dyn Engine>) {
+        let (mut ours, mut rust) = self.engines(seed);
+        self.must_be_same(&mut *ours, &mut *rust);
+        (ours, rust)
+    }
+
+    /// Ends the program unless both draw the same frame and are left in the same state.
+    fn must_be_same(&self, ours: &mut dyn Engine, rust: &mut dyn Engine) {
+        if ours.drawn() != rust.drawn() || ours.state() != rust.state() {
+            println!("bench: {}: the frames or the states differ: the times mean nothing", self.name);
+            std::process::exit(1);
         }
     }
-    fn row_pass(&mut self) {
-        for _ in 0..STEPS {
-            face::vdp_row_step(&mut self.block, &self.video, &mut self.row, 0);
-        }
-    }
 }
 
-/// The Rust's device, stepped into a frame.
-struct Theirs {
-    vdp: gears::Vdp,
-    frame: Vec<u8>,
+/// The least and the middle of the times of one side, in microseconds.
+struct Times {
+    least: f64,
+    middle: f64,
 }
 
-impl Theirs {
-    fn pass(&mut self) {
-        for _ in 0..STEPS {
-            self.vdp.step(&mut self.frame, gears::RenderArea::VisibleOnly);
-        }
+impl Times {
+    fn of(mut all: Vec<Duration>) -> Times {
+        all.sort();
+        let micro = |time: Duration| time.as_nanos() as f64 / 1000.0;
+        Times { least: micro(all[0]), middle: micro(all[all.len() / 2]) }
     }
 }
 
@@ -89,64 +105,145 @@ fn timed(run: impl FnOnce()) -> Duration {
     start.elapsed()
 }
 
-/// Ends the program unless both have the same frame and the same state.
-fn must_be_same(ours: &Ours, theirs: &Theirs) {
-    let mut block = [0; BLOCK_SIZE];
-    gears::read(&theirs.vdp, &mut block);
-    if ours.frame != theirs.frame || ours.block != block {
-        println!("bench: the frames or the states differ: the times mean nothing");
-        std::process::exit(1);
+/// The times of one line, ours and the Rust's in turn.
+fn measure(line: &Line, rounds: usize, seed: u64) -> (Times, Times) {
+    let (mut ours, mut rust) = line.compared(seed);
+    let (mut our_times, mut rust_times) = (Vec::new(), Vec::new());
+    for _ in 0..rounds {
+        our_times.push(timed(|| ours.pass()));
+        rust_times.push(timed(|| rust.pass()));
+    }
+    line.must_be_same(&mut *ours, &mut *rust);
+    (Times::of(our_times), Times::of(rust_times))
+}
+
+/// Thousands of instructions, and the ratio of two counts; a dash where they were not counted.
+fn thousands(count: Option<f64>) -> String {
+    count.map_or("–".to_string(), |n| format!("{:.1}", n / 1000.0))
+}
+
+fn ratio(ours: Option<f64>, rust: Option<f64>) -> String {
+    match (ours, rust) {
+        (Some(a), Some(b)) => format!("{:.3}", a / b),
+        _ => "–".to_string(),
     }
 }
 
-/// The least and the middle of the times, in microseconds.
-fn least_and_middle(times: &mut Vec<Duration>) -> (f64, f64) {
-    times.sort();
-    let micro = |time: Duration| time.as_nanos() as f64 / 1000.0;
-    (micro(times[0]), micro(times[times.len() / 2]))
+/// Compares every line.
+fn check(seed: u64) {
+    for line in &LINES {
+        line.compared(seed);
+    }
+    println!("bench: the frames and the states are the same, {} lines", LINES.len());
+}
+
+fn time(rounds: usize, seed: u64, counts: &[f64], plot: &str) {
+    // Counts are in the order of `count`: ours and the Rust's of each line, then the floors.
+    let count = |n: usize| counts.get(n).copied();
+    println!("One pass of {} steps, {} rounds: microseconds, least (median); thousands of instructions.\n", STEPS, rounds);
+    println!("| {:33} | {:>15} | {:>15} | {:>5} | {:>7} | {:>7} | {:>5} |", "", "ours, us", "the Rust, us", "ratio", "ours, k", "Rust, k", "ratio");
+    println!("|{:-<35}|{:->16}:|{:->16}:|{:->6}:|{:->8}:|{:->8}:|{:->6}:|", "", "", "", "", "", "", "");
+    let mut growth = Vec::new();
+    let mut first = None;
+    for (n, line) in LINES.iter().enumerate() {
+        let (ours, rust) = measure(line, rounds, seed);
+        println!(
+            "| {:33} | {:6.1} ({:6.1}) | {:6.1} ({:6.1}) | {:5.3} | {:>7} | {:>7} | {:>5} |",
+            line.name,
+            ours.least,
+            ours.middle,
+            rust.least,
+            rust.middle,
+            ours.least / rust.least,
+            thousands(count(2 * n)),
+            thousands(count(2 * n + 1)),
+            ratio(count(2 * n), count(2 * n + 1))
+        );
+        if let (Call::Frame, Area::Visible, List::Each(k)) = (&line.call, line.area, line.list) {
+            growth.push((k, ours.least, rust.least));
+        }
+        first.get_or_insert((ours, rust));
+    }
+    let mut floor = Floor::new(Area::Visible);
+    let (mut colours, mut stores) = (Vec::new(), Vec::new());
+    for _ in 0..rounds {
+        colours.push(timed(|| floor.colour()));
+        stores.push(timed(|| floor.store()));
+    }
+    let (colours, stores) = (Times::of(colours), Times::of(stores));
+    for (n, name, times) in [(0, "floor: code, colour, store", &colours), (1, "floor: one colour stored", &stores)] {
+        let count = thousands(count(2 * LINES.len() + n));
+        println!("| {:33} | {:6.1} ({:6.1}) | {:>15} | {:>5} | {:>7} | {:>7} | {:>5} |", name, times.least, times.middle, "", "", count, "", "");
+    }
+    if let Err(error) = std::fs::write(plot, plot::growth(&growth, colours.least)) {
+        eprintln!("bench: {}: {}", plot, error);
+        std::process::exit(1);
+    }
+    let (ours, rust) = first.expect("the table has lines");
+    println!();
+    println!(
+        "bench: ours {:.1} us, Rust {:.1} us, ratio {:.3} (of the least times; of the medians {:.3})",
+        ours.least,
+        rust.least,
+        ours.least / rust.least,
+        ours.middle / rust.middle
+    );
+}
+
+/// Marks that whoever counts from outside knows by name: one stands before each pass, the other behind it.
+#[no_mangle]
+#[inline(never)]
+pub fn counted_from() {
+    engine::opaque(0);
+}
+
+#[no_mangle]
+#[inline(never)]
+pub fn counted_to() {
+    engine::opaque(1);
+}
+
+fn counted(run: impl FnOnce()) {
+    counted_from();
+    run();
+    counted_to();
+}
+
+fn count(seed: u64, lines: usize) {
+    for line in LINES.iter().take(lines) {
+        let (mut ours, mut rust) = line.compared(seed);
+        counted(|| ours.pass());
+        counted(|| rust.pass());
+    }
+    let mut floor = Floor::new(Area::Visible);
+    counted(|| floor.colour());
+    counted(|| floor.store());
 }
 
 fn main() {
-    let words: Vec<u64> = std::env::args().skip(1).filter_map(|word| word.parse().ok()).collect();
-    let (rounds, seed) = match words[..] {
-        [rounds, seed] if rounds > 0 => (rounds, seed),
-        _ => {
-            eprintln!("usage: bench ROUNDS SEED");
-            std::process::exit(2);
+    let words: Vec<String> = std::env::args().skip(1).collect();
+    let words: Vec<&str> = words.iter().map(String::as_str).collect();
+    let number = |word: &str| word.parse::<u64>().ok();
+    match words[..] {
+        ["time", rounds, seed, counts, plot] => {
+            if let (Some(rounds @ 1..), Some(seed)) = (number(rounds), number(seed)) {
+                let counts = std::fs::read_to_string(counts).unwrap_or_default();
+                let counts: Vec<f64> = counts.lines().filter_map(|line| line.parse().ok()).collect();
+                return time(rounds as usize, seed, &counts, plot);
+            }
         }
-    };
-    let (block, video) = workload(seed);
-    let size = Area::Visible.frame_size();
-    let mut ours = Ours { block: block.to_vec(), video: video.clone(), frame: vec![0; size], row: vec![0; 640] };
-    let mut theirs = Theirs { vdp: gears::Vdp::new(), frame: vec![0; size] };
-    gears::load(&theirs.vdp, &block, &video);
-
-    // The same picture and the same state, or no times.
-    ours.pass();
-    theirs.pass();
-    must_be_same(&ours, &theirs);
-    println!("bench: frames and states are the same; {}", env!("BENCH_WHAT"));
-
-    let (mut by_frame, mut by_row, mut rust) = (Vec::new(), Vec::new(), Vec::new());
-    for _ in 0..rounds {
-        by_frame.push(timed(|| ours.pass()));
-        rust.push(timed(|| theirs.pass()));
-        by_row.push(timed(|| ours.row_pass()));
+        ["check", seed] => {
+            if let Some(seed) = number(seed) {
+                return check(seed);
+            }
+        }
+        ["count", seed, lines] => {
+            if let (Some(seed), Some(lines)) = (number(seed), number(lines)) {
+                return count(seed, lines as usize);
+            }
+        }
+        _ => {}
     }
-    must_be_same(&ours, &theirs);
-    let (ours_least, ours_middle) = least_and_middle(&mut by_frame);
-    let (row_least, row_middle) = least_and_middle(&mut by_row);
-    let (rust_least, rust_middle) = least_and_middle(&mut rust);
-    println!("bench: one pass of {} visible steps, {} rounds, microseconds: least, median, median of one step", STEPS, rounds);
-    println!("  ours, frame step  {:9.1} {:9.1} {:9.3}", ours_least, ours_middle, ours_middle / STEPS as f64);
-    println!("  ours, row step    {:9.1} {:9.1} {:9.3}", row_least, row_middle, row_middle / STEPS as f64);
-    println!("  the Rust          {:9.1} {:9.1} {:9.3}", rust_least, rust_middle, rust_middle / STEPS as f64);
-    println!("  row step / Rust   {:9.3} {:9.3}", row_least / rust_least, row_middle / rust_middle);
-    println!(
-        "bench: ours {:.1} us, Rust {:.1} us, ratio {:.3} (of the least times; of the medians {:.3})",
-        ours_least,
-        rust_least,
-        ours_least / rust_least,
-        ours_middle / rust_middle
-    );
+    eprintln!("usage: bench check SEED | bench count SEED LINES | bench time ROUNDS SEED COUNTS PLOT");
+    std::process::exit(2);
 }
