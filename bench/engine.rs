@@ -117,6 +117,7 @@ impl Engine for Rust {
 }
 
 /// The floor: what is left of a pass when every pixel's colour code is known beforehand. It reads the code, reads the colour, stores the colour.
+/// (Not inlined, so that what is timed is what is counted.)
 pub struct Floor {
     colours: [u32; 32],
     codes: Vec<u8>,
@@ -133,6 +134,7 @@ impl Floor {
         }
     }
     /// Every colour in its place, from its code.
+    #[inline(never)]
     pub fn colour(&mut self) {
         let colours = opaque(&self.colours);
         for (to, code) in self.frame.iter_mut().zip(opaque(&self.codes)) {
@@ -141,6 +143,7 @@ impl Floor {
         opaque(&self.frame);
     }
     /// The stores alone: one colour everywhere.
+    #[inline(never)]
     pub fn store(&mut self) {
         self.frame.fill(opaque(self.colours[1]));
         opaque(&self.frame);
