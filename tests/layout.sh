@@ -27,17 +27,30 @@ done
 [ -z "$bare" ]
 tell "every public function has its theorem of one outcome" $?
 
-# An edit that only makes a proof unfit for the code shows nothing of the contract. (The suite `proofs` leaves the logs.)
-unfit=
-for log in target/must-fail/*/*/.log; do
-    [ -e "$log" ] || continue
+# Every edit was tried, and is refused for a fact: one that only makes a proof unfit for the code shows nothing of the contract.
+# (The suite `proofs` leaves a log for each.)
+edits=0 untried= unfit=
+for edit in crates/*/must-fail/*.edit; do
+    [ -e "$edit" ] || continue
+    edits=$((edits + 1))
+    crate=${edit#crates/}
+    log=target/must-fail/${crate%%/*}/$(basename "$edit" .edit)/.log
+    if [ ! -s "$log" ]; then
+        untried="$untried $edit"
+        continue
+    fi
     first=$(grep -m 1 ': error: ' "$log")
     case $first in
     *'that can be named from here'* | *'has no field'* | *'expected type `tie.'* | '') unfit="$unfit $log" ;;
     esac
 done
+[ -z "$untried" ] || printf 'not tried:%s\n' "$untried"
+logs=$(find target/must-fail -mindepth 3 -maxdepth 3 -name .log 2>/dev/null | wc -l)
+[ "$edits" -eq "$logs" ] || printf '%s edits, %s logs\n' "$edits" "$logs"
+[ "$edits" -gt 0 ] && [ "$edits" -eq "$logs" ] && [ -z "$untried" ]
+tell "every edit that must fail was tried, and there are some" $?
 [ -z "$unfit" ] || printf 'refused for its shape:%s\n' "$unfit"
-[ -z "$unfit" ]
+[ "$logs" -gt 0 ] && [ -z "$unfit" ]
 tell "every edit that must fail is refused for a fact" $?
 
 total

@@ -271,7 +271,7 @@ impl VdpState {
         }
     }
 
-    // A byte for the palette: the first of two is latched, the second stores both.
+    // A byte for the palette: the first of two is latched, the second stores both, and the first stays latched.
     fn write_palette(self, val: u8) -> Written
         ensures { λ r. ⌜ r ≡ paletteWrite self val ⌝ }
     {
@@ -300,7 +300,7 @@ impl VdpState {
         let high = val % 16;
         let here = addr as usize;
         let below = here - 1;
-        let mut vdp = self;
+        let mut vdp = self.with_palette_byte(Latch::Held(low));
         let was_low = vdp.cram[below];
         let was_high = vdp.cram[here];
         vdp.cram_dirty = vdp.cram_dirty | (was_low != low) | (was_high != high);
