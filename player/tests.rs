@@ -1,5 +1,5 @@
 //! The player's file under test: the published file's own public tests by what they check (`run_step`, `split_io`, `read_wrap`),
-//! the marked examples that show through the public names, and what is refused. Built by `rustc --test`.
+//! the marked examples (docs/RULES.md, R8.1) that show through the public names, and what is refused. Built by `rustc --test`.
 
 /// What the player's file needs of the player: its trait of a device.
 pub mod io {
@@ -35,6 +35,15 @@ mod tests {
         for byte in bytes {
             assert_eq!(vdp.input(DATA, 0), Ok(*byte));
         }
+    }
+    /// A write and a read that are refused by this number, with an error.
+    fn write_refused(vdp: &Vdp, port: u16, byte: u8, number: u8) {
+        assert!(vdp.out(port, byte, 0).is_err());
+        assert_eq!(vdp.last_refusal(), number);
+    }
+    fn read_refused(vdp: &Vdp, port: u16, number: u8) {
+        assert!(vdp.input(port, 0).is_err());
+        assert_eq!(vdp.last_refusal(), number);
     }
     fn steps(vdp: &Vdp, count: usize) {
         let mut frame = vec![0; VISIBLE];
@@ -110,11 +119,12 @@ mod tests {
         // P5
         let vdp = Vdp::new();
         commands(&vdp, &[0x01, 0xC0]);
-        assert!(vdp.out(DATA, 0x77, 0).is_err());
+        write_refused(&vdp, DATA, 0x77, 6);
         // P6
         let vdp = Vdp::new();
         commands(&vdp, &[0x00, 0x8A, 0x00]);
-        assert!(vdp.out(COMMAND, 0x8B, 0).is_err());
+        assert_eq!(vdp.last_refusal(), 0);
+        write_refused(&vdp, COMMAND, 0x8B, 3);
         // P7
         for (count, line) in [(217, 0xD9), (218, 0xD5), (260, 0xFF), (261, 0x00)] {
             let vdp = Vdp::new();
@@ -176,28 +186,72 @@ mod tests {
     #[test]
     fn ports_answer_errors() {
         let vdp = Vdp::new();
-        assert!(vdp.out(0x10, 0, 0).is_err());
-        assert!(vdp.input(0x10, 0).is_err());
-        assert!(vdp.input(0x7F, 0).is_err());
-        assert!(vdp.out(DATA, 0, 0).is_err());
-        assert!(vdp.input(DATA, 0).is_err());
+        assert_eq!(vdp.last_refusal(), 0);
+        write_refused(&vdp, 0x10, 0, 1);
+        read_refused(&vdp, 0x10, 1);
+        read_refused(&vdp, 0x7F, 2);
+        write_refused(&vdp, DATA, 0, 4);
+        read_refused(&vdp, DATA, 4);
         commands(&vdp, &[0x00, 0xC0]);
-        assert!(vdp.input(DATA, 0).is_err());
-        // only the low byte of a port counts
+        read_refused(&vdp, DATA, 5);
+        // only the low byte of a port counts (R3.3); an accepted call sets the number back
         assert_eq!(vdp.input(0x127E, 0), Ok(0));
+        assert_eq!(vdp.last_refusal(), 0);
+    }
+
+    /// A device on which something has happened: tiles, half a colour, line interrupts at every line, and a pass of 30 steps.
+    fn used() -> Vdp {
+        let vdp = Vdp::new();
+        commands(&vdp, &[0x10, 0x80, 0x60, 0x81, 0x00, 0x8A, 0x00, 0x40]);
+        writes(&vdp, &[0xFF; 64]);
+        steps(&vdp, 30);
+        commands(&vdp, &[0x00, 0xC0]);
+        writes(&vdp, &[0x5A]);
+        vdp
     }
 
     #[test]
-    #[should_panic(expected = "pixel buffer of a wrong length")]
-    fn short_frame() {
-        // P13, and on a line that draws nothing
-        Vdp::new().step(&mut vec![0; VISIBLE - 1], RenderArea::VisibleOnly);
+    fn short_frames_do_not_stop() {
+        // R2.3: a whole pass on a frame that is one byte short: nothing is reported, drawn or moved
+        for (area, size) in [(RenderArea::VisibleOnly, VISIBLE), (RenderArea::EffectiveArea, EFFECTIVE)] {
+            let (vdp, other) = (used(), used());
+            let mut frame = vec![7; size - 1];
+            for _ in 0..261 {
+                let answer = vdp.step(&mut frame, area);
+                assert!(matches!(answer, (VdpInt::NoInterrupt, DisplayRefresh::NoDisplay)));
+                assert_eq!(vdp.last_refusal(), 9);
+            }
+            assert!(frame.iter().all(|byte| *byte == 7));
+            // the whole device beside a twin whose last call was refused by the same number
+            other.dump_tileset(&mut []);
+            assert_eq!(format!("{:?}", vdp), format!("{:?}", other));
+            // and it goes on: the next line is the one after the 30
+            assert!(matches!(vdp.step(&mut vec![7; size], area), (VdpInt::InterruptGenerated, DisplayRefresh::NoDisplay)));
+            assert_eq!((vdp.last_refusal(), vdp.input(LINE, 0)), (0, Ok(31)));
+        }
     }
 
     #[test]
-    #[should_panic(expected = "pixel buffer of a wrong length")]
-    fn long_sheet() {
-        Vdp::new().dump_tileset(&mut vec![0; 131_073]);
+    fn frame_sizes() {
+        // P13
+        for (short, number) in [(1, 9), (0, 0)] {
+            let vdp = Vdp::new();
+            vdp.step(&mut vec![0; VISIBLE - short], RenderArea::VisibleOnly);
+            assert_eq!(vdp.last_refusal(), number);
+        }
+    }
+
+    #[test]
+    fn sheets_of_another_length_stay() {
+        let vdp = used();
+        for size in [0, 131_071, 131_073] {
+            let mut sheet = vec![9; size];
+            vdp.dump_tileset(&mut sheet);
+            assert_eq!(vdp.last_refusal(), 9);
+            assert!(sheet.iter().all(|byte| *byte == 9));
+        }
+        vdp.dump_tileset(&mut vec![9; 131_072]);
+        assert_eq!(vdp.last_refusal(), 0);
     }
 
     #[test]

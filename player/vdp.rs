@@ -1,12 +1,16 @@
 //! The video chip for the player, over the C face of libvdp.a (include/vdp.h): this file takes the place of the player's own src/vdp.rs.
 //! The public names are the same, and the player links libvdp.a (`-L` names its folder). What differs:
-//! - A port call never panics. Where the file before panicked (horizontal counter, register above 10, half a colour), it is an error.
-//! - `step` and `dump_tileset` panic where the buffer has a wrong length, as they have no error to give; `step` does so on every
-//!   line, and not only on one that it draws. A frame is at least 160 x 144 (or 256 x 224) x 4 bytes, the tile sheet exactly 131,072.
+//! - No call stops the player. What the library refuses is refused by a number (docs/RULES.md, R2.1), and `last_refusal` tells the one
+//!   of the last call, 0 where it was accepted.
+//! - A refused port call is an error with a text; so are those at which the file before panicked (horizontal counter, register above
+//!   10, half a colour).
+//! - A refused `step` answers no interrupt and no display report and moves nothing; a refused `dump_tileset` leaves the sheet. That is
+//!   so where the buffer has a wrong length, for a step on every line, and not only on one that it draws. A frame is at least
+//!   160 x 144 (or 256 x 224) x 4 bytes, the tile sheet exactly 131,072.
 //! - A sprite at X 41 to 48 under the early clock no longer stops the player, and nothing is drawn past the right edge.
 
 use crate::io;
-use std::cell::RefCell;
+use std::cell::{Cell, RefCell};
 
 pub const GG_VISIBLE_PIXEL_HEIGHT: usize = 144;
 pub const GG_VISIBLE_PIXEL_WIDTH: usize = 160;
@@ -68,6 +72,7 @@ struct Lent {
 #[derive(Debug)]
 pub struct Vdp {
     lent: RefCell<Lent>,
+    refused: Cell<u8>,
 }
 
 impl Vdp {
@@ -75,11 +80,15 @@ impl Vdp {
         let mut lent = Lent { block: [0; BLOCK_SIZE], vram: vec![0; VRAM_SIZE] };
         // Sound: the block is live, and as long as we say.
         let answer = unsafe { vdp_new(lent.block.as_mut_ptr(), lent.block.len()) };
-        assert_eq!(answer, 0, "libvdp.a has another size of state block");
-        Vdp { lent: RefCell::new(lent) }
+        Vdp { lent: RefCell::new(lent), refused: Cell::new(refusal(answer)) }
     }
 
-    /// One line: draws its row in the frame, if it has one.
+    /// The number by which the last call was refused; 0 where it was accepted.
+    pub fn last_refusal(&self) -> u8 {
+        self.refused.get()
+    }
+
+    /// One line: draws its row in the frame, if it has one. Refused, it does and reports nothing.
     pub fn step(&self, pixels: &mut [u8], render_area: RenderArea) -> (VdpInt, DisplayRefresh) {
         let mut lent = self.lent.borrow_mut();
         let lent = &mut *lent;
@@ -99,9 +108,8 @@ impl Vdp {
                 area,
             )
         };
-        if answer & 0xFF != 0 {
-            panic!("VDP step refused: {} (frame of {} bytes, {:?})", refusal_text(answer), pixels.len(), render_area);
-        }
+        self.refused.set(refusal(answer));
+        // A refused step's answer has no bit but those of its refusal.
         let interrupt = if answer >> 8 & 1 == 1 { VdpInt::InterruptGenerated } else { VdpInt::NoInterrupt };
         let refresh = match answer >> 9 & 3 {
             0 => DisplayRefresh::NoDisplay,
@@ -111,7 +119,7 @@ impl Vdp {
         (interrupt, refresh)
     }
 
-    /// Draws all tiles, as background and as sprites, on a sheet of 128 x 256 pixels.
+    /// Draws all tiles, as background and as sprites, on a sheet of 128 x 256 pixels; refused, it leaves the sheet.
     pub fn dump_tileset(&self, pixels: &mut [u8]) {
         let lent = self.lent.borrow();
         // Sound: three live slices that do not overlap.
@@ -125,9 +133,7 @@ impl Vdp {
                 pixels.len(),
             )
         };
-        if answer & 0xFF != 0 {
-            panic!("VDP tile dump refused: {} (sheet of {} bytes)", refusal_text(answer), pixels.len());
-        }
+        self.refused.set(refusal(answer));
     }
 }
 
@@ -139,9 +145,10 @@ impl io::Device for Vdp {
         let answer = unsafe {
             vdp_out(lent.block.as_mut_ptr(), lent.block.len(), lent.vram.as_mut_ptr(), lent.vram.len(), addr, val)
         };
-        match answer & 0xFF {
+        self.refused.set(refusal(answer));
+        match refusal(answer) {
             0 => Ok(()),
-            _ => Err(format!("VDP write of {:02X} to port {:04X}: {}", val, addr, refusal_text(answer))),
+            number => Err(format!("VDP write of {:02X} to port {:04X}: {}", val, addr, refusal_text(number))),
         }
     }
 
@@ -151,9 +158,10 @@ impl io::Device for Vdp {
         // Sound: two live slices that do not overlap.
         let answer =
             unsafe { vdp_input(lent.block.as_mut_ptr(), lent.block.len(), lent.vram.as_ptr(), lent.vram.len(), addr) };
-        match answer & 0xFF {
+        self.refused.set(refusal(answer));
+        match refusal(answer) {
             0 => Ok((answer >> 8) as u8),
-            _ => Err(format!("VDP read of port {:04X}: {}", addr, refusal_text(answer))),
+            number => Err(format!("VDP read of port {:04X}: {}", addr, refusal_text(number))),
         }
     }
 }
@@ -164,9 +172,14 @@ impl Default for Vdp {
     }
 }
 
+/// The refusal of an answer, by its number.
+fn refusal(answer: u32) -> u8 {
+    answer as u8
+}
+
 /// A refusal in words.
-fn refusal_text(answer: u32) -> &'static str {
-    match answer & 0xFF {
+fn refusal_text(number: u8) -> &'static str {
+    match number {
         1 => "unknown port",
         2 => "the horizontal counter is not there",
         3 => "no such register",
