@@ -1,4 +1,4 @@
-//! The rules of the video chip (the scope document, "document 01") written out a second time in plain Rust: straight from its sentences, pixel by
+//! The rules of the video chip (docs/RULES.md) written out a second time in plain Rust: straight from their sentences, pixel by
 //! pixel, with no thought of speed. Total: every call ends, for any bytes and lengths. It says what the library must do
 //! where the published Rust panics or departs; where they agree, the comparison holds all three beside each other.
 
@@ -98,7 +98,7 @@ pub struct Stepped {
     pub row: Option<usize>,
 }
 
-/// Where a step meets one of the known departures of the published Rust; no part of the rules.
+/// Where a step meets one of the departures of the published Rust, R6.1 or R6.2; no part of the picture.
 #[derive(Clone, Default, Debug)]
 pub struct Notes {
     /// A counted sprite on the line has X 41 to 48 under the early clock, in the visible area: the Rust asserts.
@@ -129,7 +129,7 @@ impl Device {
         }
     }
 
-    /// Port write; answers the refusal, 0 if accepted.
+    /// Port write (R3.4 to R3.7); answers the refusal, 0 if accepted.
     pub fn write_port(&mut self, video: &mut [u8], port: u16, value: u8) -> u32 {
         if video.len() != VIDEO_SIZE {
             return 8;
@@ -216,7 +216,7 @@ impl Device {
         }
     }
 
-    /// Port read; answers the refusal and the byte.
+    /// Port read (R3.8 to R3.10); answers the refusal and the byte.
     pub fn read_port(&mut self, video: &[u8], port: u16) -> (u32, u8) {
         if video.len() != VIDEO_SIZE {
             return (8, 0);
@@ -251,7 +251,7 @@ impl Device {
         }
     }
 
-    /// The counting part of a step, before the row.
+    /// The counting part of a step, before the row (R4.1).
     fn count_up(&mut self) {
         self.counter = ((self.counter as u32 + 1) % 256) as u8;
         if self.counter == 0 {
@@ -265,7 +265,7 @@ impl Device {
         }
     }
 
-    /// The reporting part of a step, after the row.
+    /// The reporting part of a step, after the row (R4.3 to R4.5).
     fn report(&mut self) -> (bool, u32) {
         let mut report = NO_DISPLAY;
         if self.counter == 0xC1 {
@@ -282,7 +282,7 @@ impl Device {
         (frame_interrupt || line_interrupt, report)
     }
 
-    /// The row step: the row, if there is one, goes to the start of the row buffer. `Err` is the refusal.
+    /// The row step (R7.1): the row, if there is one, goes to the start of the row buffer. `Err` is the refusal.
     pub fn row_step(&mut self, video: &[u8], row: &mut [u8], area: Area, notes: &mut Notes) -> Result<Stepped, u32> {
         if video.len() != VIDEO_SIZE {
             return Err(8);
@@ -307,7 +307,7 @@ impl Device {
         Ok(Stepped { interrupt, report, row: drawn })
     }
 
-    /// The frame step: the row goes to its place in the frame.
+    /// The frame step (R7.2): the row goes to its place in the frame.
     pub fn frame_step(&mut self, video: &[u8], frame: &mut [u8], area: Area, notes: &mut Notes) -> Result<Stepped, u32> {
         if video.len() != VIDEO_SIZE {
             return Err(8);
@@ -324,7 +324,7 @@ impl Device {
         Ok(stepped)
     }
 
-    /// The colour numbers of one row, and the status after it.
+    /// The colour numbers of one row, and the status after it (R5.1 to R5.12).
     fn picture(&self, video: &[u8], area: Area, row: usize, notes: &mut Notes) -> Picture {
         let mut picture = Picture { colour: [0; 256], status: self.status };
         let mut priority = [false; 256];
@@ -342,7 +342,7 @@ impl Device {
             Area::Visible => (row + 24 + self.vertical_scroll as usize) % 224,
             Area::Effective => row,
         };
-        // Pixels cut off the first tile by the scroll.
+        // Pixels cut off the first tile by the scroll (R5.5).
         let cut = map(0) % 8;
         for x in 0..area.width() {
             let map_x = map(x);
@@ -435,7 +435,7 @@ impl Device {
         }
     }
 
-    /// Where a sprite with this X stands.
+    /// Where a sprite with this X stands (R5.9, R5.10).
     fn stand(&self, area: Area, x_byte: usize) -> Stand {
         let early = if bit(self.registers[0], 3) { 8 } else { 0 };
         match area {
@@ -453,7 +453,7 @@ impl Device {
         }
     }
 
-    /// The tile dump, with the cached colours as they stand; answers the refusal.
+    /// The tile dump (R5.13 to R5.15), with the cached colours as they stand; answers the refusal.
     pub fn dump(&self, video: &[u8], sheet: &mut [u8]) -> u32 {
         if video.len() != VIDEO_SIZE {
             return 8;
@@ -484,7 +484,7 @@ impl Device {
         0
     }
 
-    /// The state block of this device.
+    /// The state block of this device (R7.5).
     pub fn encode(&self) -> [u8; BLOCK_SIZE] {
         let mut block = [0; BLOCK_SIZE];
         block[0] = 0x56;
@@ -515,7 +515,7 @@ impl Device {
         block
     }
 
-    /// The device of a state block, if it is well formed.
+    /// The device of a state block, if it is well formed (R7.6).
     pub fn decode(block: &[u8]) -> Option<Device> {
         if !well_formed(block) {
             return None;
@@ -561,7 +561,7 @@ fn bit(byte: u8, k: u32) -> bool {
     byte / 2u8.pow(k) % 2 == 1
 }
 
-/// The code 0 to 15 of one pixel of the tile at this address: a bit of each of four bytes, the leftmost pixel at bit 7.
+/// The code 0 to 15 of one pixel of the tile at this address (R5.3): a bit of each of four bytes, the leftmost pixel at bit 7.
 fn tile_code(video: &[u8], tile: usize, down: usize, across: usize) -> u8 {
     let mut code = 0;
     for plane in 0..4 {
@@ -572,7 +572,7 @@ fn tile_code(video: &[u8], tile: usize, down: usize, across: usize) -> u8 {
     code
 }
 
-/// The 32 colours of a palette.
+/// The 32 colours of a palette (R4.6).
 pub fn colours(palette: &[u8; 64]) -> [[u8; 4]; 32] {
     let mut all = [[0; 4]; 32];
     for i in 0..32 {
@@ -595,7 +595,7 @@ pub fn well_formed(block: &[u8]) -> bool {
         && (block[23] == 1 || block[24] == 0)
 }
 
-/// The bytes of a row as a part of the frame; empty if there is no such row or the frame is too short.
+/// The bytes of a row as a part of the frame (R7.3); empty if there is no such row or the frame is too short.
 pub fn row_view(frame: &[u8], area: Area, row: usize) -> &[u8] {
     if row >= area.height() || frame.len() < area.frame_size() {
         return &frame[0..0];
@@ -603,7 +603,7 @@ pub fn row_view(frame: &[u8], area: Area, row: usize) -> &[u8] {
     &frame[row * area.row_size()..(row + 1) * area.row_size()]
 }
 
-/// The answer word of a step.
+/// The answer word of a step (R7.7).
 fn step_word(answer: Result<Stepped, u32>) -> u32 {
     match answer {
         Err(refusal) => refusal,

@@ -1,4 +1,4 @@
-//! What the programs `trace` and `snapshot` write for an input, by the model.
+//! What the programs `trace` and `snapshot` write for an input (R7.8 to R7.13), by the model.
 
 use crate::model::{Area, Device, Notes, VIDEO_SIZE};
 

@@ -20,11 +20,11 @@ fi
 
 # The player's file.
 $RUSTC --edition 2021 -O --test player/tests.rs -L native=build -o $out/player && $RUN $out/player
-tell "the player's file: the published tests, the marked examples, refusals" $?
+tell "the player's file: the published tests, the marked examples, refusals by number" $?
 
 # The trace programs beside the model.
 sh oracle/build.sh traces
-tell "the model prints the scope document's example" $?
+tell "the model prints the worked trace of the rules" $?
 build/oracle/traces trace "${TRACES:-1000}" "${SEED:-1}" build/bin/trace
 tell "traces beside the model" $?
 build/oracle/traces snapshot $((${TRACES:-1000} / 5)) "${SEED:-1}" build/bin/snapshot

@@ -18,7 +18,7 @@ use std::io::{Read, Write};
 use std::path::{Path, PathBuf};
 use std::process::{Command, Stdio};
 
-/// The example of the scope document, and what it must print.
+/// The worked trace of R7.12, and what it must print.
 const EXAMPLE: &[u8] = b"PW\xBF\x00PW\xBF\x40PW\xBE\xABPW\xBF\x00PW\xBF\x00PR\xBELS\x00PR\x7F";
 const EXAMPLE_TEXT: &[u8] = b"w 0\nw 0\nw 0\nw 0\nw 0\nr 0 AB\ns 0 01 0 0\nr 2 00\nend 8\n";
 
@@ -259,7 +259,7 @@ fn usage() -> ! {
 
 fn main() {
     if trace_text(EXAMPLE) != EXAMPLE_TEXT {
-        eprintln!("traces: the model does not print the scope document's example");
+        eprintln!("traces: the model does not print the worked trace");
         std::process::exit(1);
     }
     let words: Vec<String> = std::env::args().skip(1).collect();

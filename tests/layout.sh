@@ -1,6 +1,7 @@
 #!/usr/bin/env bash
-# layout.sh: what no proof says of the sources: their layout, that every definition file tells what it assumes, that every public function has its
-# theorem of one outcome, and that no edit which must fail was refused for a proof's shape alone.
+# layout.sh: what no proof says of the sources: their layout, that every definition file tells what it assumes, that the rules which are cited are those
+# of docs/RULES.md and no others, that every public function has its theorem of one outcome, and that every edit which must fail was tried, and refused
+# for a fact.
 set -u
 cd "$(dirname "$0")/.."
 . tools/tell.sh
@@ -12,6 +13,34 @@ bare=$(grep -L '^-- .*Assumes nothing' $(find crates -path '*/specs/*.antt' ! -n
 [ -z "$bare" ] || printf '%s\n' "$bare"
 [ -z "$bare" ]
 tell "every definition file says what it assumes" $?
+
+# A rule begins a line of docs/RULES.md with its number. Where no definition renders it, `(in FILE)` behind the number names who answers for it.
+texts='README.md Makefile crates docs include examples player oracle bench tests tools'
+rules=$(sed -nE 's/^\*\*(R[0-9]+\.[0-9]+)\*\*.*/\1/p' docs/RULES.md)
+twice=$(printf '%s\n' "$rules" | sort | uniq -d)
+[ -z "$twice" ] || printf 'used twice: %s\n' $twice
+[ -n "$rules" ] && [ -z "$twice" ]
+tell "every rule has a number of its own" $?
+
+unknown=$(grep -rIhowE 'R[0-9]+\.[0-9]+' $texts | sort -u | grep -vxF "$rules")
+for rule in $unknown; do
+    printf 'no such rule: %s in %s\n' "$rule" "$(grep -rIlwF "$rule" $texts | tr '\n' ' ')"
+done
+[ -z "$unknown" ]
+tell "every rule that is cited is there" $?
+
+bare=
+for rule in $rules; do
+    by=$(sed -nE "s/^\\*\\*$rule\\*\\* \(in ([^)]*)\).*/\1/p" docs/RULES.md)
+    grep -rqwF --include='*.antt' --include='*.md' "$rule" ${by:-crates/*/specs} || bare="$bare $rule${by:+ (in $by)}"
+done
+[ -z "$bare" ] || printf 'cited by no definition, nor by the file that it names:%s\n' "$bare"
+[ -n "$rules" ] && [ -z "$bare" ]
+tell "every rule is cited by a definition, or by the file that it names" $?
+
+grep -rInE 'document 0[0-9]|the[ ]papers?\b|scope[ ](paper|document)' $texts
+[ $? -eq 1 ]
+tell "no text is cited that is not here" $?
 
 # A library's public functions: those of src/lib.rt, and those that it hands on from modules of its own.
 bare=

@@ -1,6 +1,6 @@
 #!/usr/bin/env bash
 # traces.sh: build/bin/trace and build/bin/snapshot on whole, damaged, empty and long recordings, and the split at line 90.
-# What is expected: of the traces in tests/traces/ the text beside each; of the others what the scope document says, said again here.
+# What is expected: of the traces in tests/traces/ the text beside each; of the others what docs/RULES.md says (R7.8, R7.11, R7.13), said again here.
 set -u
 cd "$(dirname "$0")/.."
 . tools/cross.sh

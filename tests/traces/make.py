@@ -24,10 +24,10 @@ BF, BE, LINE = 0xBF, 0xBE, 0x7E
 EXAMPLE = write(BF, 0x00, 0x40) + write(BE, 0xAB) + write(BF, 0x00, 0x00) + read(BE) + steps(1) + read(0x7F)
 
 traces = {
-    # the scope document's example, and no input at all
+    # the worked trace (docs/RULES.md, R7.12), and no input at all
     "example": EXAMPLE,
     "empty": b"",
-    # its marked examples P1 to P3, P5 to P7 and P12
+    # the marked examples P1 to P3, P5 to P7 and P12 (R8.1)
     "p1": steps(1) + read(LINE),
     "p2": write(BF, 0x00, 0x00) + write(BE, 0x42) + read(BE, 2),
     "p3": write(BF, 0xFE, 0x7F) + write(BE, 0xA1, 0xB2) + write(BF, 0xFE, 0x3F) + read(BE, 2),

@@ -1,4 +1,4 @@
--- A row of background, by the map's column sx that its pixel 0 shows, the map's line y, and how far to the left its first tile marks.
+-- R5.1, R5.5: a row of background, by the map's column sx that its pixel 0 shows, the map's line y, and how far to the left its first tile marks.
 -- Assumes nothing.
 use mathlib.Core.Path.{_≡_}
 use mathlib.Core.List.{List}

@@ -1,4 +1,4 @@
-// The background of a row, tile by tile, with the priority mask that its tiles mark.
+// The background of a row (R5.1), tile by tile, with the priority mask that its tiles mark (R5.5).
 ghost use mathlib.Core.Path.{_≡_};
 ghost use mathlib.Core.Bool.{cond};
 ghost use mathlib.Core.Logic.{_⊎_};
@@ -12,7 +12,7 @@ ghost use Rattle.picture.specs.Tile.{turned, namesAt, tileLine};
 ghost use Rattle.background.specs.Background.{Room, backColour, backFront, shade, prioTo, placeAt, Whole};
 use bitmap::Bitmap;
 
-// Where the tile entries start.
+// R5.2: where the tile entries start.
 pub fn names_at(reg: [u8; 11]) -> usize
     ensures { λ r. ⌜ r ≡ namesAt (at reg) ⌝ }
     ensures { λ r. ⌜ r ≤ 14336 ⌝ }

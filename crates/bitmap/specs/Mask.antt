@@ -1,4 +1,4 @@
--- A circular mask of 256 bits, held as 32 bytes: bit i of the mask is bit i mod 8 of byte i div 8, and bit 256 is bit 0 again.
+-- R5.4, the masks: 256 bits around a circle in 32 bytes. Bit i of the mask is bit i mod 8 of byte i div 8, and bit 256 is bit 0 again.
 -- Assumes nothing.
 use mathlib.Core.Bool.{Bool, false, _||_, _&&_}
 use mathlib.Core.List.{List}

@@ -1,6 +1,5 @@
--- Document 01, "Added faces": the state block. "State block, 219 bytes: 56 53, status, registers (3 to 13), counter, flag, line count, address low, high,
--- read buffer, chosen (0 none, 1 video, 2 palette), command latch flag, byte, palette latch flag, byte, vertical scroll, dirty, palette (27 to 90),
--- cache R,G,B,A (91 to 218)."
+-- R7.5, R7.6: the state block, a device as 219 bytes: mark, status, registers (from 3 on), the raster, address, read buffer, chosen memory, the two latches,
+-- scroll, dirty, palette (from 27 on) and cache (from 91 on).
 -- Assumes nothing.
 use Prim.Native.Nat.{ℕ, _+_, _*_, _/_, _%_, _<_}
 use mathlib.Core.Path.{_≡_}
@@ -24,7 +23,7 @@ use Rattle.block.specs.declared.Decoded.{Decoded}
 abbrev pub blockSize : ℕ
 blockSize = 219
 
--- ---- the small fields: a flag is 0 or 1; "chosen (0 none, 1 video, 2 palette)"; a latch is a flag and a byte, 0 under flag 0
+-- ---- the small fields: a flag is 0 or 1; the chosen memory has a number (R11.11); a latch is a flag and a byte, 0 under flag 0
 abbrev pub flagOf : Bool → ℕ
 flagOf true = 1
 flagOf false = 0
@@ -51,7 +50,7 @@ latchByte (Held b) = b
 abbrev pub latchFrom : ℕ → ℕ → Latch
 latchFrom flag byte = cond (eqb flag 0) Empty (Held byte)
 
--- ---- "cache R,G,B,A": the four bytes of each colour, and the colours that stand from place 91 on
+-- ---- the cache: the four bytes of each colour, and the colours that stand from place 91 on
 unfoldable pub colourBytes : List ℕ → List ℕ
 colourBytes cs = table 128 (λ k. byteOfColour (at cs (k / 4)) (k % 4))
 
@@ -108,7 +107,7 @@ stateOf b =
       «color_cache» = coloursAt b;
     }
 
--- ---- "Malformed: other length or mark, a flag or dirty above 1, chosen above 2, a byte not 0 under flag 0."
+-- ---- R7.6: the length, the mark, the flags and the bytes under empty latches are right
 abbrev pub marked : List ℕ → Bool
 marked b = eqb (at b 0) 0x56 && eqb (at b 1) 0x53
 

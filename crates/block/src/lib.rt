@@ -1,4 +1,4 @@
-// The state block: a device as 219 bytes, and back.
+// The state block (R7.5): a device as 219 bytes, and back.
 ghost use mathlib.Core.Path.{_≡_};
 ghost use Prim.Native.Nat.{_+_, _*_, _≤_, _<_};
 ghost use lib.ListN.{length, drop};
@@ -138,7 +138,7 @@ fn put_colours(dst: &mut [u8], colours: &[u32])
     }
 }
 
-// Whether a block has the length, the mark, and no byte that does not fit its place.
+// R7.6: whether a block has the length, the mark, and no byte that does not fit its place.
 pub fn well_formed(block: &[u8]) -> bool
     ensures { λ r. ⌜ r ≡ wellFormed (now (block .entry)) ⌝ }
 {

@@ -13,7 +13,7 @@ use Rattle.laws.proofs.Tables.{length-table, getD-table}
 use Rattle.laws.proofs.Lists.{fill-step}
 use Rattle.colour.specs.Colour.{red, green, blue, colour, coloursOf}
 
--- "in that byte order"
+-- R4.6, the order of its bytes
 module _ (a b : ℕ) (small : a < 256) where
   pub red-byte : byteOfColour (colour a b) 0 ≡ red a b
   unfolding colour

@@ -1,4 +1,4 @@
--- "Colour i, from palette bytes a, b at 2i, 2i+1: red 17(a mod 16), green 17(a div 16), blue 17(b mod 16), then 255, in that byte order."
+-- R4.6, R4.7: a colour of two palette bytes, and the 32 of a palette.
 -- Assumes nothing.
 use mathlib.Core.List.{List}
 use Prim.Native.Nat.{ℕ, _+_, _*_, _/_, _%_}
@@ -19,6 +19,6 @@ blue a b = 17 * (b % 16)
 unfoldable pub colour : ℕ → ℕ → ℕ
 colour a b = ofBytes (red a b) (green a b) (blue a b) 255
 
--- "Palette 0 is colours 0 to 15, palette 1 is 16 to 31": the 32 colours of 64 palette bytes
+-- R4.7: both palettes, the 32 colours of 64 palette bytes
 unfoldable pub coloursOf : List ℕ → List ℕ
 coloursOf p = table 32 (λ i. colour (at p (2 * i)) (at p (2 * i + 1)))

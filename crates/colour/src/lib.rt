@@ -23,7 +23,7 @@ fn wide(x: u8) -> u32
     x as u32
 }
 
-// The colour of the palette bytes `rg` and `b`: red in the lowest byte, then green, blue, and 255.
+// R4.6: the colour of the palette bytes `rg` and `b`, red in its lowest byte.
 pub fn rgb(rg: u8, b: u8) -> u32
     ensures { λ r. ⌜ r ≡ colour rg b ⌝ }
 {
@@ -33,7 +33,7 @@ pub fn rgb(rg: u8, b: u8) -> u32
         + 16777216 * 255
 }
 
-// The 32 colours of a palette: what the cache holds once it is rebuilt.
+// R4.7: the 32 colours of a palette, which the cache holds once it is made anew.
 pub fn palette_recompute(cram: [u8; 64]) -> [u32; 32]
     ensures { λ r. ⌜ r ≡ coloursOf cram ⌝ }
 {

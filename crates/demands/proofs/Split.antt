@@ -255,7 +255,7 @@ pub changed-visible :
     (c : ℕ) → OnlyColour c old new → Changed r r₀ L c old new
 changed-visible t s kept c only = changed t visible-once s kept c only
 
--- the request's own line
+-- the author's own line
 pub ninety : {r : Run VisibleOnly} {old new : List ℕ} (s : Split r 90 old new) → Ninety s
 ninety {r} s =
     let c = colour-split-visible s in

@@ -1,4 +1,4 @@
--- What always holds of a device that was made fresh, after any calls.
+-- What always holds of a device that was made fresh, after any calls: of its cache (R4.2), its counter (R4.1) and its address (R6.4).
 -- Assumes nothing.
 use mathlib.Core.Path.{_≡_}
 use mathlib.Core.Logic.{_≢_}

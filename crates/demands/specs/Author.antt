@@ -1,4 +1,4 @@
--- The author's program itself: from a fresh device, on any frame and with any video memory at each step, it waits until the counter reads 90 and
+-- R13.7, the author's program itself: from a fresh device, on any frame and with any video memory at each step, it waits until the counter reads 90 and
 -- then gives colour 3 other palette bytes.
 -- Assumes nothing.
 use mathlib.Core.Path.{_≡_}
@@ -21,7 +21,7 @@ use Rattle.demands.specs.Split.{Split, Changed}
 abbrev pub write : ℕ → ℕ → List ℕ → Between
 write port value vram = record { call = out port value vram; no-step = tt }
 
--- "BF 06, BF C0", and the two bytes of colour 3
+-- BF 06, BF C0, and the two bytes of colour 3
 abbrev pub recolour : ℕ → ℕ → List ℕ → List Between
 recolour low high vram = write 0xBF 0x06 vram ∷ write 0xBF 0xC0 vram ∷ write 0xBE low vram ∷ write 0xBE high vram ∷ []
 

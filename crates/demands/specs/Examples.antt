@@ -1,4 +1,4 @@
--- P1 to P13, the marked examples of document 01: one table, a line for each, computed from the definitions.
+-- R8.1, R9.2, the marked examples P1 to P13: one table, a line for each, computed from the definitions.
 -- Assumes nothing.
 use mathlib.Core.Path.{_≡_, refl}
 use mathlib.Core.Bool.{false, cond}

@@ -1,4 +1,4 @@
--- "Prove that two outcomes allowed by it are the same": said of the contract itself, as the toolchain generates it from a function's clauses.
+-- R9.1, one outcome: said of the contract itself, as the toolchain generates it from a function's clauses.
 -- Assumes nothing.
 use mathlib.Core.Path.{_≡_}
 use mathlib.Core.Bool.{Bool}

@@ -1,4 +1,4 @@
--- DEMAND 3, said of the definitions that the contracts of the ports and the steps cite.
+-- R13.3 to R13.6, DEMAND 3, said of the definitions that the contracts of the ports and the steps cite.
 -- Assumes nothing.
 use mathlib.Core.Path.{_≡_}
 use mathlib.Core.Logic.{_↔_, _≢_}
@@ -54,7 +54,7 @@ refusalOf (step-frame a vram size) d = frameStep a vram size d .refusal
 refusalOf (step-row a vram size) d = rowStep a vram size d .refusal
 refusalOf (dump-tiles vram size) d = dumpRefusal vram size
 
--- the calls made so far, the last one first, and the device after them: "Start from a fresh device"
+-- the calls made so far, the last one first, and the device after them, which was fresh before them
 abbrev pub History : Type 0
 History = List Call
 
@@ -62,7 +62,7 @@ unfoldable pub deviceAfter : History → VdpState
 deviceAfter [] = fresh
 deviceAfter (c ∷ h) = after c (deviceAfter h)
 
--- "the vertical scroll latched when the counter last became 0 (0 if it never did)": register 9 at that call
+-- R13.5: the scroll that the counter's last 0 latched: register 9 at that call, and 0 before there was one
 abbrev pub becomesZero : VdpState → VdpState → Bool
 becomesZero d d′ = not (eqb (lineOf d) 0) && eqb (lineOf d′) 0
 
@@ -70,7 +70,7 @@ unfoldable pub latched : History → ℕ
 latched [] = 0
 latched (c ∷ h) = cond (becomesZero (deviceAfter h) (deviceAfter (c ∷ h))) (register (deviceAfter h) 9) (latched h)
 
--- ---- "consecutive accepted .. steps on one frame that nothing else writes", "with any port calls between steps"
+-- ---- R13.3: accepted steps on one frame, one after another, with calls between them that do not write it
 -- What may be called between two steps: a port, a dump, and a step of either kind and area that is refused, whatever the device (a step's
 -- refusal does not depend on the device).
 abbrev pub NoStep : Call → Type 0
@@ -132,11 +132,11 @@ frameAt {a} r (suc i) = frameAfter a (r .vram i) (ready r i) (frameAt r i)
 abbrev pub rowAtEnd : {a : RenderArea} → Run a → ℕ → List ℕ
 rowAtEnd {a} r y = rowOf (rowSize a) y (frameAt r passLength)
 
--- "the picture rule .. for the video memory .. and registers at its own step, with the vertical scroll latched .."
+-- R13.5: the picture of row y by what there is at step i
 abbrev pub pictureAt : {a : RenderArea} → Run a → ℕ → ℕ → Row
 pictureAt {a} r i y = pictureOf a (ready r i .reg) (latched (through r i)) (r .vram i) y
 
--- "line interrupts on, frame interrupts off and register 10 at N"
+-- R13.6: the registers under which it counts
 pub record LineInterruptsEvery (N : ℕ) (g : ℕ → ℕ) : Type 0 where
   pub line-on : bit (g 0) 4 ≡ true
   pub frame-off : bit (g 1) 5 ≡ false
@@ -144,20 +144,20 @@ pub record LineInterruptsEvery (N : ℕ) (g : ℕ → ℕ) : Type 0 where
 
 -- ---- the demand
 pub record Demand3 {a : RenderArea} (r : Run a) : Type 0 where
-  -- "Each of the 144 rows is drawn exactly once", and no other
+  -- R13.3: every row once, and no other
   pub row-once : (y : ℕ) → y < rows a → ExactlyOnce passLength (λ i. answer r i .row ≡ Drawn y)
   pub no-other : (i y : ℕ) → answer r i .row ≡ Drawn y → y < rows a
   -- a step that does not draw row y leaves row y as it is, and none changes a byte past the frame
   pub row-kept : (i y : ℕ) → answer r i .row ≢ Drawn y → rowOf (rowSize a) y (frameAt r (suc i)) ≡ rowOf (rowSize a) y (frameAt r i)
   pub past-kept : (i : ℕ) → drop (frameSize a) (frameAt r i) ≡ drop (frameSize a) (r .frame)
-  -- "the screen end is reported exactly once"
+  -- R13.4: one end of the screen
   pub end-once : ExactlyOnce passLength (λ i. answer r i .report ≢ NoDisplay)
-  -- "each row ends up as the picture rule gives it for the video memory, palette and registers at its own step", step i
+  -- R13.5: at the end row y is as its own step i drew it
   pub row-bytes :
       (i y : ℕ) → i < passLength → answer r i .row ≡ Drawn y →
       rowAtEnd r y ≡ rowBytes (coloursOf (ready r i .cram)) (columns a) (pictureAt r i y)
-  -- ".. from just before the step that sets line 0", step i, "until the step that sets 193 has ended, the step for line k, 0 to 193, reports an
-  -- interrupt exactly when N+1 divides k+2"
+  -- R13.6: where the registers stay so from step i, which sets line 0, to the one that sets line 193, the step of line k reports an interrupt
+  -- exactly where N + 1 divides k + 2
   pub line-interrupts :
       (i N : ℕ) → lineSet r i ≡ 0 → ((k : ℕ) → k ≤ 193 → LineInterruptsEvery N (register (ready r (i + k)))) →
       (k : ℕ) → k ≤ 193 → (lineSet r (i + k) ≡ k) × ((answer r (i + k) .interrupt ≡ InterruptGenerated) ↔ (N + 1 ∣ k + 2))

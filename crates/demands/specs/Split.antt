@@ -1,4 +1,4 @@
--- THE AUTHOR'S QUESTION: "If the program changes colour 3 when the line counter reads 90, which pixels change?"
+-- R13.7, THE AUTHOR'S QUESTION: which pixels change where a colour changes while the counter reads some line?
 -- Assumes nothing.
 use mathlib.Core.Path.{_≡_}
 use mathlib.Core.Logic.{_≢_, _⊎_}
@@ -33,18 +33,18 @@ pub record Split {a : RenderArea} (r : Run a) (L : ℕ) (old new : List ℕ) : T
 pub record ColourSplit {a : RenderArea} {r : Run a} {L : ℕ} {old new : List ℕ} (s : Split r L old new) : Type 0 where
   -- after that step and until the next the counter reads L
   pub reads : lineOf (ready r (suc (s .step))) ≡ L
-  -- "The step that set the counter to 90 has already drawn row 66": row L - 24
+  -- the step that set it has drawn its row: at line 90 row 66, row L - 24
   pub drew : answer r (s .step) .row ≡ Drawn (L - firstLine a)
-  -- "So row 66 keeps the old colour": each row y up to L - 24, drawn at its own step i
+  -- the old colour stays: in each row y up to L - 24, drawn at its own step i
   pub keeps :
       (i y : ℕ) → i < passLength → answer r i .row ≡ Drawn y → y + firstLine a ≤ L →
       rowAtEnd r y ≡ rowBytes (coloursOf old) (columns a) (pictureAt r i y)
-  -- "and row 67 is the first with the new one": each row y from L - 23 on
+  -- the new one begins a row below: in each row y from L - 23 on
   pub changes :
       (i y : ℕ) → i < passLength → answer r i .row ≡ Drawn y → L < y + firstLine a →
       rowAtEnd r y ≡ rowBytes (coloursOf new) (columns a) (pictureAt r i y)
 
--- The request's own line: the step that sets 90 draws row 66 with the old palette, the next one row 67 with the new.
+-- The author's own line: the step that sets 90 draws row 66 with the old palette, the next one row 67 with the new.
 pub record Ninety {r : Run VisibleOnly} {old new : List ℕ} (s : Split r 90 old new) : Type 0 where
   pub row-66 : rowAtEnd r 66 ≡ rowBytes (coloursOf old) 160 (pictureAt r (s .step) 66)
   pub row-67 : rowAtEnd r 67 ≡ rowBytes (coloursOf new) 160 (pictureAt r (suc (s .step)) 67)
@@ -82,7 +82,7 @@ pub record Twins {a : RenderArea} (r r₀ : Run a) : Type 0 where
   pub memory : (i : ℕ) → i < passLength → r .vram i ≡ r₀ .vram i
   pub registers : (i : ℕ) → i < passLength → ready r i .reg ≡ ready r₀ i .reg
 
--- "which pixels change?" Those of number c in rows from L - 23 on, and no others.
+-- The pixels that change: those of number c in rows from L - 23 on, and no others.
 pub record Changed {a : RenderArea} (r r₀ : Run a) (L c : ℕ) (old new : List ℕ) : Type 0 where
   pub these :
       (i x y : ℕ) → i < passLength → answer r i .row ≡ Drawn y → x < columns a → L < y + firstLine a → pictureAt r i y .colour x ≡ c →

@@ -1,4 +1,4 @@
--- "Tile dump: 16 tiles across, rows of 128 pixels, tiles 0 to 255 as background in palette 0, then the same numbers as sprites (code 0 leaves the pixel)."
+-- R5.13 to R5.15, the tile dump: 512 tiles on a sheet, 256 of them as background and 256 as sprites.
 -- `tall` is register 1 bit 1, `high` register 6 bit 2.
 -- Assumes nothing.
 use mathlib.Core.Bool.{Bool, cond, _&&_}
@@ -15,7 +15,7 @@ use Rattle.picture.specs.Tile.{codeAt}
 abbrev pub isSprite : ℕ → Bool
 isSprite c = leb 256 c
 
--- "With register 1 bit 1, sprite tile c of 256 to 511 stands at column (c mod 32) div 2, row 2(c div 32) + c mod 2", others 16 across: where tile c
+-- R5.14: tiles of sprites 16 high in pairs, one below the other, all others 16 across: where tile c
 -- of 0 to 511 stands
 unfoldable pub tileColumn : Bool → ℕ → ℕ
 tileColumn tall c = cond (tall && isSprite c) (c % 32 / 2) (c % 16)
@@ -27,11 +27,11 @@ tileRow tall c = cond (tall && isSprite c) (2 * (c / 32) + c % 2) (c / 16)
 unfoldable pub tileAt : Bool → ℕ → ℕ → ℕ
 tileAt tall i j = cond (tall && leb 16 j) (32 * (j / 2) + 2 * i + j % 2) (16 * j + i)
 
--- the address of line l of tile c: number c mod 256, of a sprite from "pattern base 8,192 if register 6 bit 2" on
+-- the address of line l of tile c: number c mod 256, of a sprite from the pattern base of R5.8 on
 unfoldable pub lineAt : Bool → ℕ → ℕ → ℕ
 lineAt high c l = cond (isSprite c && high) 8192 0 + 32 * (c % 256) + 4 * l
 
--- byte b of a pixel with this code, where `old` was: as background in palette 0; as a sprite in palette 1, and code 0 leaves the pixel
+-- R5.13: byte b of a pixel with this code, where `old` was: as background in palette 0; as a sprite in palette 1, and code 0 leaves the pixel
 unfoldable pub pixelByte : List ℕ → Bool → ℕ → ℕ → ℕ → ℕ
 pixelByte colours sprite code b old = cond sprite (cond (eqb code 0) old (byteOfColour (at colours (16 + code)) b)) (byteOfColour (at colours code) b)
 
@@ -41,7 +41,7 @@ dumpByte m tall high colours x y b old =
     let c = tileAt tall (x / 8) (y / 8) in
     pixelByte colours (isSprite c) (codeAt m (lineAt high c (y % 8)) (x % 8)) b old
 
--- the 131,072 bytes after the dump: byte k is byte k mod 4 of pixel k div 4, in rows of 128 pixels. "It uses the cache as it stands": `colours`
+-- the 131,072 bytes after the dump: byte k is byte k mod 4 of pixel k div 4, in rows of 128 pixels, by the colours that it is given (R5.15)
 unfoldable pub dumped : List ℕ → List ℕ → List ℕ → List ℕ → List ℕ
 dumped vram reg colours pixels =
     table 131072 (λ k. dumpByte (at vram) (bit (at reg 1) 1) (bit (at reg 6) 2) colours (k / 4 % 128) (k / 4 / 128) (k % 4) (at pixels k))

@@ -1,4 +1,4 @@
-// All tiles of video memory, drawn side by side: 256 as background, and the same numbers as sprites.
+// All tiles of video memory on one sheet (R5.13): 256 as background, and the same numbers as sprites.
 ghost use mathlib.Core.Path.{_≡_};
 ghost use mathlib.Core.Bool.{cond, _&&_};
 ghost use mathlib.Core.List.{List};
@@ -10,7 +10,7 @@ ghost use Rattle.picture.specs.Tile.{codeAt};
 ghost use Rattle.dump.specs.Dump.{tileColumn, tileRow, lineAt, pixelByte, dumped};
 ghost use Rattle.dump.specs.Lines.{Dumping};
 
-// The column of tiles in which tile chr stands.
+// R5.14: the column of tiles in which tile chr stands.
 fn column_of(tall: bool, chr: usize) -> usize
     ensures { λ r. ⌜ r ≡ tileColumn tall chr ⌝ }
     ensures { λ r. ⌜ r < 16 ⌝ }
@@ -92,7 +92,7 @@ fn dump_tile(
     }
 }
 
-// All tiles, by the cached colours as they stand.
+// All tiles, by the cached colours as they stand (R5.15).
 pub fn dump_tileset(pixels: &mut [u8], vram: &[u8], colours: &[u32; 32], reg: [u8; 11])
     requires { ⌜ (length (now pixels) ≡ 131072) × (length (now vram) ≡ 16384) ⌝ }
     ensures { λ r. ⌜ now (pixels .exit) ≡ dumped (now (vram .entry)) reg (now (colours .entry)) (now (pixels .entry)) ⌝ }

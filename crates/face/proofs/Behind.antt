@@ -65,7 +65,7 @@ module _ (b : List ℕ) (bytes : (i : ℕ) → at b i < 256) where
   emptied : wellFormed b ≡ true → blockOf (unlatched (stateOf b)) ≡ set (set b 21 0) 22 0
   emptied w = unlatched-block (stateOf b) (registers w) ∙ ap (λ (l : List ℕ). set (set l 21 0) 22 0) (block-back b w bytes)
 
-  -- the column "Left behind", of a device and of its block
+  -- R2.2 of a device and of its block
   behind : wellFormed b ≡ true → (r : Refusal) → blockOf (leftBehind r (stateOf b)) ≡ blockLeft (refusalNumber r) b
   behind w HighRegister = emptied w
   behind w NothingChosen = emptied w

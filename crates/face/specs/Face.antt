@@ -1,4 +1,4 @@
--- Document 01, "Added faces": what each call of the C face answers and leaves, over a state block. "The C face takes numbers and byte slices only."
+-- R7.4: what each call of the C face answers and leaves, over a state block; it goes by numbers and byte slices alone.
 -- Assumes nothing.
 use mathlib.Core.Path.{_≡_}
 use mathlib.Core.Bool.{cond}
@@ -30,8 +30,8 @@ pub record Called : Type 0 where
   pub block : List ℕ
   pub lent : List ℕ
 
--- ---- the answer word: "refusal in bits 0 to 7; read byte in 8 to 15, or interrupt bit 8, report .. in bits 9, 10, row in 16 to 23 (0 if none drawn),
--- drawn bit 24; rest 0"
+-- ---- R7.7, the answer word: the refusal, from bit 8 on a read's byte, or a step's interrupt, from bit 9 on its report, from bit 16 on its row, and bit 24
+-- where it drew one
 abbrev pub readWord : ReadBack → ℕ
 readWord a = refusalNumber (a .refusal) + 256 * a .byte
 
@@ -42,14 +42,14 @@ rowBits (Drawn y) = 65536 * y + 16777216
 unfoldable pub stepWord : Stepped → ℕ
 stepWord s = refusalNumber (s .refusal) + 256 * interruptNumber (s .interrupt) + 512 * reportNumber (s .report) + rowBits (s .row)
 
--- ---- "Order: 10, 11, 8, 9": first the block b is read, then the area number n; x is the buffer that a refusal leaves as it was
+-- ---- R2.4, its beginning: first the block b is read, then the area number n; x is the buffer that a refusal leaves as it was
 abbrev pub refused : Refusal → List ℕ → List ℕ → Called
 refused r b x = record { word = refusalNumber r; block = b; lent = x }
 
 abbrev pub onBlock : List ℕ → List ℕ → (VdpState → Called) → Called
 onBlock b x call = cond (wellFormed b) (call (stateOf b)) (refused BlockMalformed b x)
 
--- "area number above 1"
+-- R2.1, refusal 11: there are areas 0 and 1
 abbrev pub onArea : ℕ → List ℕ → List ℕ → (RenderArea → Called) → Called
 onArea n b x call = cond (leb n 1) (call (areaFrom n)) (refused UnknownArea b x)
 

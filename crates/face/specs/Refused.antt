@@ -1,4 +1,4 @@
--- Document 01, "Numbers that refuse", of the calls of the C face: when each is refused, and what is left behind.
+-- R2.1 to R2.4 of the calls of the C face, and so R13.1: when each is refused, and what is left behind.
 -- Assumes nothing.
 use mathlib.Core.Path.{_≡_}
 use mathlib.Core.Logic.{_≢_}
@@ -14,11 +14,11 @@ use Rattle.step.specs.Dump.{dumpLines}
 use Rattle.step.specs.Step.{stepLines}
 use Rattle.face.specs.Face.{Called}
 
--- "refusal in bits 0 to 7"
+-- R7.7: the refusal is the word's low byte
 abbrev pub refusalIn : ℕ → ℕ
 refusalIn word = word % 256
 
--- ---- "Order: 10, 11, 8, 9; then 1, 2, 3; for data 4, 5, 7, 6."
+-- ---- R2.4: the block, the area, and then the tests of the port or the step
 abbrev pub malformed : List ℕ → Line
 malformed b = line (not (wellFormed b)) BlockMalformed
 
@@ -38,11 +38,11 @@ stepCallLines need b m size n = malformed b ∷ line (not (leb n 1)) UnknownArea
 abbrev pub dumpCallLines : List ℕ → List ℕ → ℕ → List Line
 dumpCallLines b m size = malformed b ∷ dumpLines m size
 
--- ---- the column "Left behind", of the block: "all unchanged", or of 3 to 7 "command latch empty", which stands in bytes 21 and 22
+-- ---- R2.2, of the block: 3 to 7 leave the command latch empty, which stands in bytes 21 and 22; the others leave all as it was
 abbrev pub blockLeft : ℕ → List ℕ → List ℕ
 blockLeft refusal b = cond (leb 3 refusal && leb refusal 7) (set (set b 21 0) 22 0) b
 
--- What a refused call on block b leaves, x its other buffer. "A refused read gives byte 0; a refused step gives no interrupt, no display report, no row":
+-- R2.3: what a refused call on block b leaves, x its other buffer. It gives no byte, interrupt, report or row:
 -- its word is the refusal alone.
 pub record LeftBehind (b x : List ℕ) (c : Called) : Type 0 where
   pub word : refusalIn (c .word) ≢ 0 → c .word < 256

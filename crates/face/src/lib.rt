@@ -1,4 +1,4 @@
-// The C face: the device's calls over a state block, with numbers and byte slices only. A slice passes as a pointer and a length.
+// The C face (R7.4): the device's calls over a state block, and answers by R7.7. A slice passes as a pointer and a length.
 ghost use mathlib.Core.List.{[]};
 ghost use mathlib.Core.Path.{_≡_};
 ghost use Prim.Native.Nat.{_+_, _*_, _<_};

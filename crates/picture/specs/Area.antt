@@ -12,11 +12,11 @@ use Rattle.picture.specs.Picture.{Row, picture}
 use Rattle.picture.specs.declared.RenderArea.{RenderArea}
 use Rattle.picture.specs.declared.RenderArea.the-variants.{VisibleOnly, EffectiveArea}
 
--- "area number .. (0 visible, 1 effective)"
+-- R2.1: the area of a number
 abbrev pub areaFrom : ℕ → RenderArea
 areaFrom n = cond (eqb n 0) VisibleOnly EffectiveArea
 
--- "visible frame .. (160 x 144 x 4); effective frame .. (256 x 224 x 4)"; "row counter-24 for counter 24 to 167", "row counter for 0 to 223"
+-- R2.6: how wide and how high; R4.2: the line of row 0
 abbrev pub columns : RenderArea → ℕ
 columns VisibleOnly = 160
 columns EffectiveArea = 256
@@ -29,7 +29,7 @@ abbrev pub firstLine : RenderArea → ℕ
 firstLine VisibleOnly = 24
 firstLine EffectiveArea = 0
 
--- "row step at least 640 or 1,024", "visible frame at least 92,160 bytes", "effective frame at least 229,376"
+-- R2.6: the bytes of a row and of a frame
 abbrev pub rowSize : RenderArea → ℕ
 rowSize VisibleOnly = 640
 rowSize EffectiveArea = 1024
@@ -47,7 +47,7 @@ viewOf EffectiveArea g scroll y = effective g y
 unfoldable pub pictureOf : RenderArea → List ℕ → ℕ → List ℕ → ℕ → Row
 pictureOf a reg scroll vram y = picture (at vram) (at reg) (viewOf a (at reg) scroll y)
 
--- the bytes of a picture: the four bytes of its colour at each column
+-- R4.6, R6.2: the bytes of a picture: the four bytes of its colour at each column, and no column past the last
 unfoldable pub rowBytes : List ℕ → ℕ → Row → List ℕ
 rowBytes colours width p = table (width * 4) (λ k. byteOfColour (at colours (p .colour (k / 4))) (k % 4))
 

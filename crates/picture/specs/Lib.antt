@@ -1,4 +1,4 @@
--- The picture of one row, by document 01.
+-- The picture of one row.
 pub mod Tile
 pub mod View
 pub mod Picture

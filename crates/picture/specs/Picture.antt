@@ -1,4 +1,4 @@
--- Document 01, "The picture of one row", over any view: `picture m g v` is a row's colour numbers and the status bits that it sets.
+-- R5.4 to R5.12, over any view: `picture m g v` is a row's colour numbers and the status bits that it sets.
 -- Assumes nothing.
 use mathlib.Core.Bool.{Bool, true, false, cond, _&&_, _||_, not}
 use mathlib.Core.List.{List, [], _∷_}
@@ -16,28 +16,28 @@ use Rattle.picture.specs.declared.Stand.{Stand}
 unfoldable pub back : (ℕ → ℕ) → (ℕ → ℕ) → View → ℕ → ℕ
 back m g v x = mapColour m (namesAt g) (v .mapX x) (v .mapY x)
 
--- bit i of the priority mask: some column of the row marks it
+-- R5.4: bit i of the priority mask: some column of the row marks it
 unfoldable pub front : (ℕ → ℕ) → (ℕ → ℕ) → View → ℕ → Bool
 front m g v i = any (v .width) (λ x. eqb (v .markAt x) i && mapFront m (namesAt g) (v .mapX x) (v .mapY x))
 
 -- ---- the sprites on a line
--- "table T = (register 5 AND 7E) x 128"; sprite n's Y byte is at T + n, "X at T+128+2n, tile after it"
+-- R5.6: the table T; sprite n has its Y byte at T + n, its X byte and its tile at T + 128 + 2n (R5.8)
 unfoldable pub tableAt : (ℕ → ℕ) → ℕ
 tableAt g = bitAnd (g 5) 0x7E * 128
 
--- "v = (Y+1) mod 256"
+-- the line that its first row is on
 unfoldable pub topOf : (ℕ → ℕ) → (ℕ → ℕ) → ℕ → ℕ
 topOf m g n = (m (tableAt g + n) + 1) % 256
 
--- "height 16 if register 1 bit 1, else 8"
+-- 16 lines high, and not 8
 abbrev pub tall : (ℕ → ℕ) → Bool
 tall g = bit (g 1) 1
 
--- "On line L .. when v <= L < v + height"
+-- one of its lines is line l
 unfoldable pub onLine : (ℕ → ℕ) → (ℕ → ℕ) → ℕ → ℕ → Bool
 onLine m g l n = leb (topOf m g n) l && ltb l (topOf m g n + cond (tall g) 16 8)
 
--- "Sprites 0 to 63 .. Y byte D0 ends the list": those on line l, of `left` from sprite n on
+-- up to a Y byte of D0: those on line l, of `left` from sprite n on
 unfoldable pub listed : (ℕ → ℕ) → (ℕ → ℕ) → ℕ → ℕ → ℕ → List ℕ
 listed m g l zero n = []
 listed m g l (suc left) n =
@@ -45,7 +45,7 @@ listed m g l (suc left) n =
     (cond (onLine m g l n) (n ∷ listed m g l left (suc n)) (listed m g l left (suc n)))
 
 -- ---- one sprite
--- "pattern base 8,192 if register 6 bit 2. Height 16: even tile for the upper half, odd for the lower": the address of line d of its tile
+-- R5.8: the address of line d of its tile, or of its pair of tiles
 unfoldable pub spriteLine : (ℕ → ℕ) → ℕ → ℕ → ℕ
 spriteLine g tile d = cond (bit (g 6) 2) 8192 0 + 32 * cond (tall g) (tile / 2 * 2 + d / 8) tile + 4 * (d % 8)
 
@@ -55,29 +55,29 @@ pub record Canvas : Type 0 where
   pub mask : ℕ → Bool
   pub hit : Bool
 
--- "column c shows tile pixel start + c, below end", and its code is not 0
+-- R5.11: column k shows a pixel of the tile, and its code is not 0
 unfoldable pub solid : ℕ → ℕ → (ℕ → ℕ) → ℕ → Bool
 solid start end code k = ltb (start + k) end && not (eqb (code (start + k)) 0)
 
 -- A sprite that stands at s and whose tile line has the codes `code`, laid on the canvas c, with the priority mask `prio`.
 module _ (s : Stand) (code : ℕ → ℕ) (prio : ℕ → Bool) (c : Canvas) where
-  -- priority holds it back. (Of an unseen one: "by code alone")
+  -- priority holds it back; of one that is not seen it holds none (R5.12)
   unfoldable pub heldBack : ℕ → Bool
   heldBack k = s .seen && prio ((s .prio + k) % 256)
 
-  -- "It is marked if its code is not 0 and priority bit (x - start + c) mod 256 is clear"
+  -- R5.11: it is marked
   unfoldable pub marked : ℕ → Bool
   marked k = solid (s .start) (s .end) code k && not (heldBack k)
 
-  -- "already set at (X + c) mod 256 in the sprite mask"
+  -- the sprite mask has its place already
   unfoldable pub struck : ℕ → Bool
   struck k = c .mask ((s .mark + k) % 256)
 
-  -- "A marked column already set .. isn't drawn; other marked ones draw at x + c". (Of an unseen one: "nothing is drawn")
+  -- it is drawn where it is marked and its place was free; of a sprite that is not seen nothing is (R5.12)
   unfoldable pub drawn : ℕ → Bool
   drawn k = s .seen && (marked k && not (struck k))
 
-  -- ".. sets status bit 5", "in palette 1", "Then the marks join the mask"
+  -- the drawn ones in palette 1, the marks with those before, and whether two met
   unfoldable pub laid : Canvas
   laid = record {
     colour = λ x. cond (leb (s .x) x && drawn (x - s .x)) (16 + code (s .start + (x - s .x))) (c .colour x);
@@ -109,7 +109,7 @@ pub record Row : Type 0 where
   pub hit : Bool
   pub ninth : Bool
 
--- "The ninth on a line sets status bit 6 and ends it; unseen ones count"
+-- R5.7: the first eight of the line, seen or not, and whether there is a ninth
 unfoldable pub picture : (ℕ → ℕ) → (ℕ → ℕ) → View → Row
 picture m g v =
     let ns = listed m g (v .line) 64 0 in

@@ -1,4 +1,4 @@
--- Document 01, "The picture of one row": tiles and the map. Memory m and registers g are functions of the place; `at` makes one of a list.
+-- R5.2, R5.3: tiles and the map. Memory m and registers g are functions of the place; `at` makes one of a list.
 -- Assumes nothing.
 use mathlib.Core.Bool.{Bool, cond, _&&_, not}
 use Prim.Native.Nat.{ℕ, _+_, _-_, _*_, _/_, _%_}
@@ -6,11 +6,11 @@ use lib.Bits.{bitAnd}
 use lib.Dec.{eqb}
 use Rattle.laws.specs.Bits.{bit, digit}
 
--- "bit of four bytes .., byte 0 lowest": the code that bit k of four bytes has
+-- R5.3: the code that bit k of four bytes has
 unfoldable pub codeOf : ℕ → ℕ → ℕ → ℕ → ℕ → ℕ
 codeOf b0 b1 b2 b3 k = digit (bit b0 k) + 2 * digit (bit b1 k) + 4 * digit (bit b2 k) + 8 * digit (bit b3 k)
 
--- ".. leftmost pixel at bit 7": the code of pixel p of the tile line whose four bytes are at a
+-- the code of pixel p, from the left, of the tile line whose four bytes are at a
 unfoldable pub codeAt : (ℕ → ℕ) → ℕ → ℕ → ℕ
 codeAt m a p = codeOf (m a) (m (a + 1)) (m (a + 2)) (m (a + 3)) (7 - p)
 
@@ -18,19 +18,19 @@ codeAt m a p = codeOf (m a) (m (a + 1)) (m (a + 2)) (m (a + 3)) (7 - p)
 abbrev pub turned : Bool → ℕ → ℕ
 turned flip k = cond flip (7 - k) k
 
--- "Tile entry at (register 2 AND 0E) x 1024 + 2(32(y div 8) + x div 8)": where the entries start, and where that of the map's pixel (x, y) is
+-- R5.2: where the entries start, and where that of the map's pixel (x, y) is
 abbrev pub namesAt : (ℕ → ℕ) → ℕ
 namesAt g = bitAnd (g 2) 0x0E * 1024
 
 unfoldable pub entryAt : ℕ → ℕ → ℕ → ℕ
 entryAt names x y = names + 2 * (32 * (y / 8) + x / 8)
 
--- "low byte and bit 0 of the second give the tile", "at 32 tile + 4 line": the address of line y of the tile with entry bytes lo, hi
+-- the address of line y of the tile with entry bytes lo, hi
 unfoldable pub tileLine : ℕ → ℕ → ℕ → ℕ
 tileLine lo hi y = 32 * (lo + 256 * digit (bit hi 0)) + 4 * turned (bit hi 2) (y % 8)
 
--- "bits 1 to 4: flip across, flip down, palette 1, priority": the code of the map's pixel with these entry bytes, its colour number (palette 1 is
--- colours 16 to 31; "code 0 is drawn too"), and whether it is marked in the priority mask ("a priority tile marks pixels of non-zero code")
+-- R5.2, the other bits: the code of the map's pixel with these entry bytes, its colour number (palette 1 is
+-- colours 16 to 31, R4.7; code 0 is a colour too, R5.3), and whether it is marked in the priority mask (R5.5)
 unfoldable pub entryCode : (ℕ → ℕ) → ℕ → ℕ → ℕ → ℕ → ℕ
 entryCode m lo hi x y = codeAt m (tileLine lo hi y) (turned (bit hi 1) (x % 8))
 

@@ -1,4 +1,4 @@
--- Document 01, "The picture of one row": what differs from area to area. All else is said once, over any view.
+-- R5.1, R5.5, R5.9, R5.10: what differs from area to area. All else is said once, over any view.
 -- Assumes nothing.
 use mathlib.Core.Bool.{Bool, true, cond, _&&_}
 use Prim.Native.Nat.{ℕ, _+_, _-_, _%_, min}
@@ -19,24 +19,24 @@ pub record View : Type 0 where
   -- where a sprite with X byte h stands
   pub stand : ℕ → Stand
 
--- "e = 8 if register 0 bit 3 else 0"
+-- the early clock of R5.9
 abbrev pub early : (ℕ → ℕ) → ℕ
 early g = cond (bit (g 0) 3) 8 0
 
 -- ---- the visible area
--- "with s = map x of column 0 mod 8, pixel x of that tile [the first, cut by scroll] is marked at (x - s) mod 256"; others "at their screen x"
+-- R5.5: the first tile, of which scroll cuts s pixels, marks s places to the left; all others at their own columns
 unfoldable pub cutMark : ℕ → ℕ → ℕ
 cutMark s x = cond (ltb x (8 - s)) ((x + 256 - s) % 256) x
 
--- "end = 8 if x > 160, else min(160-x, 8)"
+-- R5.9: where it ends
 unfoldable pub visibleEnd : ℕ → ℕ
 visibleEnd x = cond (ltb 160 x) 8 (min (160 - x) 8)
 
--- "Unseen when X <= 40 or X >= 208"
+-- R5.9: whether it is seen
 unfoldable pub visibleSeen : ℕ → Bool
 visibleSeen h = ltb 40 h && ltb h 208
 
--- "x = max(X-48-e, 0), start = max(48+e-X, 0)"; priority bit "(x - start + c) mod 256"; marked at "(X + c) mod 256", and if unseen pixel p "at (X + p) mod 256"
+-- R5.9, R6.1: where it stands; where R5.11 tests priority from, and where it marks from (one that is not seen: R5.12)
 unfoldable pub visibleStand : ℕ → ℕ → Stand
 visibleStand e h = record {
   seen = visibleSeen h;
@@ -47,7 +47,7 @@ visibleStand e h = record {
   mark = cond (visibleSeen h) h (h + (48 + e - h));
 }
 
--- "map x = (x + 304 - register 8) mod 256, map y = (row + 24 + vertical scroll) mod 224", line "row + 24 if visible"
+-- R5.1: the map scrolled; sprites are on line row + 24
 unfoldable pub visible : (ℕ → ℕ) → ℕ → ℕ → View
 visible g scroll row = record {
   width = 160;
@@ -59,10 +59,10 @@ visible g scroll row = record {
 }
 
 -- ---- the effective area
--- "x = (X-e) mod 256, start 0, end 8, all seen"
+-- R5.10: where it stands
 unfoldable pub effectiveStand : ℕ → ℕ → Stand
 effectiveStand e h = record { seen = true; x = (h + 256 - e) % 256; start = 0; end = 8; prio = (h + 256 - e) % 256; mark = h }
 
--- "map is the screen"; so s is 0, and a mark goes to its screen x
+-- R5.1: the map is the screen; so nothing is cut, and a mark goes to its own column
 unfoldable pub effective : (ℕ → ℕ) → ℕ → View
 effective g row = record { width = 256; line = row; mapX = λ x. x; mapY = λ x. row; markAt = λ x. x; stand = effectiveStand (early g) }

@@ -1,4 +1,4 @@
--- Document 01, "A step", points 1, 4 (its line part) and 5: what a step does to the raster x, by the registers g.
+-- R4.1, R4.4 (the half of the line count) and R4.5: what a step does to the raster x, by the registers g.
 -- Assumes nothing.
 use mathlib.Core.Bool.{Bool, true, false, cond, not, _&&_, _||_}
 use Prim.Native.Nat.{ℕ, _+_, _-_, _%_}
@@ -6,7 +6,7 @@ use lib.Dec.{eqb, ltb}
 use Rattle.laws.specs.Bits.{bit}
 use Rattle.raster.specs.declared.Raster.{Raster}
 
--- the value at which the counter jumps instead of being read, and the one it jumps to; "So a pass has 261 steps."
+-- the value at which the counter jumps instead of being read, the one it jumps to, and the steps of a pass that follow
 abbrev pub jumpLine : ℕ
 jumpLine = 0xDA
 
@@ -16,15 +16,15 @@ jumpTo = 0xD5
 abbrev pub passLength : ℕ
 passLength = 261
 
--- 1. "The counter goes up by one modulo 256."
+-- R4.1: the counter one up
 abbrev pub up : Raster → ℕ
 up x = (x .«v_counter» + 1) % 256
 
--- "At DA with the flag clear: flag set, counter D5."
+-- the jump, once in a pass
 unfoldable pub jumps : Raster → Bool
 jumps x = eqb (up x) jumpLine && not (x .«v_counter_jumped»)
 
--- "At 0: vertical scroll becomes register 9, jump flag clears, line count becomes register 10 less 1 (0 stays 0)."
+-- line 0: scroll, jump flag and line count start anew
 unfoldable pub starts : Raster → Bool
 starts x = eqb (up x) 0
 
@@ -40,11 +40,11 @@ advanced g x =
       «vertical_scroll» = cond (starts x) (g 9) (x .«vertical_scroll»);
     }
 
--- 4. "Interrupt if .. (register 0 bit 4 and line count 0)"
+-- R4.4: register 0 bit 4, and the count at 0
 unfoldable pub lineInterrupt : (ℕ → ℕ) → Raster → Bool
 lineInterrupt g x = bit (g 0) 4 && eqb (x .«line_interrupt_counter») 0
 
--- 5. "Line count: register 10 if the counter is above 192 or the count is 0, else down one."
+-- R4.5: the line count down, or from register 10 again
 unfoldable pub counted : (ℕ → ℕ) → Raster → Raster
 counted g x =
     record {

@@ -18,7 +18,7 @@ fn line_interrupt_load_start(r10: u8) -> u8
 }
 
 impl Raster {
-    // Point 1 of a step: the counter goes up, and line 0 and the jump line do what they do.
+    // R4.1: the counter goes up, and line 0 and the jump line do what they do.
     pub fn advance(self, reg: [u8; 11]) -> Raster
         ensures { λ r. ⌜ r ≡ advanced (at reg) self ⌝ }
     {
@@ -49,14 +49,14 @@ impl Raster {
         }
     }
 
-    // Point 4, its line part: line interrupts are on and the count is 0.
+    // R4.4, its line part: line interrupts are on and the count is 0.
     pub fn line_interrupt_is_up(self, reg: [u8; 11]) -> bool
         ensures { λ r. ⌜ r ≡ lineInterrupt (at reg) self ⌝ }
     {
         (reg[0] / 16 % 2 == 1) & (self.line_interrupt_counter == 0)
     }
 
-    // Point 5: the count starts again below the picture and at 0, and else goes down by one.
+    // R4.5: the count starts again below the picture and at 0, and else goes down by one.
     pub fn line_interrupt_update(self, reg: [u8; 11]) -> Raster
         ensures { λ r. ⌜ r ≡ counted (at reg) self ⌝ }
     {

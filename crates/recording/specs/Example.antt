@@ -1,4 +1,4 @@
--- The worked trace of document 01, computed.
+-- R7.12, the worked trace, computed.
 -- Assumes nothing.
 use mathlib.Core.Path.{_≡_, refl}
 use mathlib.Core.List.{List, [], _∷_}
@@ -13,25 +13,25 @@ use Rattle.recording.specs.Text.{decimal, lineOf, endLine, badLine, long
 use Rattle.recording.specs.Run.{start, rowTurn, turnBy, turnOf, after, lines, ran}
 use Rattle.recording.specs.Output.{lastLine, text, printed}
 
--- "its bytes in hex, 5057BF00 5057BF40 5057BEAB 5057BF00 5057BF00 5052BE 4C5300 50527F"
+-- its input: eight records
 pub input : List ℕ
 input =
     0x50 ∷ 0x57 ∷ 0xBF ∷ 0x00 ∷ 0x50 ∷ 0x57 ∷ 0xBF ∷ 0x40 ∷ 0x50 ∷ 0x57 ∷ 0xBE ∷ 0xAB ∷ 0x50 ∷ 0x57 ∷ 0xBF ∷ 0x00 ∷ 0x50 ∷ 0x57
     ∷ 0xBF ∷ 0x00 ∷ 0x50 ∷ 0x52 ∷ 0xBE ∷ 0x4C ∷ 0x53 ∷ 0x00 ∷ 0x50 ∷ 0x52 ∷ 0x7F ∷ []
 
--- "w 0" five times, "r 0 AB", "s 0 01 0 0", "r 2 00", "end 8"
+-- its text: `w 0` five times, `r 0 AB`, `s 0 01 0 0`, `r 2 00`, `end 8`
 pub output : List ℕ
 output =
     0x77 ∷ 0x20 ∷ 0x30 ∷ 0x0A ∷ 0x77 ∷ 0x20 ∷ 0x30 ∷ 0x0A ∷ 0x77 ∷ 0x20 ∷ 0x30 ∷ 0x0A ∷ 0x77 ∷ 0x20 ∷ 0x30 ∷ 0x0A ∷ 0x77 ∷ 0x20
     ∷ 0x30 ∷ 0x0A ∷ 0x72 ∷ 0x20 ∷ 0x30 ∷ 0x20 ∷ 0x41 ∷ 0x42 ∷ 0x0A ∷ 0x73 ∷ 0x20 ∷ 0x30 ∷ 0x20 ∷ 0x30 ∷ 0x31 ∷ 0x20 ∷ 0x30 ∷ 0x20
     ∷ 0x30 ∷ 0x0A ∷ 0x72 ∷ 0x20 ∷ 0x32 ∷ 0x20 ∷ 0x30 ∷ 0x30 ∷ 0x0A ∷ 0x65 ∷ 0x6E ∷ 0x64 ∷ 0x20 ∷ 0x38 ∷ 0x0A ∷ []
 
--- "prints exactly", from 16,384 zeroed bytes of video memory and a row buffer of 1,024
+-- the one is printed for the other, from 16,384 zeroed bytes of video memory and a row buffer of 1,024
 pub worked : printed input (start (replicate 16384 0) (replicate 1024 0) []) ≡ output
 unfolding input output recordAt marked decimal lineOf endLine badLine longLine rowTurn turnBy turnOf after lines ran lastLine text printed portWrite portRead jumps starts advanced lineInterrupt counted bit rowOn drawnBy endScreen reportOf interruptOf stepped stepWith
 worked = refl
 
--- no input: "end 0"
+-- no input: `end 0`
 pub none : printed [] (start (replicate 16384 0) (replicate 1024 0) []) ≡ 0x65 ∷ 0x6E ∷ 0x64 ∷ 0x20 ∷ 0x30 ∷ 0x0A ∷ []
 unfolding decimal endLine badLine longLine after lines ran lastLine text printed
 none = refl

@@ -1,4 +1,4 @@
--- Document 01, "Added faces": the bytes that `trace` prints, and the picture that `snapshot` writes.
+-- R7.8, R7.11, R7.13: the bytes that `trace` prints, and the picture that `snapshot` writes.
 -- Assumes nothing.
 use mathlib.Core.Path.{_≡_}
 use mathlib.Core.Bool.{Bool, cond, _&&_}
@@ -12,7 +12,7 @@ use Rattle.recording.specs.declared.run.Run.{Run}
 use Rattle.recording.specs.Text.{endLine, badLine, longLine}
 use Rattle.recording.specs.Run.{World, Turn, rowTurn, frameTurn, lines, ran, start}
 
--- "reads standard input, up to 65,535 bytes (more: it prints only `long`)"
+-- R7.8: more than is read
 abbrev pub tooLong : List ℕ → Bool
 tooLong s = ltb 65535 (length s)
 
@@ -20,7 +20,7 @@ tooLong s = ltb 65535 (length s)
 abbrev pub ended : List ℕ → Run → Bool
 ended s run = leb (length s) (run .at)
 
--- "At the close `end` and the record count; at an unknown mark, area above 1 or cut record, `bad` and the offset of that record's first byte"
+-- R7.11: the last line, by how the run came to its end
 unfoldable pub lastLine : List ℕ → Run → List ℕ
 lastLine s run = cond (ended s run) (endLine (run .count)) (badLine (run .at))
 
@@ -36,7 +36,7 @@ unfoldable pub pixels : ℕ → List ℕ → List ℕ
 pixels zero frame = []
 pixels (suc n) frame = pixels n frame ++ (at frame (4 * n) ∷ at frame (4 * n + 1) ∷ at frame (4 * n + 2) ∷ [])
 
--- "P6", "160 144", "255", each on a line of its own
+-- R7.13: the three lines `P6`, `160 144`, `255`
 abbrev pub header : List ℕ
 header = 0x50 ∷ 0x36 ∷ 0x0A ∷ 0x31 ∷ 0x36 ∷ 0x30 ∷ 0x20 ∷ 0x31 ∷ 0x34 ∷ 0x34 ∷ 0x0A ∷ 0x32 ∷ 0x35 ∷ 0x35 ∷ 0x0A ∷ []
 

@@ -1,4 +1,4 @@
--- Document 01, "Added faces": the records of a recording.
+-- R7.9: the records of a recording.
 -- Assumes nothing.
 use mathlib.Core.Bool.{cond}
 use mathlib.Core.List.{List}
@@ -10,8 +10,8 @@ use Rattle.picture.specs.Area.{areaFrom}
 use Rattle.recording.specs.declared.record.Record.{Record}
 use Rattle.recording.specs.declared.record.Record.the-variants.{Write, Read, Step, Bad, End}
 
--- the record of the mark m at offset k, with n bytes from there to the end: "`PW` port value, `PR` port, `LS` area";
--- "an unknown mark, area above 1 or cut record" is bad
+-- the record of the mark m, `PW`, `PR` or `LS`, at offset k, with n bytes from there to the end;
+-- R7.11: one with another mark, an area above 1 or bytes missing is bad
 unfoldable pub marked : List ℕ → ℕ → ℕ → ℕ → Record
 marked s k n m =
     cond (eqb m 0x5057) (cond (ltb n 4) Bad (Write (at s (k + 2)) (at s (k + 3))))

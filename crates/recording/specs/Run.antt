@@ -1,4 +1,4 @@
--- Document 01, "Added faces": what a recording does, record by record. Both programs follow a recording by these definitions.
+-- R7.8, R7.13: what a recording does, record by record. Both programs follow a recording by these definitions.
 -- Assumes nothing.
 use mathlib.Core.Path.{_≡_}
 use mathlib.Core.List.{List, [], _++_}
@@ -43,7 +43,7 @@ pub record Turn : Type 0 where
 abbrev pub on : Run → ℕ → VdpState → Run
 on run k d = record { vdp = d; at = run .at + k; count = run .count + 1 }
 
--- "`s` refusal counter interrupt report"
+-- R7.10: what a step's line tells
 abbrev pub stepAnswer : Stepped → Answer
 stepAnswer s = Says.Stepped (s .refusal) (s .vdp .raster .«v_counter») (s .interrupt) (s .report)
 

@@ -1,4 +1,4 @@
--- Document 01, "Added faces": numbers as text, and the lines that a trace prints.
+-- R7.10, R7.11: numbers as text, and the lines that a trace prints.
 -- Assumes nothing.
 use mathlib.Core.Bool.{cond}
 use mathlib.Core.List.{List, [], _∷_, _++_}
@@ -9,7 +9,7 @@ use Rattle.step.specs.Step.{interruptNumber, reportNumber}
 use Rattle.recording.specs.declared.text.Answer.{Answer}
 use Rattle.recording.specs.declared.text.Answer.the-variants.{Wrote, Gave, Stepped, Nothing}
 
--- ---- numbers: "read byte and counter in two hex capitals, other numbers decimal"
+-- ---- R7.10, numbers: in decimal, and in two hexadecimal capitals
 -- the last digit of n
 abbrev pub digitOf : ℕ → ℕ
 digitOf n = 48 + n % 10
@@ -54,7 +54,7 @@ bad = 0x62 ∷ 0x61 ∷ 0x64 ∷ []
 abbrev pub long : List ℕ
 long = 0x6C ∷ 0x6F ∷ 0x6E ∷ 0x67 ∷ []
 
--- "`w` refusal; `r` refusal byte; `s` refusal counter interrupt report"; no call prints nothing
+-- R7.10: the line of a call's answer; no call prints nothing
 unfoldable pub lineOf : Answer → List ℕ
 lineOf (Wrote refusal) = line (w ∷ decimal (refusalNumber refusal) ∷ [])
 lineOf (Gave refusal byte) = line (r ∷ decimal (refusalNumber refusal) ∷ hex byte ∷ [])
@@ -62,7 +62,7 @@ lineOf (Stepped refusal counter interrupt report) =
     line (s ∷ decimal (refusalNumber refusal) ∷ hex counter ∷ decimal (interruptNumber interrupt) ∷ decimal (reportNumber report) ∷ [])
 lineOf Nothing = []
 
--- "At the close `end` and the record count; .. `bad` and the offset of that record's first byte"; "more: it prints only `long`"
+-- R7.11, R7.8: the lines of the end, of a bad record and of a long recording
 unfoldable pub endLine : ℕ → List ℕ
 endLine count = line (end ∷ decimal count ∷ [])
 

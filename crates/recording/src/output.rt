@@ -24,7 +24,7 @@ fn put_last(out: &mut [u8], at: usize, input: &[u8], run: Run) -> usize
     put_numbered(out, at, b"bad ", run.at)
 }
 
-// The text of a recording, at the start of out, and how long it is. At most 65,535 bytes are taken; without room for what they may print nothing happens.
+// R7.8: the text of a recording, at the start of out, and how long it is. At most 65,535 bytes are taken; without room for what they may print nothing happens.
 pub fn trace(input: &[u8], vram: &mut [u8], row: &mut [u8], out: &mut [u8]) -> usize
     ensures { λ n. ⌜ TraceLeaves (now (input .entry)) (now (vram .entry)) (now (row .entry)) (now (out .entry)) n (now (vram .exit)) (now (row .exit)) (now (out .exit)) ⌝ }
     ensures { λ n. ⌜ (n ≤ length (now (out .exit))) × (n ≡ length (take n (now (out .exit)))) ⌝ }
@@ -80,7 +80,7 @@ fn put_picture(out: &mut [u8], input: &[u8], run: Run, frame: &[u8]) -> usize
     put_numbered(out, 0, b"bad ", run.at)
 }
 
-// The picture that a recording's visible steps draw into the frame, at the start of out, and how long it is; of a recording that is bad or too long, only
+// R7.13: the picture that a recording's visible steps draw into the frame, at the start of out, and how long it is; of a bad or long recording, only
 // the line that says so. Without room for a picture, or with a frame that is too short, nothing happens.
 pub fn snapshot(
     input: &[u8],

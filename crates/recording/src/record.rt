@@ -1,4 +1,4 @@
-// The records of a recording: `PW` port value, `PR` port, `LS` area.
+// The records of a recording (R7.9).
 ghost use mathlib.Core.Path.{_≡_};
 ghost use Prim.Native.Nat.{_+_, _*_};
 ghost use Rattle.picture.specs.Area.{areaFrom};

@@ -1,4 +1,4 @@
-// Numbers and lines as text.
+// Numbers and lines as text (R7.10, R7.11).
 ghost use mathlib.Core.Path.{_≡_};
 ghost use Prim.Native.Nat.{_+_, _≤_, _<_};
 ghost use lib.ListN.{length};
@@ -82,7 +82,7 @@ fn put_decimal(out: &mut [u8], at: usize, n: usize) -> usize
     )
 }
 
-// The paper's number of a refusal.
+// The number of a refusal (R2.1).
 fn number(refusal: Refusal) -> usize
     ensures { λ n. ⌜ n ≡ refusalNumber refusal ⌝ }
 {
@@ -102,7 +102,7 @@ fn number(refusal: Refusal) -> usize
     }
 }
 
-// The paper's number of an interrupt, and of a display report: each one digit.
+// The number of an interrupt, and of a display report (R7.7): each one digit.
 fn interrupt_number(interrupt: VdpInt) -> usize
     ensures { λ n. ⌜ (n ≡ interruptNumber interrupt) × (n < 10) ⌝ }
 {

@@ -16,16 +16,16 @@ use Rattle.picture.specs.Area.{areaFrom}
 use Rattle.face.specs.Face.{Called, outCall, inputCall, rowStepCall}
 use Rattle.replay.specs.declared.Tally.{Tally}
 
--- "numbers of four bytes are little-endian"
+-- a number of four bytes, the lowest first
 unfoldable pub wordAt : List ℕ → ℕ → ℕ
 wordAt l k = ofBytes (at l k) (at l (k + 1)) (at l (k + 2)) (at l (k + 3))
 
--- "The checksum of n bytes is the sum of (i + 1) x byte i, for i from 0 to n - 1"
+-- the checksum of n bytes: byte i counts i + 1 times
 unfoldable pub sumOf : ℕ → List ℕ → ℕ
 sumOf zero l = 0
 sumOf (suc n) l = sumOf n l + (n + 1) * at l n
 
--- "the first 640 bytes of the row buffer (visible) or all 1,024 (effective); 0 where no row was drawn": bit 24 of the answer says whether one was
+-- the checksum of the row that a step drew, and 0 where it drew none: bit 24 of the answer says whether it did (R7.7)
 unfoldable pub rowSum : ℕ → ℕ → List ℕ → ℕ
 rowSum word area row = cond (bit word 24) (sumOf (rowSize (areaFrom area)) row) 0
 
@@ -83,7 +83,7 @@ unfoldable pub ran : ℕ → List ℕ → Run → Run
 ran zero l r = r
 ran (suc n) l r = cond (ran n l r .same) (after (ran n l r) (turned l (16 * n) (ran n l r .left))) (ran n l r)
 
--- "To replay: one fresh device, 16,384 zeroed bytes of video memory, one row buffer of 1,024 bytes"
+-- a fresh device, with the video memory and the row buffer that it is lent
 abbrev pub start : List ℕ → List ℕ → Run
 start m x = run 0 true (world (blockOf fresh) m x)
 

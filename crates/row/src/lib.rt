@@ -1,4 +1,4 @@
-// One row of either area, drawn into a lent row buffer.
+// One row of either area, drawn into a lent row buffer by the picture of section 5.
 ghost use mathlib.Core.Path.{_≡_};
 ghost use mathlib.Core.Bool.{cond};
 ghost use Prim.Native.Nat.{_+_, _<_, _≤_};

@@ -1,4 +1,4 @@
-// The sprites of a line, over its background: which are on it, where each stands, and what their pixels meet.
+// The sprites of a line, over its background: which are on it (R5.6, R5.7), where each stands (R5.9, R5.10), and what their pixels meet (R5.11, R5.12).
 ghost use mathlib.Core.Path.{_≡_};
 ghost use mathlib.Core.Bool.{Bool, cond, not, _||_};
 ghost use mathlib.Core.List.{List};

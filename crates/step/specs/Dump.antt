@@ -1,4 +1,4 @@
--- Document 01, "Tile dump": what it answers, and the bytes that it leaves.
+-- R5.13 to R5.15, the tile dump: what it answers, and the bytes that it leaves.
 -- Assumes nothing.
 use mathlib.Core.Path.{_≡_}
 use mathlib.Core.Bool.{cond, not, _&&_}
@@ -12,18 +12,18 @@ use Rattle.vdp.specs.declared.Refusal.{Refusal}
 use Rattle.vdp.specs.declared.Refusal.the-variants.{Accepted, VramLength, PixelLength}
 use Rattle.vdp.specs.Refusals.{whole, Line, line}
 
--- "pixel buffer .. for the tile dump not exactly 131,072": refusal 8, then 9
+-- R2.1, refusal 9: the one size of a sheet; refusal 8 comes before
 abbrev pub dumpSize : ℕ
 dumpSize = 131072
 
 unfoldable pub dumpRefusal : List ℕ → ℕ → Refusal
 dumpRefusal vram size = cond (whole vram) (cond (eqb size dumpSize) Accepted PixelLength) VramLength
 
--- the lines of the table that it can meet
+-- R2.4: the lines of the table that it can meet
 abbrev pub dumpLines : List ℕ → ℕ → List Line
 dumpLines vram size = line (not (whole vram)) VramLength ∷ line (not (eqb size dumpSize)) PixelLength ∷ []
 
--- "It uses the cache as it stands, dirty or not."
+-- R5.15: by the cached colours as they are
 unfoldable pub dumpAfter : VdpState → List ℕ → List ℕ → List ℕ
 dumpAfter d vram pixels = cond (whole vram && eqb (length pixels) dumpSize) (dumped vram (d .reg) (d .«color_cache») pixels) pixels
 

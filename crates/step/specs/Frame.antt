@@ -1,4 +1,4 @@
--- Document 01, "Added faces": what a step leaves in a row buffer and in a frame, and the view of a frame's row.
+-- R7.1 to R7.3: what a step leaves in a row buffer and in a frame, and the view of a frame's row.
 -- Assumes nothing.
 use mathlib.Core.Path.{_≡_}
 use mathlib.Core.Bool.{cond, _&&_}
@@ -20,12 +20,12 @@ use Rattle.step.specs.Step.{lineOf, advance, rowOn, coloursNow, rowPictu
 unfoldable pub drawnBytes : RenderArea → List ℕ → VdpState → ℕ → List ℕ
 drawnBytes a vram d y = rowBytes (coloursNow d) (columns a) (rowPicture a vram d y)
 
--- "the row goes to bytes 0.. of a row buffer .. (with no row drawn, the buffer is unchanged)"; "Bytes past these never change."
+-- R7.1, R2.7: the row at the start of the buffer, and behind it what was there
 unfoldable pub rowWith : DrawnRow → RenderArea → List ℕ → VdpState → List ℕ → List ℕ
 rowWith NoRow a vram d buffer = buffer
 rowWith (Drawn y) a vram d buffer = drawnBytes a vram d y ++ drop (rowSize a) buffer
 
--- the same of a frame: row y is put in
+-- R7.2: the same of a frame: row y is put in
 unfoldable pub frameWith : DrawnRow → RenderArea → List ℕ → VdpState → List ℕ → List ℕ
 frameWith NoRow a vram d frame = frame
 frameWith (Drawn y) a vram d frame = withRow (rowSize a) y (drawnBytes a vram d y) frame
@@ -53,6 +53,6 @@ pub record FrameStepLeaves (a : RenderArea) (vram : List ℕ) (d : VdpState) (fr
   pub answer : r ≡ frameStep a vram (length frame) d
   pub bytes : frame′ ≡ frameAfter a vram d frame
 
--- "an empty part if the row is not below 144 or 224, or the frame is shorter than its area's size"
+-- R7.3: a row that the area has, of a frame that is long enough; else nothing
 unfoldable pub rowView : List ℕ → RenderArea → ℕ → List ℕ
 rowView frame a y = cond (ltb y (rows a)) (cond (leb (frameSize a) (length frame)) (rowOf (rowSize a) y frame) []) []

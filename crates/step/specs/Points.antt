@@ -1,4 +1,4 @@
--- Document 01, "A step": its five points by what they read and leave of a device, and not by the whole device.
+-- R4.1 to R4.5: the five points of a step by what they read and leave of a device, and not by the whole device.
 -- Assumes nothing.
 use mathlib.Core.Path.{_≡_}
 use mathlib.Core.List.{List, _++_}

@@ -1,4 +1,4 @@
--- Document 01, "A step": what a step answers, and the device that it leaves.
+-- R4.1 to R4.5, a step: what it answers, and the device that it leaves.
 -- Assumes nothing.
 use mathlib.Core.Bool.{Bool, cond, not, _&&_, _||_}
 use mathlib.Core.List.{List, [], _∷_}
@@ -25,7 +25,7 @@ use Rattle.step.specs.declared.DrawnRow.{DrawnRow}
 use Rattle.step.specs.declared.DrawnRow.the-variants.{NoRow, Drawn}
 use Rattle.step.specs.declared.Stepped.{Stepped}
 
--- "interrupt bit 8, report (0 NoDisplay, 1 ScreenDone, 2 ScreenDoneNoRefresh ..)": the numbers of the answers
+-- R11.11: the numbers of the answers, as R7.7 has them
 abbrev pub interruptNumber : VdpInt → ℕ
 interruptNumber NoInterrupt = 0
 interruptNumber InterruptGenerated = 1
@@ -42,15 +42,15 @@ register d = at (d .reg)
 abbrev pub lineOf : VdpState → ℕ
 lineOf d = d .raster .«v_counter»
 
--- 1. the counter, and what line 0 and the jump do
+-- R4.1: the counter, and what line 0 and the jump do
 abbrev pub advance : VdpState → VdpState
 advance d = withRaster d (advanced (register d) (d .raster))
 
--- 2. "Visible area draws row counter-24 for counter 24 to 167; effective draws row counter for 0 to 223"
+-- R4.2: the row of a line, if it has one
 unfoldable pub rowOn : RenderArea → ℕ → DrawnRow
 rowOn a l = cond (leb (firstLine a) l && ltb l (firstLine a + rows a)) (Drawn (l - firstLine a)) NoRow
 
--- "Just before a row is drawn, and only then, a dirty cache is rebuilt and the dirty flag cleared."
+-- R4.2: the colours that a row is drawn with
 abbrev pub coloursNow : VdpState → List ℕ
 coloursNow d = cond (d .«cram_dirty») (coloursOf (d .cram)) (d .«color_cache»)
 
@@ -66,7 +66,7 @@ drawnBy (Drawn y) a vram d = withStatus (withCache d (coloursNow d)) (bitOr (d .
 abbrev pub draw : RenderArea → List ℕ → VdpState → VdpState
 draw a vram d = drawnBy (rowOn a (lineOf d)) a vram d
 
--- 3. "At C1: status bit 7 set; display report ScreenDone if register 1 bit 6, else ScreenDoneNoRefresh. Otherwise NoDisplay."
+-- R4.3: the end of the screen, its status bit and its report
 abbrev pub atEnd : VdpState → Bool
 atEnd d = eqb (lineOf d) 0xC1
 
@@ -76,16 +76,16 @@ endScreen d = withStatus d (cond (atEnd d) (bitOr (d .status) 0x80) (d .status))
 unfoldable pub reportOf : VdpState → DisplayRefresh
 reportOf d = cond (atEnd d) (cond (bit (register d 1) 6) ScreenDone ScreenDoneNoRefresh) NoDisplay
 
--- 4. "Interrupt if (status bit 7 and register 1 bit 5) or (register 0 bit 4 and line count 0)."
+-- R4.4: an interrupt of the frame or of the line
 unfoldable pub interruptOf : VdpState → VdpInt
 interruptOf d =
     cond ((bit (register d 1) 5 && bit (d .status) 7) || lineInterrupt (register d) (d .raster)) InterruptGenerated NoInterrupt
 
--- 5. the line count
+-- R4.5: the line count
 abbrev pub countLine : VdpState → VdpState
 countLine d = withRaster d (counted (register d) (d .raster))
 
--- an accepted step: points 1 to 5 in order
+-- an accepted step: R4.1 to R4.5 in order
 unfoldable pub stepped : RenderArea → List ℕ → VdpState → Stepped
 stepped a vram d =
     let up = advance d in
@@ -98,20 +98,20 @@ stepped a vram d =
       vdp = countLine e;
     }
 
--- "a refused step gives no interrupt, no display report, no row", and leaves "all unchanged"
+-- R2.3: a refused step tells and changes nothing
 abbrev pub refusedStep : Refusal → VdpState → Stepped
 refusedStep r d = record { refusal = r; interrupt = NoInterrupt; report = NoDisplay; row = NoRow; vdp = d }
 
--- a step with a pixel buffer of `size` bytes, of which it needs `need`: refusal 8, then 9
+-- R6.3: a step with a pixel buffer of `size` bytes, of which it needs `need`: refusal 8, then 9
 unfoldable pub stepWith : ℕ → RenderArea → List ℕ → ℕ → VdpState → Stepped
 stepWith need a vram size d =
     cond (whole vram) (cond (leb need size) (stepped a vram d) (refusedStep PixelLength d)) (refusedStep VramLength d)
 
--- the lines of the table that a step can meet: "Order: .. 8, 9"
+-- R2.4: the lines of the table that a step can meet
 abbrev pub stepLines : ℕ → List ℕ → ℕ → List Line
 stepLines need vram size = line (not (whole vram)) VramLength ∷ line (not (leb need size)) PixelLength ∷ []
 
--- "row step at least 640 or 1,024"; "visible frame at least 92,160 bytes ..; effective frame at least 229,376"
+-- R7.1, R7.2: the two steps, each with the size of R2.6
 abbrev pub rowStep : RenderArea → List ℕ → ℕ → VdpState → Stepped
 rowStep a vram size d = stepWith (rowSize a) a vram size d
 

@@ -61,7 +61,7 @@ pub struct Stepped {
     pub vdp: VdpState,
 }
 
-// Point 2: the row that a line draws.
+// R4.2: the row that a line draws.
 fn row_on(area: RenderArea, line: u8) -> DrawnRow
     ensures { λ r. ⌜ r ≡ rowOn area line ⌝ }
 {
@@ -116,7 +116,7 @@ fn draw(
     row::render_line(row, vram, colours, area, reg, scroll, line)
 }
 
-// Point 3: the screen ends at line C1.
+// R4.3: the screen ends at line C1.
 fn ended(status: u8, line: u8) -> u8
     ensures { λ r. ⌜ r ≡ cond (eqb line 0xC1) (bitOr status 0x80) status ⌝ }
 {
@@ -135,7 +135,7 @@ fn report_of(reg: [u8; 11], line: u8) -> DisplayRefresh
     DisplayRefresh::ScreenDoneNoRefresh
 }
 
-// Point 4: the end of the screen or the line count asks for an interrupt.
+// R4.4: the end of the screen or the line count asks for an interrupt.
 fn interrupt_of(reg: [u8; 11], status: u8, raster: Raster) -> VdpInt
     ensures { λ r. ⌜ r ≡ cond ((bit (at reg 1) 5 && bit status 7) || lineInterrupt (at reg) raster) InterruptGenerated NoInterrupt ⌝ }
 {
@@ -146,7 +146,7 @@ fn interrupt_of(reg: [u8; 11], status: u8, raster: Raster) -> VdpInt
     VdpInt::NoInterrupt
 }
 
-// A refused step: no interrupt, no display report, no row, and all unchanged.
+// R2.3: a refused step tells and changes nothing.
 fn refused(refusal: Refusal, status: u8, raster: Raster) -> Points
     ensures { λ r. ⌜ r ≡ refusedPoints refusal status raster ⌝ }
 {

@@ -19,7 +19,7 @@ lineColour colours palette vram addr flip start i = at colours (palette + lineCo
 abbrev pub lineSolid : List ℕ → ℕ → Bool → ℕ → ℕ → Bool
 lineSolid vram addr flip start i = not (eqb (lineCode vram addr flip start i) 0)
 
--- a sprite's line: its column k is marked where its code is not 0 and bit k of `held` is clear, drawn where bit k of `taken` is clear too and it
+-- R5.11, R6.2, a sprite's line: its column k is marked where its code is not 0 and bit k of `held` is clear, drawn where bit k of `taken` is clear too and it
 -- lies in the row, and held back where its code is not 0 and bit k of `held` is set
 unfoldable pub lineMarked : List ℕ → ℕ → ℕ → ℕ → ℕ → ℕ → Bool
 lineMarked vram addr start end held k = solid start end (codeAt (at vram) addr) k && not (bit held k)

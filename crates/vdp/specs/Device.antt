@@ -1,4 +1,4 @@
--- The device record: fresh, and with one field changed.
+-- R3.1, R3.2: the device record, fresh, and with one field changed.
 -- Assumes nothing.
 use Prim.Native.Nat.{ℕ}
 use mathlib.Core.List.{List, [], _∷_}
@@ -11,7 +11,7 @@ use Rattle.vdp.specs.declared.WriteDest.the-variants as Chosen
 use Rattle.vdp.specs.declared.Latch.{Latch}
 use Rattle.vdp.specs.declared.Latch.the-variants.{Empty, Held}
 
--- the record of these fields, in the order of the Rust's `VdpState`
+-- R3.1: the record of these fields, in the order of the Rust's `VdpState`
 abbrev pub device : ℕ → List ℕ → Raster → ℕ → ℕ → WriteDest → List ℕ → Latch → Latch → Bool → List ℕ → VdpState
 device status reg raster addr buffer dest cram command half dirty cache =
     record {
@@ -28,7 +28,7 @@ device status reg raster addr buffer dest cram command half dirty cache =
       «color_cache» = cache;
     }
 
--- "Fresh: registers 0,0,FF,FF,FF,FF,FF,0,0,0,1 (hex); cache zero and dirty; no memory chosen; latches empty; all else zero."
+-- R3.2: as it is made
 abbrev pub fresh : VdpState
 fresh =
     device 0 (0 ∷ 0 ∷ 0xFF ∷ 0xFF ∷ 0xFF ∷ 0xFF ∷ 0xFF ∷ 0 ∷ 0 ∷ 0 ∷ 1 ∷ [])
@@ -39,7 +39,7 @@ fresh =
 abbrev pub withCommand : VdpState → Latch → VdpState
 withCommand d l = device (d .status) (d .reg) (d .raster) (d .addr) (d .«vram_buffer») (d .dest) (d .cram) l (d .«cram_byte1») (d .«cram_dirty») (d .«color_cache»)
 
--- "Command latch empty"
+-- R2.2: what a refused command or data call leaves
 abbrev pub unlatched : VdpState → VdpState
 unlatched d = withCommand d Empty
 

@@ -1,4 +1,4 @@
--- Document 01, "The record and the ports": what a port call answers and leaves.
+-- R3.3 to R3.10, the ports: what a port call answers and leaves.
 -- Assumes nothing.
 use Prim.Native.Nat.{ℕ, _+_, _-_, _*_, _/_, _%_}
 use mathlib.Core.Path.{_≡_}
@@ -27,23 +27,23 @@ pub record After : Type 0 where
 abbrev pub answered : Refusal → VdpState → Written
 answered r d = record { refusal = r; vdp = d }
 
--- "A refused read gives byte 0"
+-- R2.3: a refused read gives 0
 abbrev pub refusedRead : Refusal → VdpState → ReadBack
 refusedRead r d = record { refusal = r; byte = 0; vdp = d }
 
 abbrev pub given : ℕ → VdpState → ReadBack
 given b d = record { refusal = Accepted; byte = b; vdp = d }
 
--- ---- "Command byte (BF)"
--- "address (d + 256v) mod 16,384"
+-- ---- R3.4, R3.5: the command byte
+-- the address of the two bytes, low and high
 abbrev pub videoAddress : ℕ → ℕ → ℕ
 videoAddress d v = (d + 256 * v) % 16384
 
--- "read buffer loaded from it, address up one mod 16,384"
+-- the read buffer filled from address a, and the address one on
 abbrev pub loaded : VdpState → List ℕ → ℕ → VdpState
 loaded s m a = withAddr (withBuffer s (at m a)) ((a + 1) % 16384)
 
--- "with first byte d and second v, the top bits of v choose": 00, 01, 10, 11
+-- R3.5, with first byte d and second v: 00, 01, 10, 11
 abbrev pub secondByte : VdpState → List ℕ → ℕ → ℕ → Written
 secondByte s m d v =
     cond (eqb (v / 64) 0) (answered Accepted (loaded (withDest s Vram) m (videoAddress d v)))
@@ -52,7 +52,7 @@ secondByte s m d v =
     (cond (ltb 10 (v % 128)) (answered HighRegister s) (answered Accepted (withReg s (set (s .reg) (v % 128) d))))
     (answered Accepted (withAddr (withDest s Cram) (d % 64)))))
 
--- "with no byte latched, this byte is latched and nothing else happens. Otherwise the latch is emptied"
+-- R3.4: a first byte waits; at a second the latch is emptied
 abbrev pub commandBy : Latch → VdpState → List ℕ → ℕ → Written
 commandBy Empty s m v = answered Accepted (withCommand s (Held v))
 commandBy (Held d) s m v = secondByte (unlatched s) m d v
@@ -60,12 +60,12 @@ commandBy (Held d) s m v = secondByte (unlatched s) m d v
 abbrev pub commandWrite : VdpState → List ℕ → ℕ → Written
 commandWrite s m v = commandBy (s .«cmd_byte1») s m v
 
--- ---- "Data write (BE) empties the command latch": the device s has it empty already
--- "Palette, even: latch the byte"; "Address up one mod 64."
+-- ---- R3.6, R3.7: the data write. The device s has its command latch empty already
+-- R3.7, even: the byte waits, and no colour changes
 abbrev pub evenPalette : VdpState → ℕ → Written
 evenPalette s v = answered Accepted (withAddr (withPaletteByte s (Held v)) ((s .addr + 1) % 64))
 
--- "odd: store latched byte below and value mod 16 here, dirty if either changed; the palette latch stays"
+-- R3.7, odd: both bytes are stored, dirty where one is another than before; the byte waits on
 abbrev pub changed : ℕ → ℕ → Bool
 changed a b = not (eqb a b)
 
@@ -83,7 +83,7 @@ paletteWrite s v =
     cond (ltb (s .addr) 64) (cond (eqb (s .addr % 2) 0) (evenPalette s v) (oddPalette (s .«cram_byte1») s v))
     (answered OutsideMemory s)
 
--- "Video memory: store, read buffer takes the byte, address up one mod 16,384."
+-- R3.6: video memory and the read buffer take the byte
 abbrev pub vramWrite : VdpState → List ℕ → ℕ → After
 vramWrite s m v =
     cond (ltb (s .addr) 16384)
@@ -98,7 +98,7 @@ dataBy Cram s m v = record { answer = paletteWrite s v; vram = m }
 abbrev pub dataWrite : VdpState → List ℕ → ℕ → After
 dataWrite s m v = dataBy (s .dest) (unlatched s) m v
 
--- ---- "Data read empties the command latch, gives the read buffer, reloads it at the address, address up one mod 16,384."
+-- ---- R3.8: the data read gives the read buffer, and fills it anew
 abbrev pub readBy : WriteDest → VdpState → List ℕ → ReadBack
 readBy None s m = refusedRead NothingChosen s
 readBy Cram s m = refusedRead PaletteRead s
@@ -108,7 +108,7 @@ readBy Vram s m =
 abbrev pub dataRead : VdpState → List ℕ → ReadBack
 dataRead s m = readBy (s .dest) (unlatched s) m
 
--- "Status read (BF): gives status, clears it, empties the command latch."
+-- R3.9: the status read
 abbrev pub statusRead : VdpState → ReadBack
 statusRead s = given (s .status) (withStatus (unlatched s) 0)
 
@@ -120,7 +120,7 @@ portWrite s m p v =
     (cond (isPort 0xBE p) (dataWrite s m v) (record { answer = answered UnknownPort s; vram = m })))
     (record { answer = answered VramLength s; vram = m })
 
--- "Read of 7E gives the line counter and touches nothing."
+-- R3.10 is the read of 7E
 unfoldable pub portRead : VdpState → List ℕ → ℕ → ReadBack
 portRead s m p =
     cond (whole m)

@@ -1,4 +1,4 @@
--- Document 01, "Numbers that refuse": the number of each refusal, what it leaves behind, and when each port call gives it.
+-- R2.1 to R2.5: the number of each refusal, what it leaves behind, and when each port call gives it.
 -- Assumes nothing.
 use Prim.Native.Nat.{ℕ, _%_}
 use mathlib.Core.List.{List, [], _∷_}
@@ -14,7 +14,7 @@ use Rattle.vdp.specs.declared.Refusal.{Refusal}
 use Rattle.vdp.specs.declared.Refusal.the-variants.{Accepted, UnknownPort, HorizontalCounter, HighRegister, NothingChosen, PaletteRead, NoPaletteByte, OutsideMemory, VramLength, PixelLength, BlockMalformed, UnknownArea}
 use Rattle.vdp.specs.Device.{unlatched}
 
--- the column "No.": "Accepted is 0."
+-- R2.1, R11.11: the number of each, 0 where the call is accepted
 abbrev pub refusalNumber : Refusal → ℕ
 refusalNumber Accepted = 0
 refusalNumber UnknownPort = 1
@@ -29,7 +29,7 @@ refusalNumber PixelLength = 9
 refusalNumber BlockMalformed = 10
 refusalNumber UnknownArea = 11
 
--- the column "Left behind", of the device s: "all unchanged", or "command latch empty", which "means nothing else changes"
+-- R2.2: what it leaves of the device s: all as it was, or the command latch empty and nothing else changed
 abbrev pub leftBehind : Refusal → VdpState → VdpState
 leftBehind HighRegister s = unlatched s
 leftBehind NothingChosen s = unlatched s
@@ -44,7 +44,7 @@ leftBehind PixelLength s = s
 leftBehind BlockMalformed s = s
 leftBehind UnknownArea s = s
 
--- the column "When": a condition and the refusal that it gives
+-- R2.1, a line of the table: a condition and the refusal that it gives
 pub record Line : Type 0 where
   pub holds : Bool
   pub refusal : Refusal
@@ -52,7 +52,7 @@ pub record Line : Type 0 where
 abbrev pub line : Bool → Refusal → Line
 line b r = record { holds = b; refusal = r }
 
--- "Each is given exactly when its condition holds and no earlier one does."
+-- R2.4, R13.1: the first whose condition holds
 abbrev pub first : List Line → Refusal
 first [] = Accepted
 first (l ∷ ls) = cond (l .holds) (l .refusal) (first ls)
@@ -72,20 +72,21 @@ isPalette None = false
 isPalette Vram = false
 isPalette Cram = true
 
--- the size of the memory that is chosen; with none chosen refusal 4 comes before
+-- R6.4: the size of the memory that is chosen; with none chosen refusal 4 comes before
 abbrev pub size : WriteDest → ℕ
 size None = 16384
 size Vram = 16384
 size Cram = 64
 
+-- R2.5: no call goes on without the whole of video memory
 abbrev pub whole : List ℕ → Bool
 whole vram = eqb (length vram) 16384
 
--- "Only the port's low byte counts."
+-- R3.3: a port is known by its low byte
 abbrev pub isPort : ℕ → ℕ → Bool
 isPort n port = eqb (port % 256) n
 
--- ---- "Order: .. 8 ..; then 1, 2, 3; for data 4, 5, 7, 6."
+-- ---- R2.4: the order of the tests of a write and of a read
 abbrev pub writeLines : VdpState → List ℕ → ℕ → ℕ → List Line
 writeLines s vram p v =
     line (not (whole vram)) VramLength

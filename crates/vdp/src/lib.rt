@@ -1,4 +1,4 @@
-// The device record and its port calls. Video memory is lent by the caller.
+// The device record (R3.1) and its port calls. Video memory is lent by the caller.
 ghost use mathlib.Core.Path.{_≡_};
 ghost use Prim.Native.Nat.{ℕ, _+_, _-_, _*_, _%_, _/_, _<_, _≤_};
 ghost use lib.ListN.{length};
@@ -19,7 +19,7 @@ pub enum Latch {
     Held(u8),
 }
 
-// Why a call is refused, or that it is not.
+// Why a call is refused, or that it is not (R2.1).
 pub enum Refusal {
     Accepted,
     UnknownPort,
@@ -35,7 +35,7 @@ pub enum Refusal {
     UnknownArea,
 }
 
-// The device: eleven registers, 64 palette bytes and 32 cached colours in one record, with the small fields.
+// The device: registers, palette, cached colours and the small fields.
 pub struct VdpState {
     pub status: u8,
     pub reg: [u8; 11],
@@ -64,7 +64,7 @@ pub struct ReadBack {
 }
 
 impl VdpState {
-    // A fresh device.
+    // A fresh device (R3.2).
     pub fn new() -> Self
         ensures { λ r. ⌜ r ≡ fresh ⌝ }
     {
@@ -213,7 +213,7 @@ impl VdpState {
         }
     }
 
-    // A command byte. With no byte latched, this one is latched and nothing else happens.
+    // A command byte: the first of two waits in the latch (R3.4), the second acts with it (R3.5).
     fn write_cmd(self, vram: &[u8], val: u8) -> Written
         requires { ⌜ length (now vram) ≡ 16384 ⌝ }
         ensures { λ r. ⌜ r ≡ commandWrite self (now (vram .entry)) val ⌝ }
@@ -271,7 +271,7 @@ impl VdpState {
         }
     }
 
-    // A byte for the palette: the first of two is latched, the second stores both, and the first stays latched.
+    // A byte for the palette (R3.7): the first of two is latched, the second stores both, and the first stays latched.
     fn write_palette(self, val: u8) -> Written
         ensures { λ r. ⌜ r ≡ paletteWrite self val ⌝ }
     {
@@ -313,7 +313,7 @@ impl VdpState {
         }
     }
 
-    // A data byte, for the memory that is chosen.
+    // A data byte, for the memory that is chosen (R3.6, R3.7).
     fn write_ram(self, vram: &mut [u8], val: u8) -> Written
         requires { ⌜ length (now vram) ≡ 16384 ⌝ }
         ensures { λ r. ⌜ r ≡ dataWrite self (now (vram .entry)) val .answer ⌝ }
@@ -347,7 +347,7 @@ impl VdpState {
         }
     }
 
-    // The read buffer, and the next byte into it.
+    // The read buffer, and the next byte into it (R3.8).
     fn read_ram(self, vram: &[u8]) -> ReadBack
         requires { ⌜ length (now vram) ≡ 16384 ⌝ }
         ensures { λ r. ⌜ r ≡ dataRead self (now (vram .entry)) ⌝ }
@@ -387,7 +387,7 @@ impl VdpState {
         }
     }
 
-    // The status, which the read clears.
+    // The status, which the read clears (R3.9).
     fn read_status(self) -> ReadBack
         ensures { λ r. ⌜ r ≡ statusRead self ⌝ }
     {
@@ -401,7 +401,7 @@ impl VdpState {
         }
     }
 
-    // A port write.
+    // A port write, tested in the order of R2.4.
     pub fn out(self, vram: &mut [u8], addr: u16, val: u8) -> Written
         ensures { λ r. ⌜ WriteLeaves self (now (vram .entry)) addr val r (now (vram .exit)) ⌝ }
     {
@@ -421,7 +421,7 @@ impl VdpState {
         }
     }
 
-    // A port read.
+    // A port read, tested in the order of R2.4.
     pub fn input(self, vram: &[u8], addr: u16) -> ReadBack
         ensures { λ r. ⌜ r ≡ portRead self (now (vram .entry)) addr ⌝ }
     {
