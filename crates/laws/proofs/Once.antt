@@ -1,18 +1,68 @@
--- A number that goes up by one and wraps at L takes each value exactly once in L steps.
+-- A number that goes up by one and wraps at L takes each value exactly once in L steps; twice is once and once.
 -- Assumes nothing.
 use mathlib.Core.Path.{_≡_, refl, sym, _∙_, subst}
-use mathlib.Core.Logic.{_↔_}
+use mathlib.Core.Logic.{_↔_, _⊎_, inl, inr, ⊎-elim}
 use mathlib.Core.Bool.{Bool, true, false}
 use Prim.Native.Nat.{ℕ, zero, suc, _+_, _-_, _≤_, _<_}
 use native.Mathlib.Nat.{add-suc, add-zero}
 use native.Mathlib.Omega.{arith}
 use lib.Dec.{ltb}
 use borrow.Author.Tests.{ltb-true, ltb-false}
-use Rattle.laws.specs.Once.{ExactlyOnce}
+use Rattle.laws.specs.Once.{ExactlyOnce, ExactlyTwice}
 
 pub once-iff : {n : ℕ} {P Q : ℕ → Type 0} → ((i : ℕ) → P i ↔ Q i) → ExactlyOnce n P → ExactlyOnce n Q
 once-iff e o =
     record { at = o .at; below = o .below; holds = e (o .at) .0 (o .holds); only = λ j h q. o .only j h (e j .1 q) }
+
+pub twice-iff : {n : ℕ} {P Q : ℕ → Type 0} → ((i : ℕ) → P i ↔ Q i) → ExactlyTwice n P → ExactlyTwice n Q
+twice-iff e o =
+    record {
+      first = o .first;
+      second = o .second;
+      apart = o .apart;
+      below = o .below;
+      holds-first = e (o .first) .0 (o .holds-first);
+      holds-second = e (o .second) .0 (o .holds-second);
+      only = λ j h q. o .only j h (e j .1 q);
+    }
+
+-- what happens in two ways, each exactly once and never both at once, happens exactly twice
+pub once-and-once :
+    {n : ℕ} {P R Q : ℕ → Type 0} → ExactlyOnce n P → ExactlyOnce n R → ((i : ℕ) → (P i ⊎ R i) ↔ Q i) → ((i : ℕ) → P i → R i → ⊥) → ExactlyTwice n Q
+once-and-once {n} {P} {R} {Q} p r e apart = go (ltb (p .at) (r .at)) refl
+  where
+    first : Q (p .at)
+    first = e (p .at) .0 (inl (p .holds))
+
+    second : Q (r .at)
+    second = e (r .at) .0 (inr (r .holds))
+
+    same : p .at ≡ r .at → ⊥
+    same z = apart (r .at) (subst P z (p .holds)) (r .holds)
+
+    go : (b : Bool) → ltb (p .at) (r .at) ≡ b → ExactlyTwice n Q
+    go true t =
+        record {
+          first = p .at;
+          second = r .at;
+          apart = ltb-true (p .at) (r .at) t;
+          below = r .below;
+          holds-first = first;
+          holds-second = second;
+          only = λ j h q. ⊎-elim (λ x. inl (p .only j h x)) (λ x. inr (r .only j h x)) (e j .1 q);
+        }
+    go false t =
+        let ge : r .at ≤ p .at = ltb-false (p .at) (r .at) t in
+        let ne : p .at ≡ r .at → ⊥ = same in
+        record {
+          first = r .at;
+          second = p .at;
+          apart = omega (arith, ne);
+          below = p .below;
+          holds-first = second;
+          holds-second = first;
+          only = λ j h q. ⊎-elim (λ x. inr (p .only j h x)) (λ x. inl (r .only j h x)) (e j .1 q);
+        }
 
 -- a step of a place in a pass of L: one up, or 0 from the last
 pub record Next (L p q : ℕ) : Type 0 where
