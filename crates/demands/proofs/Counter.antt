@@ -1,9 +1,9 @@
 -- The counter's place in its pass: before the jump the counter itself, after it as much more as the jump went back. A step takes the place one up.
 -- Assumes nothing.
 use mathlib.Core.Path.{_≡_, refl}
-use mathlib.Core.Logic.{_↔_}
+use mathlib.Core.Logic.{_↔_, _⊎_, inl, inr, ⊎-elim}
 use mathlib.Core.Bool.{Bool, true, false, cond, not, _&&_, _||_}
-use Prim.Native.Nat.{ℕ, _+_, _-_, _%_, _≤_, _<_}
+use Prim.Native.Nat.{ℕ, suc, _+_, _-_, _%_, _≤_, _<_}
 use native.Mathlib.Omega.{arith}
 use lib.Dec.{eqb}
 use borrow.Author.Tests.{eqb-true, eqb-false, ne-eqb}
@@ -72,6 +72,26 @@ module _ (J T : ℕ) (back : T < J) (above : 0 < T) (high : J < 256) where
   pub same-place : (b : Bool) (c q : ℕ) → Within J T b c → q < T → (placeOf J T b c ≡ q) ↔ (c ≡ q)
   same-place false c q w h = (λ e. e, λ e. e)
   same-place true c q w h = (λ e. absurd (omega arith), λ e. absurd (omega arith))
+
+  -- a line that the jump goes back over has two places, a line after the jump one
+  pub two-places :
+      (b : Bool) (c q : ℕ) → Within J T b c → T ≤ q → q < J → ((placeOf J T b c ≡ q) ⊎ (placeOf J T b c ≡ q + (J - T))) ↔ (c ≡ q)
+  two-places false c q w l h = (⊎-elim (λ e. e) (λ e. absurd (omega arith)), λ e. inl e)
+  two-places true c q w l h = (⊎-elim (λ e. absurd (omega arith)) (λ e. omega arith), λ e. inr (omega arith))
+
+  pub late-place : (b : Bool) (c q : ℕ) → Within J T b c → J ≤ q → (placeOf J T b c ≡ q + (J - T)) ↔ (c ≡ q)
+  late-place false c q w h = (λ e. absurd (omega arith), λ e. absurd (omega arith))
+  late-place true c q w h = (λ e. omega arith, λ e. omega arith)
+
+  -- a counter whose place is n or later is itself at n or later
+  pub no-less : (b : Bool) (c n : ℕ) → Within J T b c → n ≤ T → n ≤ placeOf J T b c → n ≤ c
+  no-less false c n w h l = l
+  no-less true c n w h l = omega arith
+
+  -- before the last place of a pass the counter does not become 0
+  pub not-yet : (b : Bool) (c : ℕ) → Within J T b c → suc (placeOf J T b c) < J + (256 - T) → (c + 1) % 256 ≡ 0 → ⊥
+  not-yet false c w h e = omega arith
+  not-yet true c w h e = omega arith
 
   pub place-below : (b : Bool) (c : ℕ) → Within J T b c → placeOf J T b c < J + (256 - T)
   place-below false c w = omega arith

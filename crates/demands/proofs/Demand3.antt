@@ -1,9 +1,10 @@
 -- Demand 3, proved: after any calls, with any calls but steps between, for any area whose lines end where the jump ends.
 -- Assumes nothing.
 use mathlib.Core.Path.{_≡_, refl, sym, _∙_, ap, subst}
-use mathlib.Core.Logic.{_↔_, _≢_}
+use mathlib.Core.Logic.{_↔_, _≢_, _⊎_, inl}
 use mathlib.Core.Bool.{Bool, true, false, cond}
-use Prim.Native.Nat.{ℕ, zero, suc, _+_, _-_, _≤_, _<_, _∣_}
+use mathlib.Core.List.{List, [], _∷_}
+use Prim.Native.Nat.{ℕ, zero, suc, _+_, _-_, _≤_, _<_}
 use native.Mathlib.Nat.{add-zero, add-suc, add-comm}
 use native.Mathlib.Omega.{arith}
 use lib.Dec.{eqb}
@@ -11,33 +12,40 @@ use lib.ListN.{length, drop}
 use borrow.Author.Tests.{eq-eqb, eqb-true}
 use Rattle.laws.specs.Bits.{bit}
 use Rattle.laws.specs.Lists.{rowOf}
-use Rattle.laws.specs.Once.{ExactlyOnce}
-use Rattle.laws.proofs.Once.{once-iff}
+use Rattle.laws.specs.Once.{ExactlyOnce, ExactlyTwice}
+use Rattle.laws.proofs.Once.{once-iff, twice-iff}
 use Rattle.colour.specs.Colour.{coloursOf}
 use Rattle.picture.specs.declared.RenderArea.{RenderArea}
-use Rattle.picture.specs.declared.RenderArea.the-variants.{VisibleOnly}
+use Rattle.picture.specs.declared.RenderArea.the-variants.{VisibleOnly, EffectiveArea}
 use Rattle.picture.specs.Area.{columns, rows, firstLine, rowSize, frameSize, rowBytes}
 use Rattle.raster.specs.declared.Raster.{Raster}
-use Rattle.raster.specs.Raster.{passLength, jumpTo, advanced, counted, ticked}
+use Rattle.raster.specs.Raster.{passLength, jumpLine, jumpTo, advanced, counted, ticked}
 use Rattle.vdp.specs.declared.VdpState.{VdpState}
 use Rattle.vdp.specs.Refusals.{whole}
 use Rattle.step.specs.declared.Stepped.{Stepped}
-use Rattle.step.specs.declared.VdpInt.the-variants.{InterruptGenerated}
 use Rattle.step.specs.declared.DisplayRefresh.the-variants.{NoDisplay, ScreenDone, ScreenDoneNoRefresh}
 use Rattle.step.specs.declared.DrawnRow.the-variants.{Drawn}
 use Rattle.step.specs.Step.{register, lineOf, advance, rowOn, reportOf, stepped}
 use Rattle.step.specs.Frame.{drawnBytes, FrameStepLeaves}
 use Rattle.step.proofs.Rows.{row-low, row-line, row-at}
 use Rattle.step.proofs.Laws.{stepped-raster, frame-step-length, frame-step-past, frame-step-other, frame-step-here}
-use Rattle.demands.specs.Pass.{Run, after, deviceAfter, until, through, ready, answer, lineSet, frameAt, latched, pictureAt, rowAtEnd, LineInterruptsEvery, Demand3}
+use Rattle.demands.specs.Pass.{History, Steps, Between, Run, after, deviceAfter, then, stepCall, until, through, ready, answer, lineSet, frameAt, latched, pictureAt, rowAtEnd, LineInterruptsEvery, ForLine, Demand3}
+use Rattle.demands.specs.Rows.{RowsDrawn}
+use Rattle.demands.specs.Interrupts.{AllSo, here, call, step}
 use Rattle.demands.proofs.Counter.{line}
-use Rattle.demands.proofs.Lines.{line-once, line-law}
-use Rattle.demands.proofs.Steps.{colours-now, line-alone, Taken, taken, is-stepped}
+use Rattle.demands.proofs.Lines.{before-0, line-once, line-twice}
+use Rattle.demands.proofs.Steps.{colours-now, Taken, taken, is-stepped}
 use Rattle.demands.proofs.Sound.{Sound, sound, scroll-is, then-raster}
+use Rattle.demands.proofs.Interrupts.{from-line-0}
 
 -- ---- row y is drawn by the step that sets its line, and by no other
 pub line-row : (a : RenderArea) (n y : ℕ) → y < rows a → n ≡ y + firstLine a → rowOn a n ≡ Drawn y
 line-row a n y h e = row-at a n (omega arith) (omega arith) ∙ ap Drawn (omega arith)
+
+-- every area's lines are ones that the counter reads
+lines-end : (a : RenderArea) → firstLine a + rows a ≤ 256
+lines-end VisibleOnly = omega arith
+lines-end EffectiveArea = omega arith
 
 -- ---- the screen end is reported by the step that sets line C1, and by no other
 end-line : (d : VdpState) → (lineOf d ≡ 193) ↔ (reportOf d ≢ NoDisplay)
@@ -107,13 +115,21 @@ module _ {a : RenderArea} (r : Run a) where
   no-other : (i y : ℕ) → answer r i .row ≡ Drawn y → y < rows a
   no-other i y e = row-low a (line (dev i .raster)) y (sym (row-on i) ∙ e)
 
-  pub lines : (q : ℕ) → q < jumpTo → ExactlyOnce passLength (λ i. line (dev i .raster) ≡ q)
-  lines q h = line-once (λ i. dev i .raster) (λ i. register (dev i)) raster-next (ready-sound 0 .within) q h
+  -- each line but those that the jump goes back over is set by exactly one step of a pass, those by two
+  pub lines : (q : ℕ) → (q < jumpTo) ⊎ (jumpLine ≤ q) → q < 256 → ExactlyOnce passLength (λ i. line (dev i .raster) ≡ q)
+  lines q out h = line-once (λ i. dev i .raster) (λ i. register (dev i)) raster-next (ready-sound 0 .within) q out h
+
+  lines-twice : (q : ℕ) → jumpTo ≤ q → q < jumpLine → ExactlyTwice passLength (λ i. line (dev i .raster) ≡ q)
+  lines-twice q l h = line-twice (λ i. dev i .raster) (λ i. register (dev i)) raster-next (ready-sound 0 .within) q l h
 
   -- and so in the pass that begins one step later
   pub lines-later : (q : ℕ) → q < jumpTo → ExactlyOnce passLength (λ i. line (dev (suc i) .raster) ≡ q)
   lines-later q h =
-      line-once (λ i. dev (suc i) .raster) (λ i. register (dev (suc i))) (λ i. raster-next (suc i)) (ready-sound 1 .within) q h
+      line-once (λ i. dev (suc i) .raster) (λ i. register (dev (suc i))) (λ i. raster-next (suc i)) (ready-sound 1 .within) q (inl h) (omega arith)
+
+  -- until the next step the counter reads the line that a step set
+  pub still : (i : ℕ) → lineOf (ready r (suc i)) ≡ lineSet r i
+  still i = ap (λ (x : Raster). x .«v_counter») (raster-next i ∙ sym (raster-left i))
 
   report-of : (i : ℕ) → answer r i .report ≡ reportOf (advance (dev i))
   unfolding stepped
@@ -121,7 +137,7 @@ module _ {a : RenderArea} (r : Run a) where
 
   end-once : ExactlyOnce passLength (λ i. answer r i .report ≢ NoDisplay)
   unfolding advanced
-  end-once = once-iff (λ i. rw (report-of i) (end-line (advance (dev i)))) (lines 193 (omega arith))
+  end-once = once-iff (λ i. rw (report-of i) (end-line (advance (dev i)))) (lines 193 (inl (omega arith)) (omega arith))
 
   -- ---- the frame
   pub same-length : (i : ℕ) → length (frameAt r i) ≡ length (r .frame)
@@ -162,34 +178,69 @@ module _ {a : RenderArea} (r : Run a) where
   unfolding answer frameAt
   by-contract i = record { answer = rw (same-length i); bytes = refl }
 
+  -- ---- the rows, each at its line
+  row-iff : (y : ℕ) → y < rows a → (i : ℕ) → (line (dev i .raster) ≡ y + firstLine a) ↔ (answer r i .row ≡ Drawn y)
+  row-iff y h i =
+      rw (row-on i) (line-row a (line (dev i .raster)) y h, λ e. row-line a (line (dev i .raster)) y e ∙ add-comm (firstLine a) y)
+
+  -- a row ends as the last step that drew it left it
+  last-bytes :
+      (i y : ℕ) → i < passLength → answer r i .row ≡ Drawn y → ((j : ℕ) → i < j → j < passLength → answer r j .row ≢ Drawn y) →
+      rowAtEnd r y ≡ rowBytes (coloursOf (dev i .cram)) (columns a) (pictureAt r i y)
+  last-bytes i y h e later =
+      let L : ℕ = passLength in
+      let whole : suc i + (L - suc i) ≡ L = omega arith in
+      subst (λ (n : ℕ). rowOf (rowSize a) y (frameAt r n) ≡ rowOf (rowSize a) y (frameAt r (suc i))) whole
+      (undrawn y (suc i) (L - suc i) (λ j l u. later j (omega arith) (omega arith)))
+      ∙ just-drawn i y e
+
+  pub rows-drawn : RowsDrawn r
+  rows-drawn =
+      record {
+        twice = λ y h l u. twice-iff (row-iff y h) (lines-twice (y + firstLine a) l (omega arith));
+        once = λ y h out. once-iff (row-iff y h) (lines (y + firstLine a) out (omega (arith, lines-end a)));
+        no-other = no-other;
+        last-bytes = last-bytes;
+      }
+
+  -- ---- the line interrupts: those of any calls
+  all-so :
+      (N : ℕ) (start : VdpState) (n : ℕ) (h : History) → AllSo N start n (deviceAfter h) → (cs : List Between) → AllSo N start n (deviceAfter (then cs h))
+  unfolding then deviceAfter
+  all-so N start n h w [] = w
+  all-so N start n h w (b ∷ cs) = all-so N start n (b .call ∷ h) (call w (b .call) (b .no-step (deviceAfter h))) cs
+
+  step-is : (i : ℕ) → Steps (stepCall r i) (dev i) (answer r i)
+  unfolding answer
+  step-is i = (refl, r .accepted i (dev i))
+
+  module _ (i N : ℕ) (every : (k : ℕ) → k ≤ 193 → LineInterruptsEvery N (register (dev (i + k)))) where
+    so-far : (k : ℕ) → k ≤ 193 → AllSo N (dev i) k (dev (i + k))
+    unfolding ready until
+    so-far zero h = rw (add-zero i) here
+    so-far (suc k) h =
+        rw (add-suc i k)
+        (all-so N (dev i) (suc k) (through r (i + k))
+        (rw (after-step (i + k)) (step (so-far k (omega arith)) (every k (omega arith)) (stepCall r (i + k)) (answer r (i + k)) (step-is (i + k))))
+        (r .between (suc (i + k))))
+
+    reads-ff : lineSet r i ≡ 0 → lineOf (dev i) ≡ 0xFF
+    reads-ff b = before-0 (dev i .raster) (ready-sound i .within) (sym (line-of i) ∙ b)
+
+    line-interrupts : lineSet r i ≡ 0 → (k : ℕ) → k ≤ 193 → ForLine N k (answer r (i + k))
+    line-interrupts b k h =
+        from-line-0 N (dev i) (reads-ff b) .to-193 k h (dev (i + k)) (stepCall r (i + k)) (answer r (i + k)) (so-far k h) (every k h) (step-is (i + k))
+
   module _ (once : firstLine a + rows a ≤ jumpTo) where
     row-once : (y : ℕ) → y < rows a → ExactlyOnce passLength (λ i. answer r i .row ≡ Drawn y)
-    row-once y h =
-        once-iff
-        (λ i. rw (row-on i) (line-row a (line (dev i .raster)) y h, λ e. row-line a (line (dev i .raster)) y e ∙ add-comm (firstLine a) y))
-        (lines (y + firstLine a) (omega arith))
+    row-once y h = rows-drawn .once y h (inl (omega arith))
 
     row-bytes :
         (i y : ℕ) → i < passLength → answer r i .row ≡ Drawn y →
         rowAtEnd r y ≡ rowBytes (coloursOf (dev i .cram)) (columns a) (pictureAt r i y)
     row-bytes i y h e =
-        let L : ℕ = passLength in
         let o = row-once y (no-other i y e) in
-        let whole : suc i + (L - suc i) ≡ L = omega arith in
-        let later : (j : ℕ) → suc i ≤ j → j < suc i + (L - suc i) → answer r j .row ≢ Drawn y =
-        λ j l u f. omega (arith, o .only j (omega arith) f, o .only i h e)
-        in
-        subst (λ (n : ℕ). rowOf (rowSize a) y (frameAt r n) ≡ rowOf (rowSize a) y (frameAt r (suc i))) whole
-        (undrawn y (suc i) (L - suc i) later)
-        ∙ just-drawn i y e
-
-    line-interrupts :
-        (i N : ℕ) → lineSet r i ≡ 0 → ((k : ℕ) → k ≤ 193 → LineInterruptsEvery N (register (dev (i + k)))) →
-        (k : ℕ) → k ≤ 193 → (lineSet r (i + k) ≡ k) × ((answer r (i + k) .interrupt ≡ InterruptGenerated) ↔ (N + 1 ∣ k + 2))
-    line-interrupts i N b every k h =
-        let law = line-law (λ i. dev i .raster) (λ i. register (dev i)) raster-next i N (sym (line-of i) ∙ b) every k h in
-        let s = line-alone a (r .vram (i + k)) (dev (i + k)) (every k h .frame-off) in
-        (line-of (i + k) ∙ law .0, rw (steps (i + k)) (λ e. law .1 .0 (s .0 e), λ v. s .1 (law .1 .1 v)))
+        last-bytes i y h e (λ j l u f. omega (arith, o .only j u f, o .only i h e))
 
     pub demand3 : Demand3 r
     demand3 =
@@ -200,7 +251,7 @@ module _ {a : RenderArea} (r : Run a) where
           past-kept = past-kept;
           end-once = end-once;
           row-bytes = row-bytes;
-          line-interrupts = line-interrupts;
+          line-interrupts = λ i N b every k h. line-interrupts i N every b k h;
         }
 
 -- the visible area: 144 rows of 640 bytes, from line 24

@@ -4,6 +4,7 @@ pub mod Lines
 pub mod Kept
 pub mod Steps
 pub mod Sound
+pub mod Interrupts
 pub mod Demand3
 pub mod Always
 pub mod Split

@@ -1,22 +1,23 @@
 -- Any sequence of rasters in which each is the last one ticked, with registers that change as they like between the steps:
--- each line below the jump's end is set by exactly one step of a pass, and the line interrupts come as N + 1 divides the line and 2.
+-- each line is set by exactly one step of a pass, or by two where the jump goes back over it, and the line interrupts come as N + 1 divides the
+-- line and 2.
 -- Nothing here knows of a device, a port or a picture.
 -- Assumes nothing.
 use mathlib.Core.Path.{_≡_, sym, _∙_, ap, subst}
-use mathlib.Core.Logic.{_↔_, _≢_}
-use mathlib.Core.Bool.{true, false, cond}
-use Prim.Native.Nat.{ℕ, zero, suc, _+_, _-_, _≤_, _<_, _∣_}
-use native.Mathlib.Nat.{add-zero, add-suc, dvd-add, dvd-refl, one-dvd, le-of-dvd, dvd-add-iff-left}
+use mathlib.Core.Logic.{_↔_, _≢_, _⊎_, ⊎-elim}
+use mathlib.Core.Bool.{Bool, true, false, cond}
+use Prim.Native.Nat.{ℕ, zero, suc, _+_, _-_, _%_, _≤_, _<_, _∣_}
+use native.Mathlib.Nat.{dvd-add, dvd-refl, one-dvd, le-of-dvd, dvd-add-iff-left}
 use native.Mathlib.Omega.{arith}
 use lib.Dec.{eqb}
-use borrow.Author.Tests.{eq-eqb, ne-eqb, eqb-true, eqb-false, le-ltb}
-use Rattle.laws.specs.Once.{ExactlyOnce}
+use borrow.Author.Tests.{eq-eqb, ne-eqb, eqb-true, eqb-false, le-ltb, lt-ltb}
+use Rattle.laws.specs.Bits.{bit}
+use Rattle.laws.specs.Once.{ExactlyOnce, ExactlyTwice}
 use Rattle.laws.proofs.Tests.{either, split}
-use Rattle.laws.proofs.Once.{once-iff, each-once}
+use Rattle.laws.proofs.Once.{once-iff, once-and-once, each-once}
 use Rattle.raster.specs.declared.Raster.{Raster}
 use Rattle.raster.specs.Raster.{jumpLine, jumpTo, passLength, up, jumps, starts, advanced, counted, lineInterrupt, ticked}
-use Rattle.demands.specs.Pass.{LineInterruptsEvery}
-use Rattle.demands.proofs.Counter.{line, Ticked, InPass, place, tick, same-place, place-below, jump-back, jump-above, jump-high, pass-is}
+use Rattle.demands.proofs.Counter.{line, flag, Within, placeOf, Ticked, InPass, place, tick, same-place, two-places, late-place, no-less, not-yet, place-below, jump-back, jump-above, jump-high, pass-is}
 
 -- a step that sets line 0 starts a pass, and so does no other
 pub starts-at : (x : Raster) → line x ≡ 0 → starts x ≡ true
@@ -25,6 +26,15 @@ starts-at x e =
     split (jumps x)
     (λ j. absurd (let z : jumpTo ≡ 0 = rw j at e in omega arith))
     (λ j. eq-eqb (up x) 0 (rw j at e))
+
+-- just before it the counter reads FF
+pub before-0 : (x : Raster) → InPass x → line x ≡ 0 → x .«v_counter» ≡ 0xFF
+unfolding starts
+before-0 x w e = at-most (x .«v_counter_jumped») (x .«v_counter») w (eqb-true (up x) 0 (starts-at x e))
+  where
+    at-most : (b : Bool) (c : ℕ) → Within jumpLine jumpTo b c → (c + 1) % 256 ≡ 0 → c ≡ 0xFF
+    at-most true c w z = omega arith
+    at-most false c w z = omega arith
 
 -- the count as the interrupt finds it
 abbrev count : (ℕ → ℕ) → Raster → ℕ
@@ -37,29 +47,20 @@ line-next x k e h =
     let u : up x ≡ suc k = omega arith in
     rw (ne-eqb (up x) jumpLine (λ f. omega arith)) u
 
--- a step from a line below 193 sets the next one, and starts no pass
-record Onward (x : Raster) (k : ℕ) : Type 0 where
-  sets : line x ≡ suc k
-  starts-not : starts x ≡ false
-
-onward : (x : Raster) (k : ℕ) → x .«v_counter» ≡ k → k < 193 → Onward x k
-unfolding starts
-onward x k e h = record { sets = line-next x k e (omega arith); starts-not = ne-eqb (up x) 0 (λ f. omega arith) }
-
--- the count at line k, with register 10 at N
-record Counting (N k c : ℕ) : Type 0 where
+-- the count at line k, with register 10 at N: m is 2 from line 0 on, and N in a first pass
+record Counting (N m k c : ℕ) : Type 0 where
   small : c ≤ N
-  divides : N + 1 ∣ c + (k + 2)
+  divides : N + 1 ∣ c + (k + m)
 
-first : (N : ℕ) → Counting N 0 (N - 1)
+first : (N : ℕ) → Counting N 2 0 (N - 1)
 first zero = record { small = omega arith; divides = one-dvd 2 }
 first (suc n) =
     record { small = omega arith; divides = subst (λ (x : ℕ). suc n + 1 ∣ x) (omega arith) (dvd-refl (suc n + 1)) }
 
 -- the count goes down, or starts again at N
-again : (N k c : ℕ) → Counting N k c → Counting N (suc k) (cond (eqb c 0) N (c - 1))
-again N k c w =
-    either (Counting N (suc k)) (eqb c 0)
+again : (N m k c : ℕ) → Counting N m k c → Counting N m (suc k) (cond (eqb c 0) N (c - 1))
+again N m k c w =
+    either (Counting N m (suc k)) (eqb c 0)
     (λ e.
     let z : c ≡ 0 = eqb-true c 0 e in
     record {
@@ -71,16 +72,16 @@ again N k c w =
     let p : c ≢ 0 = eqb-false c 0 e in
     record { small = omega arith; divides = subst (λ (x : ℕ). N + 1 ∣ x) (omega arith) (w .divides) })
 
--- the count is 0 exactly when N + 1 divides k + 2
-zero-iff : (N k c : ℕ) → Counting N k c → (eqb c 0 ≡ true) ↔ (N + 1 ∣ k + 2)
-zero-iff N k c w = (there, back)
+-- the count is 0 exactly when N + 1 divides k + m
+zero-iff : (N m k c : ℕ) → Counting N m k c → (eqb c 0 ≡ true) ↔ (N + 1 ∣ k + m)
+zero-iff N m k c w = (there, back)
   where
-    there : eqb c 0 ≡ true → N + 1 ∣ k + 2
+    there : eqb c 0 ≡ true → N + 1 ∣ k + m
     there e =
         let z : c ≡ 0 = eqb-true c 0 e in
         subst (λ (x : ℕ). N + 1 ∣ x) (omega arith) (w .divides)
 
-    back : N + 1 ∣ k + 2 → eqb c 0 ≡ true
+    back : N + 1 ∣ k + m → eqb c 0 ≡ true
     back v =
         split (eqb c 0) (λ e. e)
         (λ e.
@@ -88,12 +89,85 @@ zero-iff N k c w = (there, back)
         let s : c ≤ N = w .small in
         absurd (omega (arith, le-of-dvd {m = N + 1} {n = c} (omega arith) (dvd-add-iff-left (N + 1) v .1 (w .divides)))))
 
--- the count that a step for a line up to 192 leaves
-next-count :
-    (g : ℕ → ℕ) (x : Raster) (k N : ℕ) → line x ≡ k → k ≤ 192 → g 10 ≡ N →
-    ticked g x .«line_interrupt_counter» ≡ cond (eqb (count g x) 0) N (count g x - 1)
-unfolding ticked counted advanced
-next-count g x k N e h n = rw (le-ltb 192 (line x) (omega arith), n)
+-- a raster at place p of its pass, as a step leaves it: the count is that of the next line, or N from line 193 on
+pub record Due (N m p : ℕ) (x : Raster) : Type 0 where
+  within : InPass x
+  at : place x ≡ p
+  low : p ≤ 192 → Counting N m (suc p) (x .«line_interrupt_counter»)
+  high : 193 ≤ p → x .«line_interrupt_counter» ≡ N
+
+-- a step from raster x to place p, and the count that its interrupt finds
+pub record Takes (N m p : ℕ) (g : ℕ → ℕ) (x : Raster) : Type 0 where
+  within : Within jumpLine jumpTo (flag x) (line x)
+  at : placeOf jumpLine jumpTo (flag x) (line x) ≡ p
+  low : p ≤ 193 → Counting N m p (count g x)
+  high : 193 < p → count g x ≡ N
+
+-- a raster that has not stepped: counter, flag and count at 0
+pub due-first : (N : ℕ) (x : Raster) → x .«v_counter» ≡ 0 → x .«v_counter_jumped» ≡ false → x .«line_interrupt_counter» ≡ 0 → Due N N 0 x
+due-first N x c f l =
+    record {
+      within = rw (c, f) (omega arith);
+      at = rw (c, f);
+      low = λ _. rw l record { small = omega arith; divides = subst (λ (n : ℕ). N + 1 ∣ n) (omega arith) (dvd-refl (N + 1)) };
+      high = λ h. absurd (omega arith);
+    }
+
+-- the step that sets line 0, from any raster at FF
+pub takes-0 : (N : ℕ) (g : ℕ → ℕ) (x : Raster) → x .«v_counter» ≡ 0xFF → g 10 ≡ N → Takes N 2 0 g x
+unfolding jumps starts
+takes-0 N g x e n =
+    record { within = rw e (omega arith); at = rw e; low = λ _. rw (e, n) (first N); high = λ h. absurd (omega arith) }
+
+module _ (N m p : ℕ) (g : ℕ → ℕ) (x : Raster) where
+  -- before the last place of a pass none starts
+  not-start : Due N m p x → suc p < passLength → starts x ≡ false
+  unfolding starts
+  not-start d h =
+      ne-eqb (up x) 0
+      (not-yet jumpLine jumpTo jump-back jump-above jump-high (x .«v_counter_jumped») (x .«v_counter») (d .within) (omega (arith, d .at)))
+
+  -- any other step of a pass
+  pub takes-next : Due N m p x → suc p < passLength → Takes N m (suc p) g x
+  takes-next d h =
+      let t = tick x (d .within) in
+      let e : place x ≡ p = d .at in
+      let s : starts x ≡ false = not-start d h in
+      record {
+        within = t .within;
+        at = t .next .goes (omega (arith, e)) ∙ ap suc e;
+        low = λ l. rw s (d .low (omega arith));
+        high = λ l. rw s (d .high (omega arith));
+      }
+
+module _ (N m p : ℕ) (g : ℕ → ℕ) (x : Raster) (t : Takes N m p g x) where
+  pub sets : p < jumpTo → line x ≡ p
+  sets h = same-place jumpLine jumpTo jump-back jump-above jump-high (flag x) (line x) p (t .within) h .0 (t .at)
+
+  -- what it leaves
+  pub leaves : g 10 ≡ N → Due N m p (ticked g x)
+  unfolding ticked counted advanced
+  leaves n =
+      record {
+        within = t .within;
+        at = t .at;
+        low = λ h.
+            let l : line x ≤ 192 = omega (arith, sets (omega arith)) in
+            let c : ticked g x .«line_interrupt_counter» ≡ cond (eqb (count g x) 0) N (count g x - 1) = rw (le-ltb 192 (line x) l, n) in
+            subst (Counting N m (suc p)) (sym c) (again N m p (count g x) (t .low (omega arith)));
+        high = λ h.
+            let l : 193 ≤ line x = no-less jumpLine jumpTo jump-back jump-above jump-high (flag x) (line x) 193 (t .within) (omega arith) (omega (arith, t .at)) in
+            rw (lt-ltb 192 (line x) (omega arith), n);
+      }
+
+  -- and when its line interrupt comes
+  pub comes : bit (g 0) 4 ≡ true → p ≤ 193 → (lineInterrupt g (advanced g x) ≡ true) ↔ (N + 1 ∣ p + m)
+  unfolding lineInterrupt advanced
+  comes on h = rw on (zero-iff N m p (count g x) (t .low h))
+
+  pub comes-late : bit (g 0) 4 ≡ true → 193 < p → (lineInterrupt g (advanced g x) ≡ true) ↔ (N ≡ 0)
+  unfolding lineInterrupt advanced
+  comes-late on h = rw (on, t .high h) (λ e. eqb-true N 0 e, λ e. eq-eqb N 0 e)
 
 module _ (x : ℕ → Raster) (g : ℕ → ℕ → ℕ) (next : (i : ℕ) → x (suc i) ≡ ticked (g i) (x i)) where
   module _ (start : InPass (x 0)) where
@@ -118,49 +192,36 @@ module _ (x : ℕ → Raster) (g : ℕ → ℕ → ℕ) (next : (i : ℕ) → x 
         rw (← set-by i)
         (same-place jumpLine jumpTo jump-back jump-above jump-high (x (suc i) .«v_counter_jumped») (x (suc i) .«v_counter») q (left i .within) h)
 
+    -- a line that the jump goes back over has two places, a line after the jump one
+    two-lines :
+        (q : ℕ) → jumpTo ≤ q → q < jumpLine → (i : ℕ) →
+        ((place (x (suc i)) ≡ q) ⊎ (place (x (suc i)) ≡ q + (jumpLine - jumpTo))) ↔ (line (x i) ≡ q)
+    two-lines q l h i =
+        rw (← set-by i)
+        (two-places jumpLine jumpTo jump-back jump-above jump-high (x (suc i) .«v_counter_jumped») (x (suc i) .«v_counter») q (left i .within) l h)
+
+    late-line : (q : ℕ) → jumpLine ≤ q → (i : ℕ) → (place (x (suc i)) ≡ q + (jumpLine - jumpTo)) ↔ (line (x i) ≡ q)
+    late-line q h i =
+        rw (← set-by i)
+        (late-place jumpLine jumpTo jump-back jump-above jump-high (x (suc i) .«v_counter_jumped») (x (suc i) .«v_counter») q (left i .within) h)
+
     place-start : place (x 0) < jumpLine + (256 - jumpTo)
     place-start =
         place-below jumpLine jumpTo jump-back jump-above jump-high (x 0 .«v_counter_jumped») (x 0 .«v_counter») start
 
-    -- each line below the jump's end is set by exactly one step of a pass
-    pub line-once : (q : ℕ) → q < jumpTo → ExactlyOnce passLength (λ i. line (x i) ≡ q)
-    line-once q h =
-        subst (λ (n : ℕ). ExactlyOnce n (λ i. line (x i) ≡ q)) (sym pass-is)
-        (once-iff (place-line q h)
-        (each-once (jumpLine + (256 - jumpTo)) (λ i. place (x i)) place-start (λ i. left i .next) q (omega arith)))
+    place-once : (q : ℕ) → q < passLength → ExactlyOnce passLength (λ i. place (x (suc i)) ≡ q)
+    place-once q h =
+        subst (λ (n : ℕ). ExactlyOnce n (λ i. place (x (suc i)) ≡ q)) (sym pass-is)
+        (each-once (jumpLine + (256 - jumpTo)) (λ i. place (x i)) place-start (λ i. left i .next) q (omega (arith, pass-is)))
 
-  module _ (i N : ℕ) (begins : line (x i) ≡ 0) (every : (k : ℕ) → k ≤ 193 → LineInterruptsEvery N (g (i + k))) where
-    record Law (k : ℕ) (h : ℕ → ℕ) (y : Raster) : Type 0 where
-      sets : line y ≡ k
-      counting : Counting N k (count h y)
+    -- a line that the jump goes back over is set by exactly two steps of a pass
+    pub line-twice : (q : ℕ) → jumpTo ≤ q → q < jumpLine → ExactlyTwice passLength (λ i. line (x i) ≡ q)
+    line-twice q l h =
+        once-and-once (place-once q (omega arith)) (place-once (q + (jumpLine - jumpTo)) (omega arith)) (two-lines q l h)
+        (λ i e f. omega arith)
 
-    law : (k : ℕ) → k ≤ 193 → Law k (g (i + k)) (x (i + k))
-    unfolding ticked counted advanced
-    law zero h =
-        let b : line (x (i + 0)) ≡ 0 = rw (add-zero i) begins in
-        record {
-          sets = b;
-          counting = rw (starts-at (x (i + 0)) b, every 0 (omega arith) .every) (first N);
-        }
-    law (suc k) h = go (law k (omega arith)) (next (i + k))
-      where
-        y : Raster
-        y = x (suc (i + k))
-
-        go : Law k (g (i + k)) (x (i + k)) → y ≡ ticked (g (i + k)) (x (i + k)) → Law (suc k) (g (i + suc k)) (x (i + suc k))
-        go w e =
-            let c₀ : ℕ = count (g (i + k)) (x (i + k)) in
-            let o : Onward y k = onward y k (ap (λ (z : Raster). z .«v_counter») e ∙ w .sets) (omega arith) in
-            let c : y .«line_interrupt_counter» ≡ cond (eqb c₀ 0) N (c₀ - 1) =
-            ap (λ (z : Raster). z .«line_interrupt_counter») e
-            ∙ next-count (g (i + k)) (x (i + k)) k N (w .sets) (omega arith) (every k (omega arith) .every)
-            in
-            rw (add-suc i k) record { sets = o .sets; counting = rw (o .starts-not, c) (again N k c₀ (w .counting)) }
-
-    -- the step for line k sets it, and its line interrupt comes exactly when N + 1 divides k + 2
-    pub line-law :
-        (k : ℕ) → k ≤ 193 → (line (x (i + k)) ≡ k) × ((lineInterrupt (g (i + k)) (advanced (g (i + k)) (x (i + k))) ≡ true) ↔ (N + 1 ∣ k + 2))
-    unfolding lineInterrupt advanced
-    line-law k h =
-        let w = law k h in
-        (w .sets, rw (every k h .line-on) (zero-iff N k (count (g (i + k)) (x (i + k))) (w .counting)))
+    -- any other by exactly one
+    pub line-once : (q : ℕ) → (q < jumpTo) ⊎ (jumpLine ≤ q) → q < 256 → ExactlyOnce passLength (λ i. line (x i) ≡ q)
+    line-once q out h =
+        ⊎-elim (λ l. once-iff (place-line q l) (place-once q (omega arith)))
+        (λ l. once-iff (late-line q l) (place-once (q + (jumpLine - jumpTo)) (omega arith))) out

@@ -16,8 +16,8 @@ use Rattle.vdp.specs.declared.VdpState.{VdpState}
 use Rattle.vdp.specs.Refusals.{size, whole}
 use Rattle.vdp.proofs.Invariant.{Aimed, write-aimed, read-aimed}
 use Rattle.step.specs.declared.Stepped.{Stepped}
-use Rattle.step.specs.Step.{register, lineOf, stepped, stepWith}
-use Rattle.demands.specs.Pass.{Call, out, input, step-frame, step-row, dump-tiles, History, after, deviceAfter, becomesZero, latched, NoStep, Between, then}
+use Rattle.step.specs.Step.{register, lineOf, stepped, stepWith, rowStep, frameStep}
+use Rattle.demands.specs.Pass.{Call, out, input, step-frame, step-row, dump-tiles, History, after, deviceAfter, becomesZero, latched, NoStepOn, Between, then}
 use Rattle.demands.proofs.Counter.{InPass, tick, line}
 use Rattle.demands.proofs.Lines.{starts-at}
 use Rattle.demands.proofs.Kept.{Clean, write-keeps, read-keeps}
@@ -112,15 +112,15 @@ scroll-is [] = refl
 scroll-is (c ∷ h) = moved-scroll (deviceAfter h) (after c (deviceAfter h)) (latched h) (left c (deviceAfter h) .moved) (scroll-is h)
 
 -- ---- between steps
-quiet : (c : Call) (d : VdpState) → NoStep c → after c d .raster ≡ d .raster
+pub quiet : (c : Call) (d : VdpState) → NoStepOn d c → after c d .raster ≡ d .raster
 unfolding after
 quiet (out p v m) d n = write-keeps d m p v .raster
 quiet (input p m) d n = read-keeps d m p .raster
-quiet (step-frame a vram k) d n = refused-raster (frameSize a) a vram k d (n d)
-quiet (step-row a vram k) d n = refused-raster (rowSize a) a vram k d (n d)
+quiet (step-frame a vram k) d n = refused-raster (frameSize a) a vram k d (λ e. n (frameStep a vram k d) (refl, e))
+quiet (step-row a vram k) d n = refused-raster (rowSize a) a vram k d (λ e. n (rowStep a vram k d) (refl, e))
 quiet (dump-tiles vram k) d n = refl
 
 pub then-raster : (cs : List Between) (h : History) → deviceAfter (then cs h) .raster ≡ deviceAfter h .raster
 unfolding then deviceAfter
 then-raster [] h = refl
-then-raster (c ∷ cs) h = then-raster cs (c .call ∷ h) ∙ quiet (c .call) (deviceAfter h) (c .no-step)
+then-raster (c ∷ cs) h = then-raster cs (c .call ∷ h) ∙ quiet (c .call) (deviceAfter h) (c .no-step (deviceAfter h))

@@ -23,32 +23,28 @@ use Rattle.picture.proofs.Laws.{length-rowBytes, pixel-byte}
 use Rattle.raster.specs.declared.Raster.{Raster}
 use Rattle.raster.specs.Raster.{passLength, jumpTo, advanced}
 use Rattle.step.specs.declared.DrawnRow.the-variants.{Drawn}
-use Rattle.step.specs.Step.{register, lineOf, rowOn}
+use Rattle.step.specs.Step.{register, rowOn}
 use Rattle.step.proofs.Rows.{row-low, row-line}
 use Rattle.demands.specs.Pass.{Run, through, ready, latched, answer, lineSet, rowAtEnd, pictureAt}
 use Rattle.demands.specs.Split.{Split, ColourSplit, Ninety, pixelAtEnd, fourBytes, OnlyColour, WhichPixels, Twins, Changed}
 use Rattle.demands.proofs.Counter.{line}
 use Rattle.demands.proofs.Lines.{line-next}
-use Rattle.demands.proofs.Demand3.{line-row, line-of, row-on, lines, lines-later, raster-left, raster-next, scroll-at, demand3}
+use Rattle.demands.proofs.Demand3.{line-row, line-of, row-on, lines, lines-later, still, raster-next, scroll-at, demand3}
 
 -- ---- the lines of a pass
 module _ {a : RenderArea} (r : Run a) where
-  -- until the next step the counter reads the line that a step set
-  still : (i : ℕ) → lineOf (ready r (suc i)) ≡ lineSet r i
-  still i = ap (λ (x : Raster). x .«v_counter») (raster-next r i ∙ sym (raster-left r i))
-
   -- they go up from that of any step
   pub rising : (i k : ℕ) → lineSet r i + k < jumpTo → lineSet r (i + k) ≡ lineSet r i + k
   rising i zero h = rw (add-zero i, add-zero (lineSet r i))
   rising i (suc k) h =
       rw (add-suc i k)
       (line-of r (suc (i + k))
-      ∙ line-next (ready r (suc (i + k)) .raster) (lineSet r i + k) (still (i + k) ∙ rising i k (omega arith)) (omega arith)
+      ∙ line-next (ready r (suc (i + k)) .raster) (lineSet r i + k) (still r (i + k) ∙ rising i k (omega arith)) (omega arith)
       ∙ sym (add-suc (lineSet r i) k))
 
   -- the step after the pass sets the line that its first step set
   round : (q : ℕ) → q < jumpTo → lineSet r passLength ≡ q → lineSet r 0 ≡ q
-  round q l e = let o = lines r q l in go (o .at) (o .below) (o .holds)
+  round q l e = let o = lines r q (inl l) (omega arith) in go (o .at) (o .below) (o .holds)
     where
       go : (k : ℕ) → k < passLength → line (ready r k .raster) ≡ q → lineSet r 0 ≡ q
       go zero h f = line-of r 0 ∙ f
@@ -77,7 +73,7 @@ module _ {a : RenderArea} (r : Run a) where
       (i j p q : ℕ) → i < passLength → j < passLength → lineSet r i ≡ p → lineSet r j ≡ q → p ≤ q → q < jumpTo →
       (lineSet r 0 ≤ p) ⊎ (q < lineSet r 0) → j ≡ i + (q - p)
   apart i j p q h g e d f l out =
-      let o = lines r q l in
+      let o = lines r q (inl l) (omega arith) in
       let k : ℕ = q - p in
       let up : lineSet r (i + k) ≡ q = rising i k (omega arith) ∙ omega arith in
       let only-j : j ≡ o .at = o .only j g (sym (line-of r j) ∙ d) in

@@ -19,7 +19,7 @@ use Rattle.demands.specs.Split.{Split, Changed}
 
 -- a port write between two steps
 abbrev pub write : ℕ → ℕ → List ℕ → Between
-write port value vram = record { call = out port value vram; no-step = tt }
+write port value vram = record { call = out port value vram; no-step = λ d s e. e }
 
 -- BF 06, BF C0, and the two bytes of colour 3
 abbrev pub recolour : ℕ → ℕ → List ℕ → List Between

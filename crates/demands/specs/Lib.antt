@@ -1,5 +1,7 @@
 -- The demands, as statements.
 pub mod Pass
+pub mod Rows
+pub mod Interrupts
 pub mod Always
 pub mod Split
 pub mod Author

@@ -71,14 +71,22 @@ latched [] = 0
 latched (c ∷ h) = cond (becomesZero (deviceAfter h) (deviceAfter (c ∷ h))) (register (deviceAfter h) 9) (latched h)
 
 -- ---- R13.3: accepted steps on one frame, one after another, with calls between them that do not write it
+-- Call c on device d is an accepted step, of either kind and area, and answers s.
+abbrev pub Steps : Call → VdpState → Stepped → Type 0
+Steps (out port value vram) d s = ⊥
+Steps (input port vram) d s = ⊥
+Steps (step-frame a vram size) d s = (s ≡ frameStep a vram size d) × (s .refusal ≡ Accepted)
+Steps (step-row a vram size) d s = (s ≡ rowStep a vram size d) × (s .refusal ≡ Accepted)
+Steps (dump-tiles vram size) d s = ⊥
+
+-- On device d, call c is none.
+abbrev pub NoStepOn : VdpState → Call → Type 0
+NoStepOn d c = (s : Stepped) → Steps c d s → ⊥
+
 -- What may be called between two steps: a port, a dump, and a step of either kind and area that is refused, whatever the device (a step's
 -- refusal does not depend on the device).
 abbrev pub NoStep : Call → Type 0
-NoStep (out port value vram) = Unit {0}
-NoStep (input port vram) = Unit {0}
-NoStep (step-frame a vram size) = (d : VdpState) → frameStep a vram size d .refusal ≢ Accepted
-NoStep (step-row a vram size) = (d : VdpState) → rowStep a vram size d .refusal ≢ Accepted
-NoStep (dump-tiles vram size) = Unit {0}
+NoStep c = (d : VdpState) → NoStepOn d c
 
 pub record Between : Type 0 where
   pub call : Call
@@ -142,6 +150,14 @@ pub record LineInterruptsEvery (N : ℕ) (g : ℕ → ℕ) : Type 0 where
   pub frame-off : bit (g 1) 5 ≡ false
   pub every : g 10 ≡ N
 
+-- a step that answers s reports an interrupt exactly when Q
+abbrev pub InterruptsWhen : Stepped → Type 0 → Type 0
+InterruptsWhen s Q = (s .interrupt ≡ InterruptGenerated) ↔ Q
+
+-- R13.6, of one step: it sets line k, and reports an interrupt exactly where N + 1 divides k + 2
+abbrev pub ForLine : (N k : ℕ) → Stepped → Type 0
+ForLine N k s = (lineOf (s .vdp) ≡ k) × InterruptsWhen s (N + 1 ∣ k + 2)
+
 -- ---- the demand
 pub record Demand3 {a : RenderArea} (r : Run a) : Type 0 where
   -- R13.3: every row once, and no other
@@ -157,7 +173,7 @@ pub record Demand3 {a : RenderArea} (r : Run a) : Type 0 where
       (i y : ℕ) → i < passLength → answer r i .row ≡ Drawn y →
       rowAtEnd r y ≡ rowBytes (coloursOf (ready r i .cram)) (columns a) (pictureAt r i y)
   -- R13.6: where the registers stay so from step i, which sets line 0, to the one that sets line 193, the step of line k reports an interrupt
-  -- exactly where N + 1 divides k + 2
+  -- exactly where N + 1 divides k + 2 (a case of FromLine0, Interrupts.antt, which says it of any calls on any device)
   pub line-interrupts :
       (i N : ℕ) → lineSet r i ≡ 0 → ((k : ℕ) → k ≤ 193 → LineInterruptsEvery N (register (ready r (i + k)))) →
-      (k : ℕ) → k ≤ 193 → (lineSet r (i + k) ≡ k) × ((answer r (i + k) .interrupt ≡ InterruptGenerated) ↔ (N + 1 ∣ k + 2))
+      (k : ℕ) → k ≤ 193 → ForLine N k (answer r (i + k))
