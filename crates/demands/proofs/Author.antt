@@ -138,9 +138,7 @@ module _
     the-split : Split r 90 old new
     the-split =
         record {
-          from-top = inl (omega (arith, first-line));
-          low = omega arith;
-          high = omega arith;
+          from-top = inl (omega (arith, first-line), omega (arith, first-line));
           step = 89;
           in-pass = omega arith;
           sets = rising r 0 89 (omega (arith, first-line)) ∙ ap (λ (n : ℕ). n + 89) first-line;

@@ -4,12 +4,12 @@ use mathlib.Core.Path.{_≡_, refl, sym, _∙_, ap, subst}
 use mathlib.Core.Logic.{_≢_, _⊎_, inl, inr, ⊎-elim}
 use mathlib.Core.List.{List}
 use Prim.Native.Nat.{ℕ, zero, suc, _+_, _-_, _*_, _≤_, _<_}
-use native.Mathlib.Nat.{add-zero, add-suc, add-comm}
+use native.Mathlib.Nat.{add-zero, zero-add, add-suc, add-comm}
 use native.Mathlib.Omega.{arith}
-use lib.Dec.{leb, ltb}
+use lib.Dec.{ltb}
 use lib.ListN.{length, getD, take, drop, set, length-drop, List·getD-eq-default}
 use lib.Seq.{ext-getD, getD-take, getD-drop, getD-set-other, length-take-le}
-use borrow.Author.Tests.{leb-true, leb-false, ltb-true, ltb-false}
+use borrow.Author.Tests.{ltb-true, ltb-false}
 use Rattle.laws.specs.Lists.{at, rowOf}
 use Rattle.laws.specs.Paint.{byteOfColour}
 use Rattle.laws.proofs.Tests.{split}
@@ -26,7 +26,7 @@ use Rattle.step.specs.declared.DrawnRow.the-variants.{Drawn}
 use Rattle.step.specs.Step.{register, rowOn}
 use Rattle.step.proofs.Rows.{row-low, row-line}
 use Rattle.demands.specs.Pass.{Run, through, ready, latched, answer, lineSet, rowAtEnd, pictureAt}
-use Rattle.demands.specs.Split.{Split, ColourSplit, Ninety, pixelAtEnd, fourBytes, OnlyColour, WhichPixels, Twins, Changed}
+use Rattle.demands.specs.Split.{firstNew, Split, ColourSplit, Ninety, pixelAtEnd, fourBytes, OnlyColour, WhichPixels, Twins, Changed}
 use Rattle.demands.proofs.Counter.{line}
 use Rattle.demands.proofs.Lines.{line-next}
 use Rattle.demands.proofs.Demand3.{line-row, line-of, row-on, lines, lines-later, still, raster-next, scroll-at, demand3}
@@ -130,35 +130,68 @@ other-colours c p low high n d =
     same : (k : ℕ) → k ≢ 2 * c → k ≢ 2 * c + 1 → at new k ≡ at p k
     same k a b = getD-set-other (set p (2 * c) low) (2 * c + 1) k high 0 b ∙ getD-set-other p (2 * c) k low 0 a
 
+-- ---- the first new row
+-- a row y has its line after L exactly when it is the first new one or below it
+module _ (a : RenderArea) (L y : ℕ) where
+  new-below : y < rows a → firstNew a L ≤ y → L < y + firstLine a
+  new-below h l =
+      split (ltb L (firstLine a + rows a))
+      (λ t. let f = rw t at l in omega (arith, f))
+      (λ t. let f = rw t at l in absurd (omega (arith, f)))
+
+  old-above : y < rows a → y < firstNew a L → y + firstLine a ≤ L
+  old-above h l =
+      split (ltb L (firstLine a + rows a))
+      (λ t. let f = rw t at l in omega (arith, f))
+      (λ t. omega (arith, ltb-false L (firstLine a + rows a) t))
+
 -- ---- the split
 module _ {a : RenderArea} {r : Run a} {L : ℕ} {old new : List ℕ} (s : Split r L old new) (once : firstLine a + rows a ≤ jumpTo) where
-  -- the pass does not begin after the line of one row and up to that of another
-  outside : (p q : ℕ) → firstLine a ≤ p → q < firstLine a + rows a → (lineSet r 0 ≤ p) ⊎ (q < lineSet r 0)
-  outside p q f l = ⊎-elim (λ o. inl (omega arith)) (λ o. inr (omega arith)) (s .from-top)
+  -- where L is at the jump's end or after it, the pass began no later than its first row, and the rows have been drawn
+  far : (i n : ℕ) → i < passLength → lineSet r i ≡ n → firstLine a ≤ n → n < firstLine a + rows a → jumpTo ≤ L → i ≤ s .step
+  far i n h e f l j =
+      let b : ℕ = lineSet r 0 in
+      let up : b ≤ firstLine a = ⊎-elim (λ o. o .0) (λ o. absurd (omega (arith, o .2))) (s .from-top) in
+      let k : i ≡ 0 + (n - b) = apart r 0 i b n (omega arith) h refl e (omega arith) (omega arith) (inl (omega arith)) in
+      split (ltb (s .step) i)
+      (λ t.
+      let g : s .step < i = ltb-true (s .step) i t in
+      let low : lineSet r (s .step) ≡ b + s .step =
+      subst (λ (m : ℕ). lineSet r m ≡ b + s .step) (zero-add (s .step)) (rising r 0 (s .step) (omega arith)) in
+      absurd (omega (arith, low, s .sets)))
+      (λ t. ltb-false (s .step) i t)
 
   -- a row up to that of line L is drawn no later than the step that sets L, a row below it later
-  no-later : (i y : ℕ) → i < passLength → answer r i .row ≡ Drawn y → y + firstLine a ≤ L → i ≤ s .step
-  no-later i y h e l =
-      let n : ℕ = y + firstLine a in
-      let high : L < firstLine a + rows a = s .high in
-      let k = apart r i (s .step) n L h (s .in-pass) (row-set r i y e .0) (s .sets) l (omega arith) (outside n L (omega arith) high) in
-      omega (arith, k)
-
-  later : (i y : ℕ) → i < passLength → answer r i .row ≡ Drawn y → L < y + firstLine a → s .step < i
-  later i y h e l =
+  no-later : (i y : ℕ) → i < passLength → answer r i .row ≡ Drawn y → y < firstNew a L → i ≤ s .step
+  no-later i y h e f =
       let n : ℕ = y + firstLine a in
       let w = row-set r i y e in
-      let high : n < firstLine a + rows a = omega (arith, w .1) in
-      let k = apart r (s .step) i L n (s .in-pass) h (s .sets) (w .0) (omega arith) (omega arith) (outside L n (s .low) high) in
+      let l : n ≤ L = old-above a L y (w .1) f in
+      split (ltb L jumpTo)
+      (λ t.
+      let j : L < jumpTo = ltb-true L jumpTo t in
+      let out : (lineSet r 0 ≤ n) ⊎ (L < lineSet r 0) = ⊎-elim (λ o. inl (omega (arith, o .0))) (λ o. inr (o .1)) (s .from-top) in
+      let k = apart r i (s .step) n L h (s .in-pass) (w .0) (s .sets) l j out in
+      omega (arith, k))
+      (λ t. far i n h (w .0) (omega arith) (omega (arith, w .1)) (ltb-false L jumpTo t))
+
+  later : (i y : ℕ) → i < passLength → answer r i .row ≡ Drawn y → firstNew a L ≤ y → s .step < i
+  later i y h e f =
+      let n : ℕ = y + firstLine a in
+      let w = row-set r i y e in
+      let l : L < n = new-below a L y (w .1) f in
+      let out : (lineSet r 0 ≤ L) ⊎ (n < lineSet r 0) =
+      ⊎-elim (λ o. inl (o .1)) (λ o. inr (omega (arith, o .0, w .1))) (s .from-top) in
+      let k = apart r (s .step) i L n (s .in-pass) h (s .sets) (w .0) (omega arith) (omega (arith, w .1)) out in
       omega (arith, k)
 
   old-rows :
-      (i y : ℕ) → i < passLength → answer r i .row ≡ Drawn y → y + firstLine a ≤ L →
+      (i y : ℕ) → i < passLength → answer r i .row ≡ Drawn y → y < firstNew a L →
       rowAtEnd r y ≡ rowBytes (coloursOf old) (columns a) (pictureAt r i y)
   old-rows i y h e l = rw (s .until-then i (no-later i y h e l)) at (demand3 r once .row-bytes i y h e)
 
   new-rows :
-      (i y : ℕ) → i < passLength → answer r i .row ≡ Drawn y → L < y + firstLine a →
+      (i y : ℕ) → i < passLength → answer r i .row ≡ Drawn y → firstNew a L ≤ y →
       rowAtEnd r y ≡ rowBytes (coloursOf new) (columns a) (pictureAt r i y)
   new-rows i y h e l = rw (s .from-then i (later i y h e l) h) at (demand3 r once .row-bytes i y h e)
 
@@ -166,19 +199,19 @@ module _ {a : RenderArea} {r : Run a} {L : ℕ} {old new : List ℕ} (s : Split 
   colour-split =
       record {
         reads = still r (s .step) ∙ s .sets;
-        drew = set-row r (s .step) (L - firstLine a) (omega (arith, s .low, s .high)) (s .sets ∙ omega (arith, s .low));
-        keeps = λ i y h e l. old-rows i y h e (omega arith);
-        changes = λ i y h e l. new-rows i y h e (omega arith);
+        drew = row-on r (s .step) ∙ ap (rowOn a) (sym (line-of r (s .step)) ∙ s .sets);
+        keeps = old-rows;
+        changes = new-rows;
       }
 
   module _ (c : ℕ) (only : OnlyColour c old new) where
     new-pixel :
-        (i x y : ℕ) → i < passLength → answer r i .row ≡ Drawn y → x < columns a → L < y + firstLine a →
+        (i x y : ℕ) → i < passLength → answer r i .row ≡ Drawn y → x < columns a → firstNew a L ≤ y →
         pixelAtEnd r x y ≡ fourBytes (at (coloursOf new) (pictureAt r i y .colour x))
     new-pixel i x y h e w l = ap (rowOf 4 x) (new-rows i y h e l) ∙ pixel (pictureAt r i y) (coloursOf new) (columns a) x w
 
     old-pixel :
-        (i x y : ℕ) → i < passLength → answer r i .row ≡ Drawn y → x < columns a → y + firstLine a ≤ L →
+        (i x y : ℕ) → i < passLength → answer r i .row ≡ Drawn y → x < columns a → y < firstNew a L →
         pixelAtEnd r x y ≡ fourBytes (at (coloursOf old) (pictureAt r i y .colour x))
     old-pixel i x y h e w l = ap (rowOf 4 x) (old-rows i y h e l) ∙ pixel (pictureAt r i y) (coloursOf old) (columns a) x w
 
@@ -188,9 +221,9 @@ module _ {a : RenderArea} {r : Run a} {L : ℕ} {old new : List ℕ} (s : Split 
           these = λ i x y h e w l n. new-pixel i x y h e w l ∙ ap (λ (k : ℕ). fourBytes (at (coloursOf new) k)) n;
           not-above = old-pixel;
           not-others = λ i x y h e w n.
-              split (leb (y + firstLine a) L)
-              (λ t. old-pixel i x y h e w (leb-true (y + firstLine a) L t))
-              (λ t. new-pixel i x y h e w (leb-false (y + firstLine a) L t) ∙ ap fourBytes (only (pictureAt r i y .colour x) n));
+              split (ltb y (firstNew a L))
+              (λ t. old-pixel i x y h e w (ltb-true y (firstNew a L) t))
+              (λ t. new-pixel i x y h e w (ltb-false y (firstNew a L) t) ∙ ap fourBytes (only (pictureAt r i y .colour x) n));
         }
 
 -- ---- with the change and without it
@@ -233,9 +266,9 @@ module _ {a : RenderArea} {r r₀ : Run a} (t : Twins r r₀) (once : firstLine 
           these = λ i x y h e w l n.
               (p .these i x y h e w l n, unchanged i x y h e w ∙ ap (λ (k : ℕ). fourBytes (at (coloursOf old) k)) n);
           no-others = λ i x y h e w n.
-              split (leb (y + firstLine a) L)
-              (λ b. p .not-above i x y h e w (leb-true (y + firstLine a) L b))
-              (λ b. p .not-others i x y h e w (n (leb-false (y + firstLine a) L b)))
+              split (ltb y (firstNew a L))
+              (λ b. p .not-above i x y h e w (ltb-true y (firstNew a L) b))
+              (λ b. p .not-others i x y h e w (n (ltb-false y (firstNew a L) b)))
               ∙ sym (unchanged i x y h e w);
         }
 
@@ -255,12 +288,12 @@ changed-visible t s kept c only = changed t visible-once s kept c only
 pub ninety : {r : Run VisibleOnly} {old new : List ℕ} (s : Split r 90 old new) → Ninety s
 ninety {r} s =
     let c = colour-split-visible s in
-    let on : s .step + 1 < passLength =
-    goes-on r (s .step) 90 91 (s .in-pass) (s .sets) (omega arith) (omega arith) (outside s visible-once 90 91 (omega arith) (omega arith)) in
+    let out : (lineSet r 0 ≤ 90) ⊎ (91 < lineSet r 0) = ⊎-elim (λ o. inl (o .1)) (λ o. inr (omega (arith, o .0))) (s .from-top) in
+    let on : s .step + 1 < passLength = goes-on r (s .step) 90 91 (s .in-pass) (s .sets) (omega arith) (omega arith) out in
     let n : suc (s .step) < passLength = omega arith in
     let next : lineSet r (suc (s .step)) ≡ 91 =
     line-of r (suc (s .step)) ∙ line-next (ready r (suc (s .step)) .raster) 90 (c .reads) (omega arith) in
     record {
-      row-66 = c .keeps (s .step) 66 (s .in-pass) (c .drew) (omega arith);
+      row-66 = c .keeps (s .step) 66 (s .in-pass) (set-row r (s .step) 66 (omega arith) (s .sets)) (omega arith);
       row-67 = c .changes (suc (s .step)) 67 n (set-row r (suc (s .step)) 67 (omega arith) next) (omega arith);
     }
