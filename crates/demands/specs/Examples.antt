@@ -3,7 +3,7 @@
 use mathlib.Core.Path.{_≡_, refl}
 use mathlib.Core.Bool.{false, cond}
 use mathlib.Core.List.{List, [], _∷_}
-use Prim.Native.Nat.{ℕ, zero, suc}
+use Prim.Native.Nat.{ℕ, zero, suc, _-_}
 use lib.Dec.{eqb}
 use lib.ListN.{length, replicate}
 use Rattle.laws.specs.Bits.{bit, any}
@@ -14,7 +14,7 @@ use Rattle.picture.specs.declared.RenderArea.the-variants.{VisibleOnly}
 use Rattle.picture.specs.View.{visibleEnd, visibleSeen, visibleStand}
 use Rattle.picture.specs.Picture.{bare, solid, heldBack, marked, struck, drawn, laid}
 use Rattle.picture.specs.Examples.{spot, places}
-use Rattle.raster.specs.Raster.{jumps, starts, advanced, lineInterrupt, counted}
+use Rattle.raster.specs.Raster.{passLength, jumps, starts, advanced, lineInterrupt, counted}
 use Rattle.vdp.specs.declared.VdpState.{VdpState}
 use Rattle.vdp.specs.Device.{fresh}
 use Rattle.vdp.specs.Refusals.{refusalNumber}
@@ -39,27 +39,30 @@ abbrev shown : ℕ → List Call → List ℕ
 shown i cs = fourBytes (at (coloursOf (afterAll start cs .device .cram)) i)
 
 -- ---- accepted visible-area steps
-abbrev zeroed : List ℕ
+abbrev pub zeroed : List ℕ
 zeroed = replicate 16384 0
 
 -- the device after n of them, the line that it then has, and the lines at which the next n report an interrupt
-stepsOn : ℕ → VdpState → VdpState
+unfoldable pub stepsOn : ℕ → VdpState → VdpState
 stepsOn zero d = d
 stepsOn (suc n) d = stepsOn n (stepped VisibleOnly zeroed d .vdp)
 
 abbrev lineAfter : ℕ → ℕ
 lineAfter n = lineOf (stepsOn n fresh)
 
-interruptLines : ℕ → VdpState → List ℕ
+unfoldable pub interruptLines : ℕ → VdpState → List ℕ
 interruptLines zero d = []
 interruptLines (suc n) d =
     let s = stepped VisibleOnly zeroed d in
     let rest = interruptLines n (s .vdp) in
     cond (eqb (interruptNumber (s .interrupt)) 1) (lineOf (s .vdp) ∷ rest) rest
 
--- register 0 at 10 (hex), register 10 at 3; the step after these 260 is the first that sets line 0
-abbrev everyFour : VdpState
-everyFour = stepsOn 260 (afterAll start (write 0xBF 0x10 ∷ write 0xBF 0x80 ∷ write 0xBF 3 ∷ write 0xBF 0x8A ∷ []) .device)
+-- a fresh device with register 0 at 10 (hex) and register 10 at N; and after all steps of its first pass but the last, which sets line 0
+abbrev pub every : ℕ → VdpState
+every n = afterAll start (write 0xBF 0x10 ∷ write 0xBF 0x80 ∷ write 0xBF n ∷ write 0xBF 0x8A ∷ []) .device
+
+abbrev pub beforeLine0 : ℕ → VdpState
+beforeLine0 n = stepsOn (passLength - 1) (every n)
 
 -- the refusal of a step on a frame of n bytes
 abbrev refusedOn : ℕ → ℕ
@@ -92,7 +95,7 @@ examples =
     -- P11 unseen X 208, then 209
     ∷ (marks 208 ∷ marks 209 ∷ [])
     -- P12 line interrupts on, N = 3: the first of the next 12 steps, lines 0 to 11
-    ∷ interruptLines 12 everyFour
+    ∷ interruptLines 12 (beforeLine0 3)
     -- P13 frame 92,159, then 92,160
     ∷ (refusedOn 92159 ∷ refusedOn 92160 ∷ [])
     ∷ []

@@ -7,3 +7,4 @@ pub mod Split
 pub mod Author
 pub mod Outcome
 pub mod Examples
+pub mod Further

@@ -1,0 +1,108 @@
+-- What is asked next, computed from the definitions: the lines that interrupt, the rows that a change of colour reaches, the rows drawn twice.
+-- Assumes nothing.
+use mathlib.Core.Path.{_≡_, refl}
+use mathlib.Core.Bool.{Bool, true, false}
+use mathlib.Core.List.{List, [], _∷_, _++_}
+use Prim.Native.Nat.{ℕ, zero, suc, _+_, _-_}
+use lib.Dec.{eqb}
+use lib.ListN.{length}
+use Rattle.laws.specs.Bits.{bit}
+use Rattle.laws.specs.Lists.{at}
+use Rattle.laws.specs.Table.{tableFrom, table}
+use Rattle.colour.specs.Colour.{colour, coloursOf}
+use Rattle.picture.specs.declared.RenderArea.{RenderArea}
+use Rattle.picture.specs.declared.RenderArea.the-variants.{VisibleOnly, EffectiveArea}
+use Rattle.raster.specs.Raster.{passLength, jumps, starts, advanced, lineInterrupt, counted}
+use Rattle.vdp.specs.declared.VdpState.{VdpState}
+use Rattle.vdp.specs.Device.{fresh}
+use Rattle.vdp.specs.Ports.{portWrite}
+use Rattle.vdp.specs.Calls.{write, after, afterAll, start}
+use Rattle.step.specs.declared.DrawnRow.{DrawnRow}
+use Rattle.step.specs.declared.DrawnRow.the-variants.{NoRow, Drawn}
+use Rattle.step.specs.Step.{rowOn, drawnBy, endScreen, interruptOf, stepped}
+use Rattle.demands.specs.Split.{firstNew}
+use Rattle.demands.specs.Examples.{zeroed, stepsOn, interruptLines, every, beforeLine0}
+
+-- ---- the lines that interrupt, with line interrupts on and register 10 at N before the first step of a fresh device
+-- those of its first pass, lines 1 to FF, and those of a pass from line 0
+abbrev firstLines : ℕ → List ℕ
+firstLines n = interruptLines (passLength - 1) (every n)
+
+abbrev laterLines : ℕ → List ℕ
+laterLines n = interruptLines passLength (beforeLine0 n)
+
+-- ---- rows
+-- those that the next n steps draw, where the device that the step leaves passes the test
+abbrev listed : DrawnRow → Bool → List ℕ → List ℕ
+listed (Drawn y) true ys = y ∷ ys
+listed (Drawn y) false ys = ys
+listed NoRow b ys = ys
+
+rowsBy : RenderArea → (VdpState → Bool) → ℕ → VdpState → List ℕ
+rowsBy a test zero d = []
+rowsBy a test (suc n) d =
+    let s = stepped a zeroed d in
+    listed (s .row) (test (s .vdp)) (rowsBy a test n (s .vdp))
+
+-- all rows of the first pass of a fresh device
+abbrev passRows : RenderArea → List ℕ
+passRows a = rowsBy a (λ d. true) passLength fresh
+
+-- those drawn in the new colour, of a first pass in which colour 3 becomes 5A, 3 once the counter reads L (below D5)
+abbrev isNew : VdpState → Bool
+isNew d = eqb (at (d .«color_cache») 3) (colour 0x5A 3)
+
+abbrev recoloured : VdpState → VdpState
+recoloured d =
+    afterAll (record { device = d; vram = zeroed }) (write 0xBF 0x06 ∷ write 0xBF 0xC0 ∷ write 0xBE 0x5A ∷ write 0xBE 3 ∷ []) .device
+
+abbrev newRows : ℕ → List ℕ
+newRows l = rowsBy VisibleOnly isNew l fresh ++ rowsBy VisibleOnly isNew (passLength - l) (recoloured (stepsOn l fresh))
+
+abbrev first : ℕ → ℕ
+first l = firstNew VisibleOnly l
+
+-- n numbers from k on
+abbrev from : ℕ → ℕ → List ℕ
+from k n = table n (λ i. k + i)
+
+pub further : List (List ℕ)
+further =
+    -- N = 60, the first pass and a later one
+    firstLines 60
+    ∷ laterLines 60
+    -- N = 0: how many lines of each
+    ∷ (length (firstLines 0) ∷ length (laterLines 0) ∷ [])
+    -- N = 194 and N = 195, a later pass
+    ∷ laterLines 194
+    ∷ laterLines 195
+    -- the first new row, and the new rows, of a change at line 10, 90, 166, 167, 200
+    ∷ (first 10 ∷ first 90 ∷ first 166 ∷ first 167 ∷ first 200 ∷ [])
+    ∷ newRows 10
+    ∷ newRows 90
+    ∷ newRows 166
+    ∷ newRows 167
+    ∷ newRows 200
+    -- the rows of a pass, visible and effective: the lines go 1 to D9, D5 to FF, 0
+    ∷ passRows VisibleOnly
+    ∷ passRows EffectiveArea
+    ∷ []
+
+pub computed :
+    further
+    ≡ (0x01 ∷ 0x3E ∷ 0x7B ∷ 0xB8 ∷ [])
+    ∷ (0x3B ∷ 0x78 ∷ 0xB5 ∷ [])
+    ∷ (260 ∷ 261 ∷ [])
+    ∷ (193 ∷ [])
+    ∷ []
+    ∷ (0 ∷ 67 ∷ 143 ∷ 144 ∷ 144 ∷ [])
+    ∷ from 0 144
+    ∷ from 67 77
+    ∷ (143 ∷ [])
+    ∷ []
+    ∷ []
+    ∷ from 0 144
+    ∷ (from 1 217 ++ from 213 11 ++ from 0 1)
+    ∷ []
+unfolding further stepsOn interruptLines rowsBy portWrite after afterAll start colour coloursOf tableFrom table jumps starts advanced lineInterrupt counted bit rowOn drawnBy endScreen interruptOf stepped
+computed = refl
