@@ -56,6 +56,7 @@ use Rattle.face.proofs.vdp_input
 use Rattle.face.proofs.vdp_step
 use Rattle.face.proofs.vdp_row_step
 use Rattle.face.proofs.vdp_dump_tileset
+use Rattle.face.proofs.vdp_version
 use Rattle.recording.proofs.record_at
 use Rattle.recording.proofs.trace
 use Rattle.recording.proofs.snapshot
@@ -260,6 +261,9 @@ vdp-row-step-once κs a q z z′ w w′ e f =
 
 pub vdp-dump-tileset-once : OneOutcome 3 vdp_dump_tileset.Kinds.ps vdp_dump_tileset.Kinds.r vdp_dump_tileset.Reads.Asked vdp_dump_tileset.Reads.Learnt
 vdp-dump-tileset-once κs a q z z′ w w′ e f = (e .word ∙ sym (f .word), λ i. (tt, (tt, ((e .lent ∙ sym (f .lent)) i, tt))))
+
+pub vdp-version-once : OneOutcome 0 vdp_version.Kinds.ps vdp_version.Kinds.r vdp_version.Reads.Asked vdp_version.Reads.Learnt
+vdp-version-once κs a q z z′ w w′ e f = (e ∙ sym f, refl)
 
 -- ---- recording
 pub record-at-once : OneOutcome 1 record_at.Kinds.ps record_at.Kinds.r record_at.Reads.Asked record_at.Reads.Learnt

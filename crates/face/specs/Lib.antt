@@ -1,3 +1,4 @@
 -- What the contracts of `face` cite, and what is shown of them.
 pub mod Face
 pub mod Refused
+pub mod Version

@@ -10,6 +10,7 @@ ghost use Rattle.step.specs.Step.{interruptNumber, reportNumber, coloursNow};
 ghost use Rattle.step.specs.Points.{cleaned, joined};
 ghost use Rattle.picture.specs.Area.{areaFrom};
 ghost use Rattle.face.specs.Face.{rowBits, stepWord, newCall, outCall, inputCall, stepCall, rowStepCall, dumpCall, Leaves};
+ghost use Rattle.face.specs.Version.{version};
 use picture::RenderArea;
 use step::DisplayRefresh;
 use step::DrawnRow;
@@ -231,4 +232,12 @@ pub extern "C" fn vdp_dump_tileset(state: &[u8], vram: &[u8], pixels: &mut [u8])
     }
     let vdp = d.vdp;
     number(step::dump_tileset(vdp, vram, pixels))
+}
+
+// The number of this face.
+#[no_mangle]
+pub extern "C" fn vdp_version() -> u32
+    ensures { λ r. ⌜ r ≡ version ⌝ }
+{
+    65536
 }
