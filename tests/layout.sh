@@ -1,6 +1,6 @@
 #!/usr/bin/env bash
 # layout.sh: what no proof says of the sources: their layout, that every definition file tells what it assumes, that the rules which are cited are those
-# of docs/RULES.md and no others, that every public function has its theorem of one outcome, and that every edit which must fail was tried, and refused
+# of docs/RULES.md and no others, that every public function has its theorem of one outcome or stands among the exceptions, and that every edit which must fail was tried, and refused
 # for a fact.
 set -u
 cd "$(dirname "$0")/.."
@@ -47,6 +47,7 @@ bare=
 for lib in crates/*/src/lib.rt; do
     crate=$(basename "$(dirname "$(dirname "$lib")")")
     for f in $(sed -nE 's/^ *pub (extern "C" )?fn ([a-z0-9_]+).*/\2/p; s/^pub use [a-z_]+::([a-z0-9_]+);/\1/p' "$lib"); do
+        grep -q "^Exceptions: .*\`$crate::$f\`" docs/CONTRACTS.md && continue
         name=$(sed -nE "s/^use Rattle\.$crate\.proofs\.([A-Za-z]+\.)?$f( as ([a-z_-]+))?\$/\3/p" crates/demands/proofs/Outcome.antt)
         grep -qE "^use Rattle\.$crate\.proofs\.([A-Za-z]+\.)?$f( |\$)" crates/demands/proofs/Outcome.antt &&
             grep -q " ${name:-$f}\.Reads\.Learnt" crates/demands/proofs/Outcome.antt || bare="$bare $crate::$f"
@@ -54,7 +55,7 @@ for lib in crates/*/src/lib.rt; do
 done
 [ -z "$bare" ] || printf 'no theorem of one outcome:%s\n' "$bare"
 [ -z "$bare" ]
-tell "every public function has its theorem of one outcome" $?
+tell "every public function has its theorem of one outcome, or is an exception of docs/CONTRACTS.md" $?
 
 # Every edit was tried, and is refused for a fact: one that only makes a proof unfit for the code shows nothing of the contract.
 # (The suite `proofs` leaves a log for each.)

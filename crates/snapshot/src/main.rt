@@ -1,4 +1,4 @@
-// Writes the picture that the recording on standard input draws, as a binary PPM.
+// Writes the picture that a recording draws, as a binary PPM.
 ghost use mathlib.Core.Path.{_≡_};
 ghost use lib.ListN.{length, replicate};
 
@@ -23,7 +23,19 @@ fn main() {
     let mut frame = blank();
     let mut picture = room();
     let mut input = io::large_buffer();
-    let n = io::read_full(0, &mut input);
+    let taken = program::input(
+        b"snapshot",
+        b"usage: snapshot [FILE] > PICTURE.ppm\n\
+            Runs the trace in FILE, or on standard input, on a fresh device, and writes what its visible steps drew.\n\
+            The picture is a binary PPM of 160 x 144 pixels, black where nothing was drawn; tools/ppm2png.py makes a PNG of it.\n\
+            Of a trace that is bad or too long it writes only a line, as trace does: 'bad' and an offset, or 'long'.\n\
+            The exit status is always 0: what cannot be read or written is told on standard error.\n",
+        &mut input,
+    );
+    if !taken.ready {
+        return;
+    }
+    let n = taken.len;
     let k = recording::snapshot(&input[..n], &mut vram, &mut row, &mut frame, &mut picture);
-    io::write_all(1, &picture[..k]);
+    program::output(b"snapshot", &picture[..k]);
 }

@@ -1,4 +1,4 @@
-// Prints what the recording on standard input does, call by call.
+// Prints what a recording does, call by call.
 ghost use mathlib.Core.Path.{_≡_};
 ghost use lib.ListN.{length};
 
@@ -14,7 +14,19 @@ fn main() {
     let mut row = [0u8; 1024];
     let mut text = room();
     let mut input = io::large_buffer();
-    let n = io::read_full(0, &mut input);
+    let taken = program::input(
+        b"trace",
+        b"usage: trace [FILE]\n\
+            Runs the trace in FILE, or on standard input, on a fresh device, and prints a line for each call.\n\
+            A trace has at most 65,535 bytes. Its records: PW port value, PR port, LS area (docs/TRACES.md).\n\
+            The last line is 'end' and the number of records; or 'bad' and the offset of a bad record; or 'long'.\n\
+            The exit status is always 0: what cannot be read or written is told on standard error.\n",
+        &mut input,
+    );
+    if !taken.ready {
+        return;
+    }
+    let n = taken.len;
     let k = recording::trace(&input[..n], &mut vram, &mut row, &mut text);
-    io::write_all(1, &text[..k]);
+    program::output(b"trace", &text[..k]);
 }

@@ -1,0 +1,108 @@
+// What a program does around its work: it takes its input from a file or from standard input, writes its output, and tells on standard error what failed.
+// No contract can say which bytes are read or written. Each function is safe and ends, and the count that `input` answers lies within the buffer.
+ghost use Prim.Native.Nat.{_≤_};
+ghost use lib.ListN.{length};
+ghost use Rattle.io.specs.Counts.{Counts};
+use libc::STDERR_FILENO;
+use libc::STDIN_FILENO;
+use libc::STDOUT_FILENO;
+
+// What was taken in: whether there is an input to work on, and how many bytes it has.
+pub struct Taken {
+    pub ready: bool,
+    pub len: usize,
+}
+
+// The first bytes of buf as the input; or none, where what was asked for is done, or what failed is told.
+fn start(ready: bool, len: usize, buf: &[u8]) -> Taken
+    requires { ⌜ len ≤ length (now buf) ⌝ }
+    ensures { λ r. ⌜ Counts (r .len) (now (buf .entry)) ⌝ }
+{
+    Taken {
+        ready: ready,
+        len: len,
+    }
+}
+
+// Tells what failed and, by errno, why. The program's name comes first: a write that succeeds leaves errno as it was.
+fn tell(name: &[u8], what: &[u8]) {
+    io::write_all(STDERR_FILENO, name);
+    io::write_all(STDERR_FILENO, b": ");
+    os::fail(what);
+}
+
+// Whether two texts are the same.
+fn same(a: &[u8], b: &[u8]) -> bool {
+    if a.len() != b.len() {
+        return false;
+    }
+    let mut i = 0;
+    while i < a.len() {
+        if a[i] != b[i] {
+            return false;
+        }
+        i += 1;
+    }
+    true
+}
+
+// Reads until buf is full or the input ends.
+fn read_from(fd: i32, name: &[u8], what: &[u8], buf: &mut [u8]) -> Taken
+    ensures { λ r. ⌜ Counts (r .len) (now (buf .exit)) ⌝ }
+{
+    let mut done = 0;
+    while done < buf.len() {
+        let got = libc::read(fd, &mut buf[done..]);
+        if got < 0 {
+            tell(name, what);
+            return start(false, 0, buf);
+        }
+        let more = io::count(got, &buf[done..]);
+        if more == 0 {
+            return start(true, done, buf);
+        }
+        done += more;
+    }
+    start(true, done, buf)
+}
+
+// Writes all of the output to standard output.
+pub fn output(name: &[u8], bytes: &[u8]) {
+    if !io::write_all(STDOUT_FILENO, bytes) {
+        tell(name, b"standard output");
+    }
+}
+
+// Fills buf from the file that the first argument names, with no argument from standard input. `--help` is answered here, with the help text.
+pub fn input(name: &[u8], help: &[u8], buf: &mut [u8]) -> Taken
+    ensures { λ r. ⌜ Counts (r .len) (now (buf .exit)) ⌝ }
+{
+    let words = os::arg_count();
+    if words < 2 {
+        return read_from(STDIN_FILENO, name, b"standard input", buf);
+    }
+    if 2 < words {
+        io::write_all(STDERR_FILENO, name);
+        io::write_all(STDERR_FILENO, b": one file at most; --help tells more\n");
+        return start(false, 0, buf);
+    }
+    let mut word = io::buffer();
+    let n = os::arg(1, &mut word);
+    if os::errno() != 0 {
+        tell(name, b"its argument");
+        return start(false, 0, buf);
+    }
+    let path = &word[..n];
+    if same(path, b"--help") {
+        output(name, help);
+        return start(false, 0, buf);
+    }
+    let fd = os::open_read(path);
+    if fd < 0 {
+        tell(name, path);
+        return start(false, 0, buf);
+    }
+    let got = read_from(fd, name, path, buf);
+    libc::close(fd);
+    got
+}

@@ -1,0 +1,106 @@
+#!/usr/bin/env bash
+# programs.sh: what the programs do around their work: the input by name or on standard input, --help, and what is told on standard error where
+# a read or a write fails. What they print of a trace is in traces.sh.
+set -u
+cd "$(dirname "$0")/.."
+unset MAKEFLAGS MAKELEVEL
+. tools/cross.sh
+. tools/tell.sh
+if ! make --no-print-directory build; then
+    echo '0 passed, 1 failed'
+    exit 1
+fi
+work=$PWD/build/test/programs
+rm -rf "$work"
+mkdir -p "$work/a folder"
+trace=tests/traces/split90.trace
+cp $trace "$work/a folder/a trace"
+
+# told NAME LINE: the last run wrote nothing to standard output, this one line to standard error, and ended well.
+told() {
+    [ "$status" -eq 0 ] && [ ! -s "$work/out" ] && printf '%s\n' "$2" | cmp - "$work/err"
+    tell "$1" $?
+}
+# run PROGRAM WORDS..: with what it is given on standard input.
+run() {
+    $RUN "build/bin/$@" >"$work/out" 2>"$work/err"
+    status=$?
+}
+
+for program in trace snapshot; do
+    run $program <$trace
+    mv "$work/out" "$work/expected"
+    [ "$status" -eq 0 ] && [ ! -s "$work/err" ] && [ -s "$work/expected" ]
+    tell "$program: standard input" $?
+    run $program $trace </dev/null
+    [ "$status" -eq 0 ] && [ ! -s "$work/err" ] && cmp "$work/expected" "$work/out"
+    tell "$program: a file by name" $?
+    run $program "$work/a folder/a trace" </dev/null
+    [ "$status" -eq 0 ] && [ ! -s "$work/err" ] && cmp "$work/expected" "$work/out"
+    tell "$program: a name with spaces" $?
+    # with standard input closed the file gets its number
+    run $program $trace <&-
+    [ "$status" -eq 0 ] && [ ! -s "$work/err" ] && cmp "$work/expected" "$work/out"
+    tell "$program: a file by name, standard input closed" $?
+
+    run $program --help </dev/null
+    [ "$status" -eq 0 ] && [ ! -s "$work/err" ] && [ "$(wc -l <"$work/out")" -eq 5 ] && grep -q "^usage: $program \[FILE\]" "$work/out"
+    tell "$program: --help tells in five lines" $?
+
+    run $program "$work/none" </dev/null
+    told "$program: a file that is not there" "$program: $work/none: No such file or directory"
+    run $program "$work" </dev/null
+    told "$program: a folder by name" "$program: $work: Is a directory"
+    run $program <"$work"
+    told "$program: a folder on standard input" "$program: standard input: Is a directory"
+    run $program <&-
+    told "$program: standard input closed" "$program: standard input: Bad file descriptor"
+    run $program '' </dev/null
+    told "$program: an empty name" "$program: : No such file or directory"
+    run $program "$(head -c 5000 /dev/zero | tr '\000' a)" </dev/null
+    told "$program: a name that is too long" "$program: its argument: File name too long"
+    run $program $trace $trace </dev/null
+    told "$program: two names" "$program: one file at most; --help tells more"
+
+    : >"$work/out"
+    $RUN build/bin/$program $trace >/dev/full 2>"$work/err"
+    status=$?
+    told "$program: nothing more can be written" "$program: standard output: No space left on device"
+    $RUN build/bin/$program --help >/dev/full 2>"$work/err"
+    status=$?
+    told "$program: the help cannot be written" "$program: standard output: No space left on device"
+    $RUN build/bin/$program $trace >&- 2>"$work/err"
+    status=$?
+    told "$program: standard output closed" "$program: standard output: Bad file descriptor"
+done
+
+# By name as on standard input: 65,536 bytes and more are too long, a bad record is told.
+head -c 65536 /dev/zero >"$work/long"
+for program in trace snapshot; do
+    run $program "$work/long"
+    printf 'long\n' | cmp - "$work/out" && [ ! -s "$work/err" ]
+    tell "$program: 65,536 bytes by name" $?
+done
+
+# What snapshot writes in place of a picture goes through tools/ppm2png.py to standard error.
+if command -v python3 >/dev/null; then
+    printf 'PR~XX' >"$work/damaged"
+    for case in "bad 3:$work/damaged" "long:$work/long"; do
+        run snapshot "${case#*:}"
+        python3 tools/ppm2png.py <"$work/out" >"$work/png" 2>"$work/said"
+        [ $? -eq 1 ] && [ ! -s "$work/png" ] && printf '%s\n' "${case%%:*}" | cmp - "$work/said"
+        tell "ppm2png.py passes on: ${case%%:*}" $?
+    done
+    run snapshot "$work/none"
+    python3 tools/ppm2png.py <"$work/out" >"$work/png" 2>"$work/said"
+    [ $? -eq 1 ] && [ ! -s "$work/png" ] && [ "$(wc -l <"$work/said")" -eq 1 ]
+    tell "ppm2png.py: no picture came" $?
+else
+    skipped=$((skipped + 3))
+fi
+
+# The own run of crates/snapshot shows the picture of that trace.
+cmp $trace crates/snapshot/data/split90.trace
+tell "crates/snapshot runs the trace of the split" $?
+
+total
