@@ -1,46 +1,80 @@
 # make: builds what a user takes away and shows it at work. make test: all the set-up and every test. make help: the targets.
 .DEFAULT_GOAL := all
 SHELL := /bin/bash
+# One thing after the other, also under -j and in `make clean all`: rt itself proves crates side by side.
+.NOTPARALLEL:
 CALLS ?= 1000000
 SEED ?= 1
 ROUNDS ?= 400
+PREFIX ?= /usr/local
+PROGRAMS := trace snapshot
+BINS := $(PROGRAMS:%=build/bin/%)
 
-.PHONY: all build test compare memcheck damaged bench setup prove clean help
+.PHONY: all build native install test compare memcheck damaged bench gears setup setup-rust prove clean help FORCE
 
 all: build ## build build/libvdp.a, build/bin/trace and build/bin/snapshot, and show the trace program at work
 	@echo "build/libvdp.a (header include/vdp.h), build/bin/trace and build/bin/snapshot are built."
 	@echo "The trace of crates/trace/stdin (docs/TRACES.md says what its lines mean):"
-	@sh tools/cross.sh run build/bin/trace < crates/trace/stdin
+	@sh tools/cross.sh run build/bin/trace crates/trace/stdin
 
-build: setup ## prove and build them, and no more
-	@rt check face trace snapshot
-	@rt staticlib face
+build: $(BINS) build/libvdp.a ## prove and build them, and no more
+
+# A file is made again where a source of it, or the toolchain, has changed.
+$(BINS): $(shell sh tools/sources.sh $(PROGRAMS)) build/toolchain | setup
+	@rt check $(PROGRAMS)
 	@mkdir -p build/bin
-	@cp target/staticlib/libface.a build/libvdp.a
-	@cp target/bin/trace target/bin/snapshot build/bin/
+	@cp $(PROGRAMS:%=target/bin/%) build/bin/
+
+# What the library depends on, side by side; rt staticlib proves the library itself.
+build/libvdp.a: $(shell sh tools/sources.sh face) build/toolchain | setup
+	@rt check $$(sed -n 's/^face://p' crates.txt)
+	@rt staticlib face
+	@cp target/staticlib/libface.a $@
+
+build/toolchain: FORCE | setup
+	@rt version | cmp -s - $@ || rt version > $@
+
+native: build/native/libvdp.a build/native/libvdp.so ## the library for this very machine: build/native/libvdp.a and libvdp.so
+
+build/native/vdp.o: build/libvdp.a tools/native-lib.sh tools/native-module.sh
+	@mkdir -p build/native
+	@sh tools/native-lib.sh face $@
+
+build/native/libvdp.a build/native/libvdp.so: build/native/vdp.o include/vdp.h tools/native-link.sh
+	@sh tools/native-link.sh
+
+install: ## put header, libraries and a pkg-config file of `make native` under PREFIX=/usr/local
+	@if command -v rt > /dev/null || [ ! -e build/native/libvdp.so ]; then $(MAKE) --no-print-directory native; fi
+	@sh tools/install.sh "$(DESTDIR)$(PREFIX)"
 
 test: ## all the set-up, every proof and every test; the last line is their sum
 	@bash tests/run.sh
 
-compare: build ## hold every call beside the published Rust: CALLS=1000000 SEED=1, GEARS= the folder of its vdp.rs
+compare: gears setup-rust build ## hold every call beside the published Rust: CALLS=1000000 SEED=1, GEARS= the folder of its vdp.rs
 	@sh oracle/build.sh compare
 	@sh tools/cross.sh run build/oracle/compare rows $(SEED)
 	@sh tools/cross.sh run build/oracle/compare $(CALLS) $(SEED)
 
-memcheck: build ## hold 10,000 calls beside the Rust under valgrind, with each buffer in memory of its own
+memcheck: gears setup-rust native ## hold 10,000 calls beside the Rust under valgrind, with each buffer in memory of its own
 	@sh oracle/memcheck.sh 10000 $(SEED)
 
-damaged: build ## show that the comparison catches copies of the library with one constant changed
+damaged: gears setup-rust native ## show that the comparison catches copies of the library with one constant changed
 	@sh oracle/damaged.sh
 
-bench: build ## time passes of 261 steps, ours and the published Rust's, and count their instructions: ROUNDS=400 SEED=1
+bench: gears setup-rust build ## time passes of 261 steps, ours and the published Rust's, and count their instructions: ROUNDS=400 SEED=1
 	@sh bench/run.sh $(ROUNDS) $(SEED)
+
+gears: # the published Rust is there
+	@sh tools/gears.sh
 
 prove: setup ## prove every crate that has changed
 	@rt check
 
-setup: ## install what this machine lacks (nothing where all is there)
+setup: ## install what this machine lacks to build (nothing where all is there)
 	@sh tools/setup.sh
+
+setup-rust: # what this machine lacks to test, to compare and to measure
+	@sh tools/setup.sh rust
 
 clean: ## remove what was built
 	rm -rf build target

@@ -1,18 +1,13 @@
 #!/bin/sh
 # run.sh [ROUNDS [SEED]]: builds the benchmark and runs it: the table, where the instructions go, and last the line with both times and their
 # ratio. On x86-64 with build/libvdp.a as it is shipped; on any other machine, where a time under an emulator says nothing, with the same LLVM
-# module compiled for this machine (tools/native-lib.sh). GEARS as for the oracle. BENCH_LIB may name an object or archive for this machine to
+# module compiled for this machine (make native). GEARS as for the oracle. BENCH_LIB may name an object or archive for this machine to
 # measure instead, BENCH_FLAGS more flags for the Rust. Left in build/bench: table.md, functions.md, speed.svg.
 set -eu
 cd "$(dirname "$0")/.."
 . tools/cross.sh
-: "${GEARS:=../shared/docs/src/src}"
-[ -f "$GEARS/vdp.rs" ] || {
-    echo "bench: no vdp.rs in $GEARS: set GEARS to the src folder of the repository anisse/gears at commit 0d576c35e2" >&2
-    exit 1
-}
-GEARS=$(cd "$GEARS" && pwd)
-export GEARS
+. tools/gears.sh
+has_gears || { echo "bench: $no_gears" >&2; exit 1; }
 rounds=${1:-400} seed=${2:-1}
 
 # by_function SIDE FILE: lines of a table, from a file of callgrind: the instructions of each function without those that it calls, if they
@@ -46,12 +41,12 @@ elif [ "$(uname -m)" = x86_64 ]; then
     lib=build/libvdp.a
 else
     what="the library's LLVM module compiled for this machine, $(uname -m)"
-    lib=$out/vdp.o
-    sh tools/native-lib.sh face $lib
+    lib=build/native/libvdp.a
+    make --no-print-directory native
 fi
 flags="--edition 2021 -C opt-level=3 -C overflow-checks=off -C debug-assertions=off${BENCH_FLAGS:+ $BENCH_FLAGS}"
 $RUSTC_HERE $flags --crate-type rlib --crate-name rules oracle/rules.rs -o $out/librules.rlib
-$RUSTC_HERE $flags --extern rules=$out/librules.rlib -C link-arg=$lib bench/bench.rs -o $out/bench
+$RUSTC_HERE $flags --extern rules=$out/librules.rlib -C "link-arg=$lib" bench/bench.rs -o $out/bench
 echo "bench: ours: $what"
 echo "bench: the Rust: $($RUSTC_HERE --version), $flags"
 

@@ -2,26 +2,19 @@
 # build.sh WHAT..: builds programs of this folder into build/oracle/. WHAT is one or more of
 #   compare   build/oracle/compare, for x86-64, with build/libvdp.a and the published Rust (GEARS)
 #   traces    build/oracle/traces, for this machine; needs neither of the two
-#   here      build/oracle/here/compare, for this machine, with HERE_LIB (an object or archive of the library for it);
+#   here      build/oracle/here/compare, for this machine, with HERE_LIB (an object or archive of the library for it, as build/native/libvdp.a);
 #             where HERE_LIB is not set, with a stand-in made of the model
-# GEARS names the folder that holds the published vdp.rs and io.rs.
+# GEARS names the folder that holds the published vdp.rs and io.rs (tools/gears.sh).
 set -eu
 cd "$(dirname "$0")/.."
 . tools/cross.sh
-: "${GEARS:=../shared/docs/src/src}"
-if [ -d "$GEARS" ]; then GEARS=$(cd "$GEARS" && pwd); fi
-export GEARS
+. tools/gears.sh
 out=build/oracle
 # Optimised and unchecked, as the oracle must be.
 flags="--edition 2021 -O -C overflow-checks=off -C debug-assertions=off"
 
 # The published Rust must be there.
-need_gears() {
-    [ -f "$GEARS/vdp.rs" ] && [ -f "$GEARS/io.rs" ] || {
-        echo "build.sh: no vdp.rs and io.rs in $GEARS: set GEARS to the src folder of the repository anisse/gears at commit 0d576c35e2" >&2
-        exit 1
-    }
-}
+need_gears() { has_gears || { echo "build.sh: $no_gears" >&2; exit 1; }; }
 
 for what in "$@"; do
     case $what in
@@ -40,13 +33,14 @@ for what in "$@"; do
         need_gears
         mkdir -p $out/here
         $RUSTC_HERE $flags --crate-type rlib --crate-name rules oracle/rules.rs -o $out/here/librules.rlib
+        # The stand-in is looked for beside the program, wherever that stands.
         if [ -n "${HERE_LIB:-}" ]; then
-            link="-C link-arg=$HERE_LIB"
+            set -- -C "link-arg=$HERE_LIB"
         else
             $RUSTC_HERE $flags --crate-type cdylib --crate-name vdp --extern rules=$out/here/librules.rlib oracle/standin.rs -o $out/here/libvdp.so
-            link="-L native=$out/here -l dylib=vdp -C link-arg=-Wl,-rpath,$PWD/$out/here"
+            set -- -L native=$out/here -l dylib=vdp -C 'link-arg=-Wl,-rpath,$ORIGIN'
         fi
-        $RUSTC_HERE $flags --extern rules=$out/here/librules.rlib $link oracle/compare.rs -o $out/here/compare
+        $RUSTC_HERE $flags --extern rules=$out/here/librules.rlib "$@" oracle/compare.rs -o $out/here/compare
         ;;
     *)
         echo "build.sh: unknown: $what" >&2

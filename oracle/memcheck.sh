@@ -1,11 +1,10 @@
 #!/bin/sh
-# memcheck.sh [CALLS [SEED]]: the comparison under valgrind, with the library compiled for this machine and each buffer lent as memory of
+# memcheck.sh [CALLS [SEED]]: the comparison under valgrind, with build/native/libvdp.a (make native) and each buffer lent as memory of
 # its own, so that a read or a write of one byte beside it is seen. Exit status 0 only where nothing differs and valgrind has nothing to say.
 set -eu
 cd "$(dirname "$0")/.."
 command -v valgrind >/dev/null || { echo "memcheck: no valgrind here; install the package valgrind" >&2; exit 2; }
-mkdir -p build/oracle/here
-sh tools/native-lib.sh face build/oracle/here/vdp.o
-HERE_LIB=build/oracle/here/vdp.o sh oracle/build.sh here
+[ -e build/native/libvdp.a ] || { echo "memcheck: no build/native/libvdp.a: make native makes it" >&2; exit 2; }
+HERE_LIB=build/native/libvdp.a sh oracle/build.sh here
 valgrind -q --error-exitcode=9 build/oracle/here/compare "${1:-10000}" "${2:-1}" --tight
 echo "memcheck: ${1:-10000} calls, and valgrind has nothing to say"

@@ -23,7 +23,9 @@ told() {
 }
 # run PROGRAM WORDS..: with what it is given on standard input.
 run() {
-    $RUN "build/bin/$@" >"$work/out" 2>"$work/err"
+    local program=$1
+    shift
+    $RUN build/bin/$program "$@" >"$work/out" 2>"$work/err"
     status=$?
 }
 

@@ -4,8 +4,9 @@
 set -u
 cd "$(dirname "$0")/.."
 logs=build/test
-mkdir -p $logs
 . tools/tell.sh
+# The suites call make themselves, and none is a part of the make that may have started this.
+unset MAKEFLAGS MAKELEVEL
 
 # suite NAME COMMAND..: runs it, shows what it prints, and adds its last line to the sum.
 suite() {
@@ -37,11 +38,12 @@ close() {
     [ "$failed" -eq 0 ]
 }
 
-if ! sh tools/setup.sh; then
+if ! sh tools/setup.sh rust; then
     failed=1
-    close
+    total
     exit 1
 fi
+mkdir -p $logs
 
 suite proofs rt ci
 for s in tests/[a-z]*.sh; do

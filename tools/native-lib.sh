@@ -1,5 +1,5 @@
 #!/bin/sh
-# native-lib.sh CRATE OUT.o: the library CRATE as an object for this very machine; for measuring and for memory checkers, not for shipping.
+# native-lib.sh CRATE OUT.o: the library CRATE as an object for this very machine (make native makes its libraries of it).
 # rt makes x86-64 code only. It lowers a library, with all that it depends on, to one LLVM module and hands that to its clang. This script
 # runs `rt staticlib CRATE` with a clang that also keeps the module, and compiles that module for this machine, optimised as rt does it.
 # The module's text stays beside it as OUT.ll (oracle/damaged.sh makes damaged copies of it).

@@ -4,5 +4,5 @@ set -eu
 [ $# -eq 2 ] || { echo "usage: native-module.sh MODULE.ll OUT.o" >&2; exit 2; }
 machine=$(uname -m)
 kit=${RATTLE_HOME:-$(dirname "$(dirname "$(readlink -f "$(command -v rt)")")")}
-"$kit/on/$machine/toolchain/bin/clang" --target="$machine-unknown-linux-gnu" -O3 -fPIE -ffunction-sections -fdata-sections -Wno-override-module \
+"$kit/on/$machine/toolchain/bin/clang" --target="$machine-unknown-linux-gnu" -O3 -fPIC -ffunction-sections -fdata-sections -Wno-override-module \
     -Xclang -fmerge-functions -mllvm -mergefunc-use-aliases -c -x ir "$1" -o "$2"

@@ -1,0 +1,133 @@
+#!/usr/bin/env bash
+# build.sh: what make builds and when, in a copy of the project whose path has spaces, with a stand-in for rt that hands out what is built already and
+# notes how it is called: so that the rules of the Makefile are tried in seconds. And what make and make test say where they cannot begin.
+set -u
+cd "$(dirname "$0")/.."
+unset MAKEFLAGS MAKELEVEL
+. tools/tell.sh
+if ! make --no-print-directory build; then
+    echo '0 passed, 1 failed'
+    exit 1
+fi
+before=$(stat -c '%n %Y.%y' build/libvdp.a build/bin/*)
+said=$(make --no-print-directory build)
+[ -z "$said" ] && [ "$before" = "$(stat -c '%n %Y.%y' build/libvdp.a build/bin/*)" ]
+tell "an unchanged make build makes nothing and says nothing" $?
+
+work=$(mktemp -d)
+trap 'rm -rf "$work"' EXIT
+chmod 755 "$work"
+copy="$work/a place with spaces"
+mkdir "$copy" "$work/bin"
+tar -c --exclude=./build --exclude=./target --exclude=./.git . | tar -x -C "$copy"
+cat >"$work/bin/rt" <<END
+#!/bin/sh
+case \$1 in
+version) cat "$work/version" ;;
+check) echo "check" >>"$work/calls"; mkdir -p target/bin; cp "$PWD"/build/bin/* target/bin/ ;;
+staticlib) echo "staticlib" >>"$work/calls"; mkdir -p target/staticlib; cp "$PWD/build/libvdp.a" target/staticlib/libface.a ;;
+*) echo "\$1" >>"$work/calls"; exit 1 ;;
+esac
+END
+chmod +x "$work/bin/rt"
+echo one >"$work/version"
+
+# made NAME CALLS WORDS..: make with these words calls rt so, and leaves all that a user takes away.
+made() {
+    local name=$1 calls=$2 status
+    shift 2
+    : >"$work/calls"
+    (cd "$copy" && PATH="$work/bin:$PATH" make --no-print-directory "$@" </dev/null) >"$work/said" 2>&1
+    status=$?
+    [ "$status" -eq 0 ] || cat "$work/said"
+    [ "$status" -eq 0 ] && [ "$(tr '\n' ' ' <"$work/calls")" = "$calls" ] && ! grep -q warning "$work/said" &&
+        cmp build/libvdp.a "$copy/build/libvdp.a" && cmp build/bin/trace "$copy/build/bin/trace" && cmp build/bin/snapshot "$copy/build/bin/snapshot"
+    tell "$name" $?
+}
+# later FILE: this source is newer than all that was made.
+later() {
+    sleep 0.05
+    touch "$copy/$1"
+}
+made "make from nothing" "check check staticlib " all
+tail -n 1 "$work/said" | grep -q '^end 8$'
+tell "it shows the trace program at work" $?
+made "make again: rt is not called" "" all
+later crates/laws/src/lib.rt
+made "after a change below both: all is made" "check check staticlib " build
+later crates/trace/src/main.rt
+made "after a change of a program: the library stays" "check " build
+later crates/face/specs/Face.antt
+made "after a change of the library: the programs stay" "check staticlib " build
+later crates/demands/specs/Pass.antt
+made "after a change of neither: nothing is made" "" build
+later crates.txt
+made "after a change of crates.txt" "check check staticlib " build
+echo two >"$work/version"
+made "with another toolchain" "check check staticlib " build
+rm "$copy/build/bin/snapshot"
+made "a program that was removed is made again" "check " build
+made "make -j4" "" -j4 all
+made "make -j4 clean all" "check check staticlib " -j4 clean all
+
+# refused NAME LINE WORDS..: these words fail with this line, and before rt is called; make itself may add a line.
+refused() {
+    local name=$1 line=$2 status
+    shift 2
+    : >"$work/calls"
+    (cd "$copy" && PATH="$work/bin:$PATH" "$@" </dev/null) >"$work/said" 2>&1
+    status=$?
+    [ "$status" -ne 0 ] && [ ! -s "$work/calls" ] && [ "$(grep -vc '^make: \*\*\*\|^0 passed, 1 failed$' "$work/said")" -eq 1 ] && grep -q "^$line" "$work/said"
+    status=$?
+    [ "$status" -eq 0 ] || cat "$work/said"
+    tell "$name" "$status"
+}
+rm -rf "$copy/build" "$copy/target"
+for target in compare bench damaged memcheck; do
+    refused "make $target: the published Rust is looked for first" "gears: no vdp.rs and io.rs in /none: set GEARS" make --no-print-directory $target GEARS=/none
+done
+
+# A machine with nothing but what make needs: no rustc, and an apt-get that fails.
+mkdir "$work/few"
+for word in sh bash make awk cat cmp cp dirname env find grep id mkdir mktemp mv rm sed tail tee touch tr; do ln -s "$(command -v $word)" "$work/few/"; done
+for word in dpkg apt-get; do printf '#!/bin/sh\necho "E: Unable to locate package rustc" >&2\nexit 100\n' >"$work/few/$word"; done
+printf '#!/bin/sh\ncase $1 in -s) echo Linux ;; *) echo x86_64 ;; esac\n' >"$work/few/uname"
+chmod +x "$work/few"/dpkg "$work/few"/apt-get "$work/few"/uname
+printf '#!/bin/sh\nexec "$@"\n' >"$work/few/sudo"
+chmod +x "$work/few/sudo"
+: >"$work/calls"
+(cd "$copy" && PATH="$work/bin:$work/few" make --no-print-directory build) >"$work/said" 2>&1 && grep -q staticlib "$work/calls"
+tell "make does not ask for rustc" $?
+: >"$work/calls"
+(cd "$copy" && PATH="$work/bin:$work/few" make --no-print-directory test) >"$work/said" 2>&1
+[ $? -ne 0 ] && [ ! -s "$work/calls" ] && [ "$(grep -c 'error' "$work/said")" -eq 1 ] && grep -q '^setup: error: could not install rustc.*(E: Unable to locate package rustc)' "$work/said" &&
+    grep -q '^0 passed, 1 failed$' "$work/said"
+status=$?
+[ "$status" -eq 0 ] || cat "$work/said"
+tell "make test: a package that cannot be installed is told in one line" $status
+
+# A checkout that may not be written to; root, who may write anywhere, tries it as nobody.
+rm -rf "$copy/build" "$copy/target"
+chmod -R a-w,a+rX "$copy"
+as_nobody=
+if [ "$(id -u)" = 0 ]; then as_nobody='setpriv --reuid=65534 --regid=65534 --clear-groups'; fi
+refused "make in a checkout that may not be written to" "setup: error: cannot write in $copy" $as_nobody make --no-print-directory
+refused "make test in it" "setup: error: cannot write in $copy" $as_nobody make --no-print-directory test
+refused "the gate in it" "setup: error: cannot write in $copy" $as_nobody .ci/run
+[ "$(tail -n 1 "$work/said")" = '0 passed, 1 failed' ]
+tell "the gate's last line is the sum all the same" $?
+chmod -R u+w "$copy"
+
+# The comparison in a place with spaces.
+. tools/gears.sh
+if has_gears; then
+    (cd "$copy" && sh oracle/build.sh here && build/oracle/here/compare 1000 1) >"$work/said" 2>&1
+    status=$?
+    [ "$status" -eq 0 ] || cat "$work/said"
+    tell "oracle/build.sh here in a place with spaces" $status
+else
+    echo "SKIPPED: oracle/build.sh here: $no_gears"
+    skipped=$((skipped + 1))
+fi
+
+total
