@@ -1,4 +1,4 @@
-/* frame.c: draws a frame with libvdp.a, all through the ports, and answers the author's question.
+/* frame.c: draws a frame with libvdp, all through the ports, and answers the author's question.
  *
  *   frame            prints a line for each check
  *   frame FILE.ppm   also writes the frame as a picture (binary PPM)
@@ -206,6 +206,7 @@ static int write_picture(const char *name)
 
 int main(int count, char **words)
 {
+    check(vdp_version() == VDP_VERSION, "the library is the header's own");
     draw_a_frame();
     if (count > 1)
         check(write_picture(words[1]), "the frame is written as a picture");

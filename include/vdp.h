@@ -1,4 +1,4 @@
-/* vdp.h: the C face of libvdp.a, the video chip of the handheld.
+/* vdp.h: the C face of libvdp, the video chip of the handheld.
  *
  * The library keeps nothing of its own. The caller owns and lends
  *   - the state block: 219 bytes, the whole device but its video memory (layout below);
@@ -16,6 +16,16 @@
  *                  bit 24         a row was drawn
  *   all other bits are 0.
  *
+ * How long an interrupt stays up: bit 8 is the answer of that one step, and nothing is kept of it.
+ *   - A line interrupt (register 0, bit 4) is told by the step that finds the line count at 0, and not again: with
+ *     register 10 at N that is every N + 1 lines. A caller that lets it pass does not see it later; reading the
+ *     status does not touch it.
+ *   - A frame interrupt (register 1, bit 5) is told by the step that sets the counter to C1 and by every step after
+ *     it, also in the next pass, until the status is read (VDP_PORT_COMMAND), which clears its bit 7. While register 1
+ *     bit 5 is 0 it is not told, but the status keeps its bit: set later, the next step tells it.
+ *
+ * Stack: no call recurses, and none needs more than VDP_STACK_NEED bytes.
+ *
  * Calls on one block must not run at the same time; calls on different blocks may.
  */
 #ifndef HUMUSLOFT_VDP_H
@@ -28,87 +38,83 @@
 extern "C" {
 #endif
 
+/* The number of this face, 65536 * major + 256 * minor + small; vdp_version() gives that of the library at hand. Major goes
+ * up where a program that was right may have to change, minor where calls are added, small where neither is so. */
+#define VDP_VERSION_MAJOR 1
+#define VDP_VERSION_MINOR 0
+#define VDP_VERSION_SMALL 0
+#define VDP_VERSION (65536 * VDP_VERSION_MAJOR + 256 * VDP_VERSION_MINOR + VDP_VERSION_SMALL)
+
+/* Stack in bytes: the deepest that was measured (tests/stack.c) is about 2,100, on x86-64 and on Arm. */
+#define VDP_STACK_NEED 4096
+
 /* Sizes in bytes. A frame or a row may be longer (the bytes past its size never change); all others are exact. */
-enum {
-    VDP_STATE_SIZE = 219,
-    VDP_VRAM_SIZE = 16384,
-    VDP_VISIBLE_FRAME_SIZE = 92160,    /* 160 x 144 pixels of 4 bytes */
-    VDP_EFFECTIVE_FRAME_SIZE = 229376, /* 256 x 224 pixels of 4 bytes */
-    VDP_VISIBLE_ROW_SIZE = 640,
-    VDP_EFFECTIVE_ROW_SIZE = 1024,
-    VDP_TILESET_SIZE = 131072          /* 128 x 256 pixels of 4 bytes: 512 tiles, 16 across */
-};
+#define VDP_STATE_SIZE           219
+#define VDP_VRAM_SIZE            16384
+#define VDP_VISIBLE_FRAME_SIZE   92160  /* 160 x 144 pixels of 4 bytes */
+#define VDP_EFFECTIVE_FRAME_SIZE 229376 /* 256 x 224 pixels of 4 bytes */
+#define VDP_VISIBLE_ROW_SIZE     640
+#define VDP_EFFECTIVE_ROW_SIZE   1024
+#define VDP_TILESET_SIZE         131072 /* 128 x 256 pixels of 4 bytes: 512 tiles, 16 across */
 
 /* Sizes in pixels. A pixel is four bytes: red, green, blue, 255. */
-enum {
-    VDP_VISIBLE_WIDTH = 160,
-    VDP_VISIBLE_HEIGHT = 144,
-    VDP_EFFECTIVE_WIDTH = 256,
-    VDP_EFFECTIVE_HEIGHT = 224,
-    VDP_TILESET_WIDTH = 128,
-    VDP_TILESET_HEIGHT = 256
-};
+#define VDP_VISIBLE_WIDTH    160
+#define VDP_VISIBLE_HEIGHT   144
+#define VDP_EFFECTIVE_WIDTH  256
+#define VDP_EFFECTIVE_HEIGHT 224
+#define VDP_TILESET_WIDTH    128
+#define VDP_TILESET_HEIGHT   256
 
 /* Steps from one line 0 to the next. */
-enum { VDP_PASS_STEPS = 261 };
+#define VDP_PASS_STEPS 261
 
 /* Areas. */
-enum {
-    VDP_VISIBLE = 0,  /* the handheld's 160 x 144 window: row r is drawn by the step that sets the counter to r + 24 */
-    VDP_EFFECTIVE = 1 /* the whole 256 x 224 screen: row r is drawn by the step that sets the counter to r */
-};
+#define VDP_VISIBLE   0 /* the handheld's 160 x 144 window: row r is drawn by the step that sets the counter to r + 24 */
+#define VDP_EFFECTIVE 1 /* the whole 256 x 224 screen: row r is drawn by the step that sets the counter to r */
 
 /* Ports. Only the low byte of a port number counts. */
-enum {
-    VDP_PORT_LINE = 0x7E,   /* read: the line counter */
-    VDP_PORT_DATA = 0xBE,   /* read, write: the chosen memory */
-    VDP_PORT_COMMAND = 0xBF /* write: command bytes; read: the status, which clears it */
-};
+#define VDP_PORT_LINE    0x7E /* read: the line counter */
+#define VDP_PORT_DATA    0xBE /* read, write: the chosen memory */
+#define VDP_PORT_COMMAND 0xBF /* write: command bytes; read: the status, which clears it */
 
 /* Refusals. "Unchanged" means every byte of every buffer; "latch empty" means that only the command latch is emptied. */
-enum {
-    VDP_OK = 0,                     /* accepted */
-    VDP_REFUSED_PORT = 1,           /* the port is unknown: unchanged */
-    VDP_REFUSED_HORIZONTAL = 2,     /* read of port 7F, the horizontal counter: unchanged */
-    VDP_REFUSED_REGISTER = 3,       /* command to a register above 10: latch empty */
-    VDP_REFUSED_NO_MEMORY = 4,      /* data port while no memory is chosen: latch empty */
-    VDP_REFUSED_PALETTE_READ = 5,   /* data read while the palette is chosen: latch empty */
-    VDP_REFUSED_PALETTE_HALF = 6,   /* data write at an odd palette address, palette latch empty: latch empty */
-    VDP_REFUSED_ADDRESS = 7,        /* address outside the chosen memory (only in a block made by hand): latch empty */
-    VDP_REFUSED_VRAM_LENGTH = 8,    /* video memory not exactly VDP_VRAM_SIZE bytes: unchanged */
-    VDP_REFUSED_PIXELS_LENGTH = 9,  /* frame or row too short, or sheet not exactly VDP_TILESET_SIZE bytes: unchanged */
-    VDP_REFUSED_BLOCK = 10,         /* state block malformed: unchanged */
-    VDP_REFUSED_AREA = 11           /* area number above 1: unchanged */
-};
+#define VDP_OK                    0  /* accepted */
+#define VDP_REFUSED_PORT          1  /* the port is unknown: unchanged */
+#define VDP_REFUSED_HORIZONTAL    2  /* read of port 7F, the horizontal counter: unchanged */
+#define VDP_REFUSED_REGISTER      3  /* command to a register above 10: latch empty */
+#define VDP_REFUSED_NO_MEMORY     4  /* data port while no memory is chosen: latch empty */
+#define VDP_REFUSED_PALETTE_READ  5  /* data read while the palette is chosen: latch empty */
+#define VDP_REFUSED_PALETTE_HALF  6  /* data write at an odd palette address, palette latch empty: latch empty */
+#define VDP_REFUSED_ADDRESS       7  /* address outside the chosen memory (only in a block made by hand): latch empty */
+#define VDP_REFUSED_VRAM_LENGTH   8  /* video memory not exactly VDP_VRAM_SIZE bytes: unchanged */
+#define VDP_REFUSED_PIXELS_LENGTH 9  /* frame or row too short, or sheet not exactly VDP_TILESET_SIZE bytes: unchanged */
+#define VDP_REFUSED_BLOCK         10 /* state block malformed: unchanged */
+#define VDP_REFUSED_AREA          11 /* area number above 1: unchanged */
 
 /* Display reports of a step. */
-enum {
-    VDP_NO_DISPLAY = 0,
-    VDP_SCREEN_DONE = 1,           /* the screen's end, with the display on (register 1, bit 6) */
-    VDP_SCREEN_DONE_NO_REFRESH = 2 /* the screen's end, with the display off */
-};
+#define VDP_NO_DISPLAY             0
+#define VDP_SCREEN_DONE            1 /* the screen's end, with the display on (register 1, bit 6) */
+#define VDP_SCREEN_DONE_NO_REFRESH 2 /* the screen's end, with the display off */
 
 /* The state block, by offset. A block is malformed (refusal 10) if its length or its mark is another, a flag is
  * above 1, chosen is above 2, or a latched byte is not 0 while its flag is 0. */
-enum {
-    VDP_AT_MARK = 0,                   /* two bytes: 56 53 (hex) */
-    VDP_AT_STATUS = 2,                 /* bit 7 screen end, bit 6 ninth sprite, bit 5 collision */
-    VDP_AT_REGISTERS = 3,              /* 11 bytes, registers 0 to 10 */
-    VDP_AT_COUNTER = 14,               /* the line counter */
-    VDP_AT_JUMPED = 15,                /* flag: the counter has jumped back in this pass */
-    VDP_AT_LINE_COUNT = 16,            /* counts down to the next line interrupt */
-    VDP_AT_ADDRESS = 17,               /* two bytes, low then high */
-    VDP_AT_READ_BUFFER = 19,           /* what the next data read gives */
-    VDP_AT_CHOSEN = 20,                /* 0 no memory, 1 video memory, 2 palette */
-    VDP_AT_COMMAND_LATCHED = 21,       /* flag */
-    VDP_AT_COMMAND_BYTE = 22,
-    VDP_AT_PALETTE_LATCHED = 23,       /* flag */
-    VDP_AT_PALETTE_BYTE = 24,
-    VDP_AT_VERTICAL_SCROLL = 25,       /* as latched when the counter last became 0 */
-    VDP_AT_DIRTY = 26,                 /* flag: the cached colours are to be rebuilt before the next row */
-    VDP_AT_PALETTE = 27,               /* 64 bytes, two a colour */
-    VDP_AT_COLOURS = 91                /* 128 bytes, 32 cached colours of red, green, blue, 255 */
-};
+#define VDP_AT_MARK            0  /* two bytes: 56 53 (hex) */
+#define VDP_AT_STATUS          2  /* bit 7 screen end, bit 6 ninth sprite, bit 5 collision */
+#define VDP_AT_REGISTERS       3  /* 11 bytes, registers 0 to 10 */
+#define VDP_AT_COUNTER         14 /* the line counter */
+#define VDP_AT_JUMPED          15 /* flag: the counter has jumped back in this pass */
+#define VDP_AT_LINE_COUNT      16 /* counts down to the next line interrupt */
+#define VDP_AT_ADDRESS         17 /* two bytes, low then high */
+#define VDP_AT_READ_BUFFER     19 /* what the next data read gives */
+#define VDP_AT_CHOSEN          20 /* 0 no memory, 1 video memory, 2 palette */
+#define VDP_AT_COMMAND_LATCHED 21 /* flag */
+#define VDP_AT_COMMAND_BYTE    22
+#define VDP_AT_PALETTE_LATCHED 23 /* flag */
+#define VDP_AT_PALETTE_BYTE    24
+#define VDP_AT_VERTICAL_SCROLL 25 /* as latched when the counter last became 0 */
+#define VDP_AT_DIRTY           26 /* flag: the cached colours are to be rebuilt before the next row */
+#define VDP_AT_PALETTE         27 /* 64 bytes, two a colour */
+#define VDP_AT_COLOURS         91 /* 128 bytes, 32 cached colours of red, green, blue, 255 */
 
 /* Makes the block a fresh device. Refusal: 10 where the length is not VDP_STATE_SIZE (what it held does not matter). */
 uint32_t vdp_new(uint8_t *state, size_t state_len);
@@ -132,6 +138,9 @@ uint32_t vdp_row_step(uint8_t *state, size_t state_len, const uint8_t *vram, siz
  * A sprite pixel of code 0 leaves the sheet's bytes. Refusals, in this order: 10, 8, 9. */
 uint32_t vdp_dump_tileset(const uint8_t *state, size_t state_len, const uint8_t *vram, size_t vram_len,
                           uint8_t *pixels, size_t pixels_len);
+
+/* The number of the library's face: VDP_VERSION of the header that belongs to it. */
+uint32_t vdp_version(void);
 
 /* The parts of an answer. */
 static inline unsigned vdp_refusal(uint32_t answer) { return answer & 0xFF; }

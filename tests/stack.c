@@ -1,0 +1,98 @@
+/* stack.c: how much stack the calls of libvdp take, measured. Each call runs many times, on random devices and on what is
+ * refused, on a stack of its own that is filled with one byte; the deepest byte that changed tells.
+ *
+ * Prints a line for each call, and the most; exit status 1 where that is above VDP_STACK_NEED.
+ */
+#include "vdp.h"
+
+#include <stdio.h>
+#include <string.h>
+#include <ucontext.h>
+
+enum { STACK = 16384, FILL = 0xA5, TURNS = 5000 };
+
+static unsigned char stack[STACK] __attribute__((aligned(64)));
+static uint8_t state[VDP_STATE_SIZE], vram[VDP_VRAM_SIZE], pixels[VDP_EFFECTIVE_FRAME_SIZE];
+static ucontext_t here, there;
+static unsigned long used;
+static uint32_t word = 1;
+
+static uint32_t next(void)
+{
+    word ^= word << 13;
+    word ^= word >> 17;
+    return word ^= word << 5;
+}
+
+/* A device made by hand: any registers, palette, counter, and any memory. */
+static void device(void)
+{
+    vdp_new(state, sizeof state);
+    for (unsigned n = 0; n < 11; n++)
+        state[VDP_AT_REGISTERS + n] = (uint8_t)next();
+    for (unsigned n = 0; n < 64; n++)
+        state[VDP_AT_PALETTE + n] = (uint8_t)next();
+    state[VDP_AT_COUNTER] = (uint8_t)next();
+    state[VDP_AT_CHOSEN] = (uint8_t)(next() % 3);
+    state[VDP_AT_COMMAND_LATCHED] = (uint8_t)(next() % 2);
+    state[VDP_AT_PALETTE_LATCHED] = (uint8_t)(next() % 2);
+    state[VDP_AT_DIRTY] = (uint8_t)(next() % 2);
+    for (unsigned n = 0; n < 64; n++)
+        vram[next() % sizeof vram] = (uint8_t)next();
+}
+
+/* The calls, one a turn; now and then with a length or an area that is refused. */
+static void make_new(void) { vdp_new(state, sizeof state - (next() % 8 == 0)); }
+static void make_out(void) { vdp_out(state, sizeof state, vram, sizeof vram - (next() % 8 == 0), (uint16_t)(0xBE + next() % 3), (uint8_t)next()); }
+static void make_input(void) { vdp_input(state, sizeof state, vram, sizeof vram - (next() % 8 == 0), (uint16_t)(next() % 2 ? 0xBE + next() % 2 : 0x7E + next() % 2)); }
+static void make_step(void) { vdp_step(state, sizeof state, vram, sizeof vram, pixels, sizeof pixels, (uint8_t)(next() % 3)); }
+static void make_row_step(void) { vdp_row_step(state, sizeof state, vram, sizeof vram, pixels, VDP_EFFECTIVE_ROW_SIZE, (uint8_t)(next() % 3)); }
+static void make_dump(void) { vdp_dump_tileset(state, sizeof state, vram, sizeof vram, pixels, VDP_TILESET_SIZE - (next() % 8 == 0)); }
+static void make_version(void) { vdp_version(); }
+
+static void (*call)(void);
+
+/* Runs on the filled stack: from this frame down to the deepest byte that changed. */
+static void run(void)
+{
+    unsigned long low = 0;
+    call();
+    while (stack[low] == FILL)
+        low++;
+    used = (unsigned long)((unsigned char *)__builtin_frame_address(0) - (stack + low));
+}
+
+static unsigned long measure(const char *name, void (*what)(void), unsigned turns)
+{
+    memset(stack, FILL, sizeof stack);
+    call = what;
+    for (unsigned turn = 0; turn < turns; turn++) {
+        device();
+        getcontext(&there);
+        there.uc_stack.ss_sp = stack;
+        there.uc_stack.ss_size = sizeof stack;
+        there.uc_link = &here;
+        makecontext(&there, run, 0);
+        swapcontext(&here, &there);
+    }
+    printf("%-17s %5lu bytes\n", name, used);
+    return used;
+}
+
+int main(void)
+{
+    unsigned long most = 0, each[7];
+    for (unsigned n = 0; n < sizeof vram; n++)
+        vram[n] = (uint8_t)next();
+    each[0] = measure("vdp_new", make_new, TURNS);
+    each[1] = measure("vdp_out", make_out, TURNS);
+    each[2] = measure("vdp_input", make_input, TURNS);
+    each[3] = measure("vdp_step", make_step, TURNS);
+    each[4] = measure("vdp_row_step", make_row_step, TURNS);
+    each[5] = measure("vdp_dump_tileset", make_dump, TURNS / 50);
+    each[6] = measure("vdp_version", make_version, TURNS);
+    for (unsigned n = 0; n < 7; n++)
+        most = each[n] > most ? each[n] : most;
+    printf("stack: %lu bytes at the most; the header allows %d\n", most, VDP_STACK_NEED);
+    return most > VDP_STACK_NEED;
+}
