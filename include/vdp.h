@@ -18,8 +18,8 @@
  *
  * How long an interrupt stays up: bit 8 is the answer of that one step, and nothing is kept of it.
  *   - A line interrupt (register 0, bit 4) is told by the step that finds the line count at 0, and not again: with
- *     register 10 at N that is every N + 1 lines. A caller that lets it pass does not see it later; reading the
- *     status does not touch it.
+ *     register 10 at N that is every N + 1 lines from 0 to 193, and after them only with N at 0, by every step. A
+ *     caller that lets it pass does not see it later; reading the status does not touch it.
  *   - A frame interrupt (register 1, bit 5) is told by the step that sets the counter to C1 and by every step after
  *     it, also in the next pass, until the status is read (VDP_PORT_COMMAND), which clears its bit 7. While register 1
  *     bit 5 is 0 it is not told, but the status keeps its bit: set later, the next step tells it.

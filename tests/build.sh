@@ -118,6 +118,11 @@ refused "the gate in it" "setup: error: cannot write in $copy" $as_nobody .ci/ru
 tell "the gate's last line is the sum all the same" $?
 chmod -R u+w "$copy"
 
+# A C++ compiler that is missing.
+CXX=no-such-compiler bash tests/c.sh >"$work/said" 2>&1
+[ $? -eq 0 ] && grep -q '^SKIPPED: the C++ example: no no-such-compiler here$' "$work/said" && tail -n 1 "$work/said" | grep -q '^[0-9]* passed, 0 failed, [2-9] skipped$'
+tell "a C++ compiler that is missing counts as skipped" $?
+
 # The comparison in a place with spaces.
 . tools/gears.sh
 if has_gears; then

@@ -43,6 +43,8 @@ if ! sh tools/setup.sh rust; then
     total
     exit 1
 fi
+# From nothing: what an earlier make left is made again, of what is proved now.
+rm -rf build/bin build/libvdp.a build/native build/toolchain
 mkdir -p $logs
 
 suite proofs rt ci
