@@ -6,8 +6,8 @@ set -eu
 cd "$(dirname "$0")/.."
 . tools/cross.sh
 [ -n "$RUN" ] || { echo "emulated: this is x86-64: make bench counts here" >&2; exit 2; }
-GEARS=$(cd "${GEARS:-../shared/docs/src/src}" && pwd)
-export GEARS
+. tools/gears.sh
+has_gears || { echo "emulated: $no_gears" >&2; exit 1; }
 out=build/bench/x86
 mkdir -p $out
 flags="--edition 2021 -C opt-level=3 -C overflow-checks=off -C debug-assertions=off"
