@@ -17,7 +17,7 @@ pub fn names_at(reg: [u8; 11]) -> usize
     ensures { λ r. ⌜ r ≡ namesAt (at reg) ⌝ }
     ensures { λ r. ⌜ r ≤ 14336 ⌝ }
 {
-    tile::wide(reg[2] & 0x0E) * 1024
+    small::wide(reg[2] & 0x0E) * 1024
 }
 
 // Pixel or line k of a tile, the other way round where it is flipped.
@@ -34,8 +34,8 @@ fn line_at(lo: u8, hi: u8, y: usize) -> usize
     ensures { λ r. ⌜ r ≡ tileLine lo hi y ⌝ }
     ensures { λ r. ⌜ r + 4 ≤ 16384 ⌝ }
 {
-    let character = tile::wide(lo) + tile::weight(tile::is_set(hi, 0), 256);
-    32 * character + 4 * turn(tile::is_set(hi, 2), y % 8)
+    let character = small::wide(lo) + small::weight(small::is_set(hi, 0), 256);
+    32 * character + 4 * turn(small::is_set(hi, 2), y % 8)
 }
 
 // The mask with the marks of a tile, if it has priority.
@@ -51,7 +51,7 @@ fn place_of(cut: u8, x: usize) -> usize
     ensures { λ r. ⌜ r ≡ placeAt cut x ⌝ }
 {
     if x == 0 {
-        tile::wide(std::num::wrapping_sub_u8(0, cut))
+        small::wide(std::num::wrapping_sub_u8(0, cut))
     } else {
         x
     }
@@ -86,13 +86,13 @@ fn render_tile(
         vram,
         colours,
         addr,
-        tile::is_set(hi, 1),
-        tile::weight(tile::is_set(hi, 3), 16),
+        small::is_set(hi, 1),
+        small::weight(small::is_set(hi, 3), 16),
         x,
         mx % 8,
         n,
     );
-    with_marks(prio, tile::is_set(hi, 4), place_of(cut, x), bits)
+    with_marks(prio, small::is_set(hi, 4), place_of(cut, x), bits)
 }
 
 // The bits where `on`, else none.
@@ -126,11 +126,11 @@ fn render_whole_tile(
         vram,
         colours,
         line_at(lo, hi, y),
-        tile::is_set(hi, 1),
-        tile::weight(tile::is_set(hi, 3), 16),
+        small::is_set(hi, 1),
+        small::weight(small::is_set(hi, 3), 16),
         x,
     );
-    where_on(tile::is_set(hi, 4), bits)
+    where_on(small::is_set(hi, 4), bits)
 }
 
 // The background of a row whose pixel 0 shows the map's pixel (sx, y); answers the priority mask, the first tile's marks `cut` to the left.
@@ -152,7 +152,7 @@ pub fn render_background_line(
     ensures { λ r. ⌜ r .bits ≡ bytesOf (prioTo (now (vram .entry)) names sx y cut width) ⌝ }
 {
     let none = Bitmap::new();
-    let first = tile::smaller(8 - sx % 8, width);
+    let first = small::smaller(8 - sx % 8, width);
     let mut prio = render_tile(row, vram, colours, names, sx, y, 0, first, cut, none);
     let mut x = first;
     while x + 8 <= width {

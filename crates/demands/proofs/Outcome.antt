@@ -15,11 +15,11 @@ use Rattle.colour.proofs.palette_recompute
 use Rattle.raster.proofs.Raster.advance
 use Rattle.raster.proofs.Raster.line_interrupt_is_up
 use Rattle.raster.proofs.Raster.line_interrupt_update
-use Rattle.tile.proofs.wide
-use Rattle.tile.proofs.smaller
-use Rattle.tile.proofs.weight
-use Rattle.tile.proofs.is_set
-use Rattle.tile.proofs.both
+use Rattle.small.proofs.wide
+use Rattle.small.proofs.smaller
+use Rattle.small.proofs.weight
+use Rattle.small.proofs.is_set
+use Rattle.small.proofs.both
 use Rattle.tile.proofs.character_line
 use Rattle.tile.proofs.character_whole
 use Rattle.tile.proofs.sprite_columns
@@ -97,7 +97,7 @@ line-interrupt-is-up-once κs a q z z′ w w′ e f = (e ∙ sym f, refl)
 pub line-interrupt-update-once : OneOutcome 0 line_interrupt_update.Kinds.ps line_interrupt_update.Kinds.r line_interrupt_update.Reads.Asked line_interrupt_update.Reads.Learnt
 line-interrupt-update-once κs a q z z′ w w′ e f = (e ∙ sym f, refl)
 
--- ---- tile
+-- ---- small
 pub wide-once : OneOutcome 0 wide.Kinds.ps wide.Kinds.r wide.Reads.Asked wide.Reads.Learnt
 wide-once κs a q z z′ w w′ e f = (e .0 ∙ sym (f .0), refl)
 
@@ -113,6 +113,7 @@ is-set-once κs a q z z′ w w′ e f = (e ∙ sym f, refl)
 pub both-once : OneOutcome 0 both.Kinds.ps both.Kinds.r both.Reads.Asked both.Reads.Learnt
 both-once κs a q z z′ w w′ e f = (e ∙ sym f, refl)
 
+-- ---- tile
 pub character-line-once : OneOutcome 3 character_line.Kinds.ps character_line.Kinds.r character_line.Reads.Asked character_line.Reads.Learnt
 character-line-once κs a q z z′ w w′ e f = (e .1 ∙ sym (f .1), λ i. ((e .0 ∙ sym (f .0)) i, w .1))
 

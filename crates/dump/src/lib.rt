@@ -15,7 +15,7 @@ fn column_of(tall: bool, chr: usize) -> usize
     ensures { λ r. ⌜ r ≡ tileColumn tall chr ⌝ }
     ensures { λ r. ⌜ r < 16 ⌝ }
 {
-    if tile::both(tall, 256 <= chr) {
+    if small::both(tall, 256 <= chr) {
         chr % 32 / 2
     } else {
         chr % 16
@@ -28,7 +28,7 @@ fn row_of(tall: bool, chr: usize) -> usize
     ensures { λ r. ⌜ r ≡ tileRow tall chr ⌝ }
     ensures { λ r. ⌜ r < 32 ⌝ }
 {
-    if tile::both(tall, 256 <= chr) {
+    if small::both(tall, 256 <= chr) {
         2 * (chr / 32) + chr % 2
     } else {
         chr / 16
@@ -41,7 +41,7 @@ fn line_at(high: bool, chr: usize, line: usize) -> usize
     ensures { λ r. ⌜ r ≡ lineAt high chr line ⌝ }
     ensures { λ r. ⌜ r + 4 ≤ 16384 ⌝ }
 {
-    tile::weight(tile::both(256 <= chr, high), 8192) + 32 * (chr % 256) + 4 * line
+    small::weight(small::both(256 <= chr, high), 8192) + 32 * (chr % 256) + 4 * line
 }
 
 // The tile line at addr, drawn at pixel x of the whole picture.
@@ -97,8 +97,8 @@ pub fn dump_tileset(pixels: &mut [u8], vram: &[u8], colours: &[u32; 32], reg: [u
     requires { ⌜ (length (now pixels) ≡ 131072) × (length (now vram) ≡ 16384) ⌝ }
     ensures { λ r. ⌜ now (pixels .exit) ≡ dumped (now (vram .entry)) reg (now (colours .entry)) (now (pixels .entry)) ⌝ }
 {
-    let tall = tile::is_set(reg[1], 1);
-    let high = tile::is_set(reg[6], 2);
+    let tall = small::is_set(reg[1], 1);
+    let high = small::is_set(reg[6], 2);
     let mut chr: usize = 0;
     while chr < 512 {
         dump_tile(pixels, vram, colours, tall, high, chr);

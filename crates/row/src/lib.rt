@@ -34,7 +34,7 @@ fn render_line_visible(
     requires { ⌜ (length (now vram) ≡ 16384) × (640 ≤ length (now row)) × (scroll < 256) × (line < 144) ⌝ }
     ensures { λ r. ⌜ Drawn VisibleOnly (now (colours .entry)) (pictureOf VisibleOnly reg scroll (now (vram .entry)) line) (now (row .entry)) (now (row .exit)) r ⌝ }
 {
-    let sx = (304 - tile::wide(reg[8])) % 256;
+    let sx = (304 - small::wide(reg[8])) % 256;
     let y = (line + 24 + scroll) % 224;
     let cut = (sx % 8) as u8;
     let prio = background::render_background_line(
@@ -106,8 +106,8 @@ pub fn render_line(
     requires { ⌜ (length (now vram) ≡ 16384) × (rowSize area ≤ length (now row)) × (line < rows area) ⌝ }
     ensures { λ r. ⌜ Drawn area (now (colours .entry)) (pictureOf area reg scroll (now (vram .entry)) line) (now (row .entry)) (now (row .exit)) r ⌝ }
 {
-    let s = tile::wide(scroll);
-    let l = tile::wide(line);
+    let s = small::wide(scroll);
+    let l = small::wide(line);
     match area {
         RenderArea::VisibleOnly => render_line_visible(row, vram, colours, reg, s, l),
         RenderArea::EffectiveArea => render_line_effective(row, vram, colours, reg, s, l),

@@ -61,7 +61,7 @@ fn visible_end(x: u8) -> usize
     if 160 < x {
         return 8;
     }
-    tile::smaller(tile::wide(160 - x), 8)
+    small::smaller(small::wide(160 - x), 8)
 }
 
 // Whether a sprite with X byte h is seen in the visible area.
@@ -77,9 +77,9 @@ fn mark_place(seen: bool, h: u8, start: u8) -> usize
     ensures { λ r. ⌜ r < 512 ⌝ }
 {
     if seen {
-        tile::wide(h)
+        small::wide(h)
     } else {
-        tile::wide(h) + tile::wide(start)
+        small::wide(h) + small::wide(start)
     }
 }
 
@@ -97,10 +97,10 @@ fn sprite_line_settings_visible(e: u8, h: u8) -> Stand
     let prio = std::num::wrapping_sub_u8(x, start);
     Stand {
         seen: seen,
-        x: tile::wide(x),
-        start: tile::wide(start),
+        x: small::wide(x),
+        start: small::wide(start),
         end: end,
-        prio: tile::wide(prio),
+        prio: small::wide(prio),
         mark: mark,
     }
 }
@@ -111,14 +111,14 @@ fn sprite_line_settings_effective(e: u8, h: u8) -> Stand
     ensures { λ r. ⌜ r ≡ effectiveStand e h ⌝ }
     ensures { λ r. ⌜ Fits r ⌝ }
 {
-    let x = tile::wide(std::num::wrapping_sub_u8(h, e));
+    let x = small::wide(std::num::wrapping_sub_u8(h, e));
     Stand {
         seen: true,
         x: x,
         start: 0,
         end: 8,
         prio: x,
-        mark: tile::wide(h),
+        mark: small::wide(h),
     }
 }
 
@@ -141,7 +141,7 @@ fn early_of(reg: [u8; 11]) -> u8
     ensures { λ r. ⌜ r ≡ early (at reg) ⌝ }
     ensures { λ r. ⌜ r ≤ 8 ⌝ }
 {
-    if tile::is_set(reg[0], 3) { 8 } else { 0 }
+    if small::is_set(reg[0], 3) { 8 } else { 0 }
 }
 
 // Where the sprite table starts.
@@ -149,7 +149,7 @@ fn table_at(reg: [u8; 11]) -> usize
     ensures { λ r. ⌜ r ≡ tableAt (at reg) ⌝ }
     ensures { λ r. ⌜ r ≤ 16128 ⌝ }
 {
-    tile::wide(reg[5] & 0x7E) * 128
+    small::wide(reg[5] & 0x7E) * 128
 }
 
 // The first line of a sprite with this Y byte.
@@ -157,7 +157,7 @@ fn top_of(y: u8) -> usize
     ensures { λ r. ⌜ r ≡ (y + 1) % 256 ⌝ }
     ensures { λ r. ⌜ r < 256 ⌝ }
 {
-    tile::wide(std::num::wrapping_add_u8(y, 1))
+    small::wide(std::num::wrapping_add_u8(y, 1))
 }
 
 // The lines of a sprite.
@@ -182,7 +182,7 @@ fn sprite_double_size_src_line(tall: bool, num: u8, d: usize) -> usize
     ensures { λ r. ⌜ r ≡ cond tall (num / 2 * 2 + d / 8) num ⌝ }
     ensures { λ r. ⌜ r < 256 ⌝ }
 {
-    let char_num = tile::wide(num);
+    let char_num = small::wide(num);
     if tall {
         char_num / 2 * 2 + d / 8
     } else {
@@ -196,8 +196,8 @@ fn line_at(reg: [u8; 11], num: u8, d: usize) -> usize
     ensures { λ r. ⌜ r ≡ spriteLine (at reg) num d ⌝ }
     ensures { λ r. ⌜ r + 4 ≤ 16384 ⌝ }
 {
-    let base = pattern_base(tile::is_set(reg[6], 2));
-    let char_num = sprite_double_size_src_line(tile::is_set(reg[1], 1), num, d);
+    let base = pattern_base(small::is_set(reg[6], 2));
+    let char_num = sprite_double_size_src_line(small::is_set(reg[1], 1), num, d);
     base + 32 * char_num + 4 * (d % 8)
 }
 
@@ -309,7 +309,7 @@ fn sprites_line(
     ensures { λ r. ⌜ ((row₀ : List ℕ) (f : ℕ → Bool) (colour : ℕ → ℕ) → prio .bits ≡ bytesOf f → mask .bits ≡ cleared → now (row .entry) ≡ painted row₀ 0 width (λ x. at (now (colours .entry)) (colour x)) → Laid (at (now (vram .entry))) (at reg) (standOf area (early (at reg))) line f row₀ (now (colours .entry)) width colour (now (row .exit)) r) ⌝ }
 {
     let table = table_at(reg);
-    let lines = height(tile::is_set(reg[1], 1));
+    let lines = height(small::is_set(reg[1], 1));
     let e = early_of(reg);
     let mut hit = false;
     let mut count: usize = 0;

@@ -1,7 +1,7 @@
 // One line of a tile, drawn into a row of pixels: as background, and as a sprite.
 ghost use mathlib.Core.Path.{_≡_};
 ghost use mathlib.Core.Bool.{true, cond, _&&_, not};
-ghost use Prim.Native.Nat.{ℕ, _+_, _-_, _*_, _%_, _^_, _<_, _≤_, min};
+ghost use Prim.Native.Nat.{ℕ, _+_, _-_, _*_, _%_, _^_, _<_, _≤_};
 ghost use lib.ListN.{length};
 ghost use lib.Bits.{bitOr};
 ghost use Rattle.laws.specs.Bits.{bit, digit, number, byteOf};
@@ -12,38 +12,7 @@ ghost use Rattle.picture.specs.Picture.{solid};
 ghost use Rattle.tile.specs.Lanes.{lanes, lane};
 ghost use Rattle.tile.specs.Line.{lineColour, lineSolid, lineMarked, lineDrawn, lineHeld, spriteColour};
 
-// ---- numbers and tests that every crate above uses
-
-// A byte as an index.
-pub fn wide(x: u8) -> usize
-    ensures { λ r. ⌜ r ≡ x ⌝ }
-    ensures { λ r. ⌜ r < 256 ⌝ }
-{
-    x as usize
-}
-
-// The smaller of two numbers.
-pub fn smaller(a: usize, b: usize) -> usize
-    ensures { λ r. ⌜ r ≡ min a b ⌝ }
-{
-    if a <= b { a } else { b }
-}
-
-// `weight` where `on`, else 0.
-pub fn weight(on: bool, weight: usize) -> usize
-    ensures { λ r. ⌜ r ≡ weight * digit on ⌝ }
-    ensures { λ r. ⌜ r ≤ weight ⌝ }
-{
-    if on { weight } else { 0 }
-}
-
-// Bit i of a byte.
-pub fn is_set(bits: u8, i: usize) -> bool
-    requires { ⌜ i < 8 ⌝ }
-    ensures { λ r. ⌜ r ≡ bit bits i ⌝ }
-{
-    (bits >> i) % 2 == 1
-}
+// ---- tests and marks
 
 // The byte with bit i set where `on`.
 fn mark(bits: u8, i: usize, on: bool) -> u8
@@ -51,13 +20,6 @@ fn mark(bits: u8, i: usize, on: bool) -> u8
     ensures { λ r. ⌜ r ≡ cond on (bitOr bits (1 * 2 ^ i % 256)) bits ⌝ }
 {
     if on { bits | 1 << i } else { bits }
-}
-
-// Both of two tests.
-pub fn both(a: bool, b: bool) -> bool
-    ensures { λ r. ⌜ r ≡ (a && b) ⌝ }
-{
-    if a { b } else { false }
 }
 
 // The first and not the second.
@@ -75,7 +37,7 @@ fn color_code(b0: u8, b1: u8, b2: u8, b3: u8, offset: usize) -> usize
     ensures { λ r. ⌜ r ≡ codeOf b0 b1 b2 b3 offset ⌝ }
     ensures { λ r. ⌜ r < 16 ⌝ }
 {
-    wide(
+    small::wide(
         (((b3 >> offset) & 1) << 3)
             | (((b2 >> offset) & 1) << 2)
             | (((b1 >> offset) & 1) << 1)
@@ -212,7 +174,7 @@ fn cut(bits: u8, start: usize, n: usize) -> u8
     ensures { λ r. ⌜ r ≡ number n (λ k. bit bits (start + k)) ⌝ }
 {
     let low: usize = 1 << n;
-    ((wide(bits) >> start) % low) as u8
+    ((small::wide(bits) >> start) % low) as u8
 }
 
 // ---- the background
@@ -367,14 +329,14 @@ pub fn sprite_columns(
     let mut i: usize = 0;
     while start + i < end {
         let code = color_code(p0, p1, p2, p3, 7 - (start + i));
-        let stopped = is_set(held, i);
+        let stopped = small::is_set(held, i);
         let marked = unless(code != 0, stopped);
-        let shown = both(unless(marked, is_set(taken, i)), x + i < width);
+        let shown = small::both(unless(marked, small::is_set(taken, i)), x + i < width);
         let c = 16 + code;
         pixel_set_if(shown, row, x + i, colours[c]);
         marks = mark(marks, i, marked);
         drawn = mark(drawn, i, shown);
-        kept = mark(kept, i, both(code != 0, stopped));
+        kept = mark(kept, i, small::both(code != 0, stopped));
         i += 1;
     }
     Columns {
@@ -393,7 +355,7 @@ fn overlay(row: &mut [u8], colours: &[u32; 32], x: usize, codes: u64, drawn: u8)
     let mut i: usize = 0;
     while i < 8 {
         let c = 16 + (w % 256) as usize;
-        pixel_choose(is_set(drawn, i), row, x + i, colours[c]);
+        pixel_choose(small::is_set(drawn, i), row, x + i, colours[c]);
         w = w / 256;
         i += 1;
     }
@@ -446,7 +408,7 @@ pub fn character_line_sprite(
     ensures { λ r. ⌜ now (row .exit) ≡ overlaid (now (row .entry)) x 8 (lineDrawn (now (vram .entry)) addr start end held taken width x) (spriteColour (now (colours .entry)) (now (vram .entry)) addr start) ⌝ }
     ensures { λ r. ⌜ (r .marks ≡ byteOf (lineMarked (now (vram .entry)) addr start end held)) × (r .drawn ≡ byteOf (lineDrawn (now (vram .entry)) addr start end held taken width x)) × (r .held ≡ byteOf (lineHeld (now (vram .entry)) addr start end held)) ⌝ }
 {
-    if both(both(start == 0, end == 8), x + 8 <= width) {
+    if small::both(small::both(start == 0, end == 8), x + 8 <= width) {
         return sprite_whole(row, vram, colours, addr, held, taken, width, x);
     }
     sprite_columns(row, vram, colours, addr, held, taken, width, x, start, end)

@@ -6,9 +6,9 @@ use Rattle.background.proofs.line_at.Tie as tie
 use Rattle.background.proofs.line_at.Reads as reads
 use Rattle.background.proofs.line_at.Lts as lts
 use Rattle.background.proofs.turn.Reads as turn-reads
-use Rattle.tile.proofs.is_set.Reads as is-set-reads
-use Rattle.tile.proofs.weight.Reads as weight-reads
-use Rattle.tile.proofs.wide.Reads as wide-reads
+use Rattle.small.proofs.is_set.Reads as is-set-reads
+use Rattle.small.proofs.weight.Reads as weight-reads
+use Rattle.small.proofs.wide.Reads as wide-reads
 
 -- src/lib.rt:37:21
 wide-requires : tie.Need-wide-requires

@@ -6,7 +6,7 @@ use Rattle.background.proofs.names_at.Statement.{statement}
 use Rattle.background.proofs.names_at.Tie as tie
 use Rattle.background.proofs.names_at.Reads as reads
 use Rattle.background.proofs.names_at.Lts as lts
-use Rattle.tile.proofs.wide.Reads as wide-reads
+use Rattle.small.proofs.wide.Reads as wide-reads
 
 -- src/lib.rt:20:16
 array-read-wide : tie.Need-array-read-wide

@@ -6,7 +6,7 @@ use Rattle.background.proofs.place_of.Tie as tie
 use Rattle.background.proofs.place_of.Reads as reads
 use Rattle.background.proofs.place_of.Lts as lts
 use Rattle.std.proofs.num.wrapping_sub_u8.Reads as wrapping-sub-u8-reads
-use Rattle.tile.proofs.wide.Reads as wide-reads
+use Rattle.small.proofs.wide.Reads as wide-reads
 
 -- src/lib.rt:54:20
 wrapping-sub-u8-requires : tie.Need-wrapping-sub-u8-requires

@@ -26,7 +26,7 @@ use Rattle.background.proofs.render_whole_tile.Reads as render-whole-ti
 use Rattle.bitmap.proofs.Bitmap.new.Reads as new-reads
 use Rattle.bitmap.proofs.lower.Reads as lower-reads
 use Rattle.bitmap.proofs.upper.Reads as upper-reads
-use Rattle.tile.proofs.smaller.Reads as smaller-reads
+use Rattle.small.proofs.smaller.Reads as smaller-reads
 
 abbrev Inv-loop : tie.InvT-loop
 Inv-loop row₀ vram colours names sx y width cut first prio₀ x₀ row prio x =

@@ -13,8 +13,8 @@ use Rattle.background.proofs.line_at.Reads as line-at-reads
 use Rattle.background.proofs.place_of.Reads as place-of-reads
 use Rattle.background.proofs.with_marks.Reads as with-marks-reads
 use Rattle.tile.proofs.character_line.Reads as character-line-reads
-use Rattle.tile.proofs.is_set.Reads as is-set-reads
-use Rattle.tile.proofs.weight.Reads as weight-reads
+use Rattle.small.proofs.is_set.Reads as is-set-reads
+use Rattle.small.proofs.weight.Reads as weight-reads
 
 -- src/lib.rt:79:15
 add-mx : tie.Need-add-mx

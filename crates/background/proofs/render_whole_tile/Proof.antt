@@ -14,8 +14,8 @@ use Rattle.background.proofs.render_whole_tile.Lts as lts
 use Rattle.background.proofs.line_at.Reads as line-at-reads
 use Rattle.background.proofs.where_on.Reads as where-on-reads
 use Rattle.tile.proofs.character_whole.Reads as character-whole-reads
-use Rattle.tile.proofs.is_set.Reads as is-set-reads
-use Rattle.tile.proofs.weight.Reads as weight-reads
+use Rattle.small.proofs.is_set.Reads as is-set-reads
+use Rattle.small.proofs.weight.Reads as weight-reads
 
 -- src/lib.rt:120:15
 add-mx : tie.Need-add-mx

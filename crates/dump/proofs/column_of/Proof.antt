@@ -6,7 +6,7 @@ use Rattle.dump.proofs.column_of.Statement.{statement}
 use Rattle.dump.proofs.column_of.Tie as tie
 use Rattle.dump.proofs.column_of.Reads as reads
 use Rattle.dump.proofs.column_of.Lts as lts
-use Rattle.tile.proofs.both.Reads as both-reads
+use Rattle.small.proofs.both.Reads as both-reads
 
 -- src/lib.rt:18:8
 both-requires : tie.Need-both-requires

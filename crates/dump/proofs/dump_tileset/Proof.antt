@@ -10,7 +10,7 @@ use Rattle.dump.proofs.dump_tileset.Tie as tie
 use Rattle.dump.proofs.dump_tileset.Reads as reads
 use Rattle.dump.proofs.dump_tileset.Lts as lts
 use Rattle.dump.proofs.dump_tile.Reads as dump-tile-reads
-use Rattle.tile.proofs.is_set.Reads as is-set-reads
+use Rattle.small.proofs.is_set.Reads as is-set-reads
 
 abbrev Inv-loop : tie.InvT-loop
 Inv-loop pixels₀ vram colours tall high chr₀ pixels chr = (chr ≤ 512) × (length pixels ≡ length pixels₀) × Dumping vram tall high colours pixels₀ (8 * chr) pixels

@@ -6,8 +6,8 @@ use Rattle.dump.proofs.line_at.Statement.{statement}
 use Rattle.dump.proofs.line_at.Tie as tie
 use Rattle.dump.proofs.line_at.Reads as reads
 use Rattle.dump.proofs.line_at.Lts as lts
-use Rattle.tile.proofs.both.Reads as both-reads
-use Rattle.tile.proofs.weight.Reads as weight-reads
+use Rattle.small.proofs.both.Reads as both-reads
+use Rattle.small.proofs.weight.Reads as weight-reads
 
 -- src/lib.rt:36:18
 both-requires : tie.Need-both-requires

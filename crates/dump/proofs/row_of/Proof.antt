@@ -6,7 +6,7 @@ use Rattle.dump.proofs.row_of.Statement.{statement}
 use Rattle.dump.proofs.row_of.Tie as tie
 use Rattle.dump.proofs.row_of.Reads as reads
 use Rattle.dump.proofs.row_of.Lts as lts
-use Rattle.tile.proofs.both.Reads as both-reads
+use Rattle.small.proofs.both.Reads as both-reads
 
 -- src/lib.rt:27:8
 both-requires : tie.Need-both-requires

@@ -6,7 +6,7 @@ use Rattle.row.proofs.render_line.Reads as reads
 use Rattle.row.proofs.render_line.Lts as lts
 use Rattle.row.proofs.render_line_effective.Reads as render-line-effective-reads
 use Rattle.row.proofs.render_line_visible.Reads as render-line-visible-reads
-use Rattle.tile.proofs.wide.Reads as wide-reads
+use Rattle.small.proofs.wide.Reads as wide-reads
 
 -- src/lib.rt:70:9
 wide-requires : tie.Need-wide-requires

@@ -18,7 +18,7 @@ use Rattle.background.proofs.names_at.Reads as names-at-reads
 use Rattle.background.proofs.render_background_line.Reads as render-background-line-reads
 use Rattle.row.proofs.status_bits.Reads as status-bits-reads
 use Rattle.sprites.proofs.render_sprites_line.Reads as render-sprites-line-reads
-use Rattle.tile.proofs.wide.Reads as wide-reads
+use Rattle.small.proofs.wide.Reads as wide-reads
 
 -- src/lib.rt:31:32
 array-read-wide : tie.Need-array-read-wide

@@ -5,7 +5,7 @@ use Rattle.sprites.proofs.early_of.Statement.{statement}
 use Rattle.sprites.proofs.early_of.Tie as tie
 use Rattle.sprites.proofs.early_of.Reads as reads
 use Rattle.sprites.proofs.early_of.Lts as lts
-use Rattle.tile.proofs.is_set.Reads as is-set-reads
+use Rattle.small.proofs.is_set.Reads as is-set-reads
 
 -- src/lib.rt:126:21
 array-read-is-set : tie.Need-array-read-is-set

@@ -7,7 +7,7 @@ use Rattle.sprites.proofs.line_at.Reads as reads
 use Rattle.sprites.proofs.line_at.Lts as lts
 use Rattle.sprites.proofs.pattern_base.Reads as pattern-base-reads
 use Rattle.sprites.proofs.sprite_double_size_src_line.Reads as sprite-double-size-src-line-reads
-use Rattle.tile.proofs.is_set.Reads as is-set-reads
+use Rattle.small.proofs.is_set.Reads as is-set-reads
 
 -- src/lib.rt:186:42
 array-read-is-set : tie.Need-array-read-is-set

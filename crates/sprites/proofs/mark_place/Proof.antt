@@ -4,7 +4,7 @@ use Rattle.sprites.proofs.mark_place.Statement.{statement}
 use Rattle.sprites.proofs.mark_place.Tie as tie
 use Rattle.sprites.proofs.mark_place.Reads as reads
 use Rattle.sprites.proofs.mark_place.Lts as lts
-use Rattle.tile.proofs.wide.Reads as wide-reads
+use Rattle.small.proofs.wide.Reads as wide-reads
 
 -- src/lib.rt:65:15
 wide-requires : tie.Need-wide-requires

@@ -4,7 +4,7 @@ use Rattle.sprites.proofs.sprite_double_size_src_line.Statement.{statem
 use Rattle.sprites.proofs.sprite_double_size_src_line.Tie as tie
 use Rattle.sprites.proofs.sprite_double_size_src_line.Reads as reads
 use Rattle.sprites.proofs.sprite_double_size_src_line.Lts as lts
-use Rattle.tile.proofs.wide.Reads as wide-reads
+use Rattle.small.proofs.wide.Reads as wide-reads
 
 -- src/lib.rt:176:9
 wide-requires : tie.Need-wide-requires

@@ -8,7 +8,7 @@ use Rattle.sprites.proofs.sprite_line_settings_effective.Tie as tie
 use Rattle.sprites.proofs.sprite_line_settings_effective.Reads as reads
 use Rattle.sprites.proofs.sprite_line_settings_effective.Lts as lts
 use Rattle.std.proofs.num.wrapping_sub_u8.Reads as wrapping-sub-u8-reads
-use Rattle.tile.proofs.wide.Reads as wide-reads
+use Rattle.small.proofs.wide.Reads as wide-reads
 
 -- src/lib.rt:96:24
 wrapping-sub-u8-requires : tie.Need-wrapping-sub-u8-requires

@@ -12,7 +12,7 @@ use Rattle.sprites.proofs.minus.Reads as minus-reads
 use Rattle.sprites.proofs.visible_end.Reads as visible-end-reads
 use Rattle.sprites.proofs.visible_seen.Reads as visible-seen-reads
 use Rattle.std.proofs.num.wrapping_sub_u8.Reads as wrapping-sub-u8-reads
-use Rattle.tile.proofs.wide.Reads as wide-reads
+use Rattle.small.proofs.wide.Reads as wide-reads
 
 -- src/lib.rt:74:9
 visible-seen-requires : tie.Need-visible-seen-requires

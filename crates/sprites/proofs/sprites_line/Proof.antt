@@ -31,7 +31,7 @@ use Rattle.sprites.proofs.or.Reads as or-reads
 use Rattle.sprites.proofs.render_sprite.Reads as render-sprite-reads
 use Rattle.sprites.proofs.settings.Reads as settings-reads
 use Rattle.sprites.proofs.table_at.Reads as table-at-reads
-use Rattle.tile.proofs.is_set.Reads as is-set-reads
+use Rattle.small.proofs.is_set.Reads as is-set-reads
 
 abbrev Inv-loop : tie.InvT-loop
 Inv-loop row₀ vram colours area line width reg prio mask₀ table lines e hit₀ count₀ next₀ row mask hit count next =

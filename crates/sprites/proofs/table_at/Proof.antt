@@ -7,7 +7,7 @@ use Rattle.sprites.proofs.table_at.Statement.{statement}
 use Rattle.sprites.proofs.table_at.Tie as tie
 use Rattle.sprites.proofs.table_at.Reads as reads
 use Rattle.sprites.proofs.table_at.Lts as lts
-use Rattle.tile.proofs.wide.Reads as wide-reads
+use Rattle.small.proofs.wide.Reads as wide-reads
 
 -- src/lib.rt:134:16
 array-read-wide : tie.Need-array-read-wide

@@ -7,8 +7,8 @@ use Rattle.sprites.proofs.visible_end.Statement.{statement}
 use Rattle.sprites.proofs.visible_end.Tie as tie
 use Rattle.sprites.proofs.visible_end.Reads as reads
 use Rattle.sprites.proofs.visible_end.Lts as lts
-use Rattle.tile.proofs.smaller.Reads as smaller-reads
-use Rattle.tile.proofs.wide.Reads as wide-reads
+use Rattle.small.proofs.smaller.Reads as smaller-reads
+use Rattle.small.proofs.wide.Reads as wide-reads
 
 -- src/lib.rt:48:9
 returns : tie.Need-returns

@@ -19,51 +19,51 @@ use Rattle.tile.proofs.cut.Reads as cut-reads
 use Rattle.tile.proofs.faced.Reads as faced-reads
 use Rattle.tile.proofs.paint_by.Reads as paint-by-reads
 
--- src/lib.rt:302:14
+-- src/lib.rt:265:14
 shared-slice-read-p0 : tie.Need-shared-slice-read-p0
 shared-slice-read-p0 c = search needs
 
--- src/lib.rt:303:19
+-- src/lib.rt:266:19
 add-p1 : tie.Need-add-p1
 add-p1 c = search needs
 
--- src/lib.rt:303:14
+-- src/lib.rt:266:14
 shared-slice-read-p1 : tie.Need-shared-slice-read-p1
 shared-slice-read-p1 c = search needs
 
--- src/lib.rt:304:19
+-- src/lib.rt:267:19
 add-p2 : tie.Need-add-p2
 add-p2 c = search needs
 
--- src/lib.rt:304:14
+-- src/lib.rt:267:14
 shared-slice-read-p2 : tie.Need-shared-slice-read-p2
 shared-slice-read-p2 c = search needs
 
--- src/lib.rt:305:19
+-- src/lib.rt:268:19
 add-p3 : tie.Need-add-p3
 add-p3 c = search needs
 
--- src/lib.rt:305:14
+-- src/lib.rt:268:14
 shared-slice-read-p3 : tie.Need-shared-slice-read-p3
 shared-slice-read-p3 c = search needs
 
--- src/lib.rt:306:9
+-- src/lib.rt:269:9
 codes-of-requires : tie.Need-codes-of-requires
 codes-of-requires c κs = search needs
 
--- src/lib.rt:307:9
+-- src/lib.rt:270:9
 faced-requires : tie.Need-faced-requires
 faced-requires c κs = search needs
 
--- src/lib.rt:308:50
+-- src/lib.rt:271:50
 mul-paint-by : tie.Need-mul-paint-by
 mul-paint-by c = search needs
 
--- src/lib.rt:308:40
+-- src/lib.rt:271:40
 shr-paint-by : tie.Need-shr-paint-by
 shr-paint-by c = search needs
 
--- src/lib.rt:308:5
+-- src/lib.rt:271:5
 paint-by-requires : tie.Need-paint-by-requires
 paint-by-requires c κs =
     let a = c .before .before .before .before .before .before .before .before .before .before .args in
@@ -76,15 +76,15 @@ paint-by-requires c κs =
           rw (lane-past, q (a .start % 8 + k) e) (code-lt _ _ _ _ _),
     )
 
--- src/lib.rt:309:5
+-- src/lib.rt:272:5
 cut-requires : tie.Need-cut-requires
 cut-requires c κs = search needs
 
--- src/lib.rt:287:1
+-- src/lib.rt:250:1
 same-length : tie.Need-same-length
 same-length c = search needs
 
--- src/lib.rt:287:1
+-- src/lib.rt:250:1
 returns : tie.Need-returns
 returns c =
     let a = c .before .before .before .before .before .before .before .before .before .before .before .before .before .before .args in

@@ -9,34 +9,34 @@ use Rattle.tile.proofs.character_line_sprite.Statement.{statement}
 use Rattle.tile.proofs.character_line_sprite.Tie as tie
 use Rattle.tile.proofs.character_line_sprite.Reads as reads
 use Rattle.tile.proofs.character_line_sprite.Lts as lts
-use Rattle.tile.proofs.both.Reads as both-reads
+use Rattle.small.proofs.both.Reads as both-reads
 use Rattle.tile.proofs.sprite_columns.Reads as sprite-columns-reads
 use Rattle.tile.proofs.sprite_whole.Reads as sprite-whole-reads
 
--- src/lib.rt:390:13
+-- src/lib.rt:353:13
 both-requires : tie.Need-both-requires
 both-requires c κs = search needs
 
--- src/lib.rt:390:41
+-- src/lib.rt:353:41
 add-both : tie.Need-add-both
 add-both c = search needs
 
--- src/lib.rt:390:8
+-- src/lib.rt:353:8
 both-requires-2 : tie.Need-both-requires-2
 both-requires-2 c κs = search needs
 
--- src/lib.rt:391:9
+-- src/lib.rt:354:9
 sprite-whole-requires : tie.Need-sprite-whole-requires
 sprite-whole-requires c κs =
     let t = both (c .before .before .before .both .result) (leb (c .before .before .before .before .before .before .args .x + 8) (c .before .before .before .before .before .before .args .width)) (sym (c .before .before .both2 .ensures) ∙ c .before .if1 .taken) in
     let w : c .before .before .before .before .before .before .args .x + 8 ≤ c .before .before .before .before .before .before .args .width = leb-true _ _ (t .1) in
     (search needs, search needs, w, search needs)
 
--- src/lib.rt:391:9
+-- src/lib.rt:354:9
 same-length : tie.Need-same-length
 same-length c = search needs
 
--- src/lib.rt:391:9
+-- src/lib.rt:354:9
 returns : tie.Need-returns
 returns c =
     let t = both (c .before .before .before .before .before .before .both .result) (leb (c .before .before .before .before .before .before .before .before .before .args .x + 8) (c .before .before .before .before .before .before .before .before .before .args .width)) (sym (c .before .before .before .before .before .both2 .ensures) ∙ c .before .before .before .before .if1 .taken) in
@@ -45,15 +45,15 @@ returns c =
     let n : c .before .before .before .before .before .before .before .before .before .args .end ≡ 8 = eqb-true _ _ (u .1) in
     rw (s, n) (c .before .before .sprite-whole .ensures)
 
--- src/lib.rt:393:5
+-- src/lib.rt:356:5
 sprite-columns-requires : tie.Need-sprite-columns-requires
 sprite-columns-requires c κs = search needs
 
--- src/lib.rt:374:1
+-- src/lib.rt:337:1
 same-length-2 : tie.Need-same-length-2
 same-length-2 c = search needs
 
--- src/lib.rt:374:1
+-- src/lib.rt:337:1
 returns-2 : tie.Need-returns-2
 returns-2 c = search needs
 

@@ -19,54 +19,54 @@ use Rattle.tile.proofs.codes_of.Reads as codes-of-reads
 use Rattle.tile.proofs.faced.Reads as faced-reads
 use Rattle.tile.proofs.paint_whole_by.Reads as paint-whole-by-reads
 
--- src/lib.rt:326:14
+-- src/lib.rt:289:14
 shared-slice-read-p0 : tie.Need-shared-slice-read-p0
 shared-slice-read-p0 c = search needs
 
--- src/lib.rt:327:19
+-- src/lib.rt:290:19
 add-p1 : tie.Need-add-p1
 add-p1 c = search needs
 
--- src/lib.rt:327:14
+-- src/lib.rt:290:14
 shared-slice-read-p1 : tie.Need-shared-slice-read-p1
 shared-slice-read-p1 c = search needs
 
--- src/lib.rt:328:19
+-- src/lib.rt:291:19
 add-p2 : tie.Need-add-p2
 add-p2 c = search needs
 
--- src/lib.rt:328:14
+-- src/lib.rt:291:14
 shared-slice-read-p2 : tie.Need-shared-slice-read-p2
 shared-slice-read-p2 c = search needs
 
--- src/lib.rt:329:19
+-- src/lib.rt:292:19
 add-p3 : tie.Need-add-p3
 add-p3 c = search needs
 
--- src/lib.rt:329:14
+-- src/lib.rt:292:14
 shared-slice-read-p3 : tie.Need-shared-slice-read-p3
 shared-slice-read-p3 c = search needs
 
--- src/lib.rt:330:46
+-- src/lib.rt:293:46
 codes-of-requires : tie.Need-codes-of-requires
 codes-of-requires c κs = search needs
 
--- src/lib.rt:330:5
+-- src/lib.rt:293:5
 paint-whole-by-requires : tie.Need-paint-whole-by-requires
 paint-whole-by-requires c κs =
     let a = c .before .before .before .before .before .before .before .before .before .args in
     let q = lane-code _ _ _ _ (c .codes-of .result) (turned (a .flip)) (c .codes-of .ensures) in
     (search needs, search needs, search needs, λ k h. rw (q k h) (code-lt _ _ _ _ _))
 
--- src/lib.rt:331:5
+-- src/lib.rt:294:5
 faced-requires : tie.Need-faced-requires
 faced-requires c κs = search needs
 
--- src/lib.rt:313:1
+-- src/lib.rt:276:1
 same-length : tie.Need-same-length
 same-length c = search needs
 
--- src/lib.rt:313:1
+-- src/lib.rt:276:1
 returns : tie.Need-returns
 returns c =
     let a = c .before .before .before .before .before .before .before .before .before .before .before .before .before .args in

@@ -7,45 +7,45 @@ use Rattle.tile.proofs.color_code.Statement.{statement}
 use Rattle.tile.proofs.color_code.Tie as tie
 use Rattle.tile.proofs.color_code.Reads as reads
 use Rattle.tile.proofs.color_code.Lts as lts
-use Rattle.tile.proofs.wide.Reads as wide-reads
+use Rattle.small.proofs.wide.Reads as wide-reads
 
--- src/lib.rt:78:18
+-- src/lib.rt:41:18
 cast-wide : tie.Need-cast-wide
 cast-wide c = search needs
 
--- src/lib.rt:78:12
+-- src/lib.rt:41:12
 shr-wide : tie.Need-shr-wide
 shr-wide c = search needs
 
--- src/lib.rt:79:24
+-- src/lib.rt:42:24
 cast-wide-2 : tie.Need-cast-wide-2
 cast-wide-2 c = search needs
 
--- src/lib.rt:79:18
+-- src/lib.rt:42:18
 shr-wide-2 : tie.Need-shr-wide-2
 shr-wide-2 c = search needs
 
--- src/lib.rt:80:24
+-- src/lib.rt:43:24
 cast-wide-3 : tie.Need-cast-wide-3
 cast-wide-3 c = search needs
 
--- src/lib.rt:80:18
+-- src/lib.rt:43:18
 shr-wide-3 : tie.Need-shr-wide-3
 shr-wide-3 c = search needs
 
--- src/lib.rt:81:24
+-- src/lib.rt:44:24
 cast-wide-4 : tie.Need-cast-wide-4
 cast-wide-4 c = search needs
 
--- src/lib.rt:81:18
+-- src/lib.rt:44:18
 shr-wide-4 : tie.Need-shr-wide-4
 shr-wide-4 c = search needs
 
--- src/lib.rt:77:5
+-- src/lib.rt:40:5
 wide-requires : tie.Need-wide-requires
 wide-requires c κs = search needs
 
--- src/lib.rt:72:1
+-- src/lib.rt:35:1
 returns : tie.Need-returns
 returns c =
     let a = c .before .args in

@@ -7,29 +7,29 @@ use Rattle.tile.proofs.cut.Statement.{statement}
 use Rattle.tile.proofs.cut.Tie as tie
 use Rattle.tile.proofs.cut.Reads as reads
 use Rattle.tile.proofs.cut.Lts as lts
-use Rattle.tile.proofs.wide.Reads as wide-reads
+use Rattle.small.proofs.wide.Reads as wide-reads
 
--- src/lib.rt:214:22
+-- src/lib.rt:177:22
 shl-low : tie.Need-shl-low
 shl-low c = search needs
 
--- src/lib.rt:215:7
+-- src/lib.rt:178:7
 wide-requires : tie.Need-wide-requires
 wide-requires c κs = search needs
 
--- src/lib.rt:215:7
+-- src/lib.rt:178:7
 shr-result : tie.Need-shr-result
 shr-result c = search needs
 
--- src/lib.rt:215:6
+-- src/lib.rt:178:6
 rem-result : tie.Need-rem-result
 rem-result c = omega (arith, cut-low (c .before .args .n) (omega arith), pow-pos (c .before .args .n))
 
--- src/lib.rt:215:5
+-- src/lib.rt:178:5
 cast-result : tie.Need-cast-result
 cast-result c = record { fits = cut-lt _ (c .before .args .start) _ (c .wide .ensures .1) }
 
--- src/lib.rt:210:1
+-- src/lib.rt:173:1
 returns : tie.Need-returns
 returns c = rw (c .wide .ensures .0) (cut-is (c .before .args .bits) (c .before .args .start) (c .before .args .n) (c .before .pre))
 

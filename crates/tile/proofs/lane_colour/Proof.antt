@@ -6,24 +6,24 @@ use Rattle.tile.proofs.lane_colour.Tie as tie
 use Rattle.tile.proofs.lane_colour.Reads as reads
 use Rattle.tile.proofs.lane_colour.Lts as lts
 
--- src/lib.rt:249:25
+-- src/lib.rt:212:25
 mul-c : tie.Need-mul-c
 mul-c c = search needs
 
--- src/lib.rt:249:15
+-- src/lib.rt:212:15
 shr-c : tie.Need-shr-c
 shr-c c = search needs
 
--- src/lib.rt:250:5
+-- src/lib.rt:213:5
 mul-result : tie.Need-mul-result
 mul-result c = search needs
 
--- src/lib.rt:250:5
+-- src/lib.rt:213:5
 shared-slice-read-result : tie.Need-shared-slice-read-result
 unfolding lane
 shared-slice-read-result c = c .before .pre .1
 
--- src/lib.rt:245:1
+-- src/lib.rt:208:1
 returns : tie.Need-returns
 unfolding lane
 returns c = refl

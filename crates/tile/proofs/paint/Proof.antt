@@ -20,36 +20,36 @@ Inv-loop row₀ colours x codes n w₀ i₀ row w i = (i ≤ n) × (row ≡ pain
 abbrev μ-loop : tie.MeasureT-loop
 μ-loop row₀ colours x codes n w₀ i₀ row w i = n - i
 
--- src/lib.rt:227:5
+-- src/lib.rt:190:5
 loop-holds : tie.Need-loop-holds Inv-loop μ-loop
 unfolding painted
 loop-holds c = (omega arith, refl, past-zero _, refl)
 
--- src/lib.rt:229:29
+-- src/lib.rt:192:29
 add-pixel-set-full : tie.Need-add-pixel-set-full Inv-loop μ-loop
 add-pixel-set-full c = search needs
 
--- src/lib.rt:229:36
+-- src/lib.rt:192:36
 mul-pixel-set-full : tie.Need-mul-pixel-set-full Inv-loop μ-loop
 mul-pixel-set-full c = search needs
 
--- src/lib.rt:229:36
+-- src/lib.rt:192:36
 shared-slice-read-pixel-set-full : tie.Need-shared-slice-read-pixel-set-full Inv-loop μ-loop
 shared-slice-read-pixel-set-full c = rw (past-lane (c .before .before .before .before .before .before .args .codes) (c .before .before .before .loop .i) (c .before .before .before .loop .inv .2)) (c .before .before .before .before .before .before .pre .2 (c .before .before .before .loop .i) (omega arith))
 
--- src/lib.rt:229:9
+-- src/lib.rt:192:9
 pixel-set-full-requires : tie.Need-pixel-set-full-requires Inv-loop μ-loop
 pixel-set-full-requires c κs = search needs
 
--- src/lib.rt:231:9
+-- src/lib.rt:194:9
 add-i : tie.Need-add-i Inv-loop μ-loop
 add-i c = search needs
 
--- src/lib.rt:227:5
+-- src/lib.rt:190:5
 loop-less : tie.Need-loop-less Inv-loop μ-loop
 loop-less c = search needs
 
--- src/lib.rt:227:5
+-- src/lib.rt:190:5
 loop-again : tie.Need-loop-again Inv-loop μ-loop
 loop-again c =
     let v = c .before .before .before .before .before .before .loop .inv in
@@ -57,11 +57,11 @@ loop-again c =
     let i = c .before .before .before .before .before .before .loop .i in
     (omega arith, painted-step _ _ _ _ (v .1) (ap (at (a .colours .now)) (past-lane (a .codes) i (v .2))) (c .before .before .pixel-set-full .ensures), past-step (a .codes) i (v .2), omega arith)
 
--- src/lib.rt:221:1
+-- src/lib.rt:184:1
 same-length : tie.Need-same-length Inv-loop μ-loop
 same-length c = search needs
 
--- src/lib.rt:221:1
+-- src/lib.rt:184:1
 returns : tie.Need-returns Inv-loop μ-loop
 returns c =
     let v = c .before .loop .inv in

@@ -9,37 +9,37 @@ use Rattle.tile.proofs.paint_by.Reads as reads
 use Rattle.tile.proofs.paint_by.Lts as lts
 use Rattle.tile.proofs.paint.Reads as paint-reads
 
--- src/lib.rt:240:15
+-- src/lib.rt:203:15
 add-top : tie.Need-add-top
 add-top c = search needs
 
--- src/lib.rt:241:16
+-- src/lib.rt:204:16
 mul-paint : tie.Need-mul-paint
 mul-paint c = search needs
 
--- src/lib.rt:241:16
+-- src/lib.rt:204:16
 sub-paint : tie.Need-sub-paint
 sub-paint c = search needs
 
--- src/lib.rt:241:16
+-- src/lib.rt:204:16
 part-paint-start : tie.Need-part-paint-start
 part-paint-start c = search needs
 
--- src/lib.rt:241:16
+-- src/lib.rt:204:16
 part-paint-end : tie.Need-part-paint-end
 part-paint-end c = search needs
 
--- src/lib.rt:241:5
+-- src/lib.rt:204:5
 paint-requires : tie.Need-paint-requires
 paint-requires c κs =
     let a = c .before .before .before .before .args in
     (search needs, search needs, λ k h. rw (half-length (a .colours .now) (a .palette) (c .before .before .before .before .pre .2)) (c .before .before .before .before .pre .3 k h))
 
--- src/lib.rt:236:1
+-- src/lib.rt:199:1
 same-length : tie.Need-same-length
 same-length c = search needs
 
--- src/lib.rt:236:1
+-- src/lib.rt:199:1
 returns : tie.Need-returns
 returns c =
     let a = c .before .before .before .before .before .before .before .args in

@@ -10,27 +10,27 @@ use Rattle.tile.proofs.chosen.Reads as chosen-reads
 use Rattle.tile.proofs.colour_at.Reads as colour-at-reads
 use Rattle.tile.proofs.pixel_set_full.Reads as pixel-set-full-reads
 
--- src/lib.rt:148:13
+-- src/lib.rt:111:13
 mul-k : tie.Need-mul-k
 mul-k c = search needs
 
--- src/lib.rt:149:9
+-- src/lib.rt:112:9
 colour-at-requires : tie.Need-colour-at-requires
 colour-at-requires c κs = search needs
 
--- src/lib.rt:150:28
+-- src/lib.rt:113:28
 chosen-requires : tie.Need-chosen-requires
 chosen-requires c κs = search needs
 
--- src/lib.rt:150:5
+-- src/lib.rt:113:5
 pixel-set-full-requires : tie.Need-pixel-set-full-requires
 pixel-set-full-requires c κs = search needs
 
--- src/lib.rt:144:1
+-- src/lib.rt:107:1
 same-length : tie.Need-same-length
 same-length c = search needs
 
--- src/lib.rt:144:1
+-- src/lib.rt:107:1
 returns : tie.Need-returns
 returns c =
     let a = c .before .before .before .before .before .before .before .before .args in

@@ -6,7 +6,7 @@ use Rattle.tile.proofs.reversed.Tie as tie
 use Rattle.tile.proofs.reversed.Reads as reads
 use Rattle.tile.proofs.reversed.Lts as lts
 
--- src/lib.rt:194:1
+-- src/lib.rt:157:1
 returns : tie.Need-returns
 returns c = reversed-is (c .args .b) _ _ (c .fits .b .fits) refl refl
 

@@ -12,15 +12,15 @@ use Rattle.tile.proofs.spread.Reads as reads
 use Rattle.tile.proofs.spread.Lts as lts
 use Rattle.tile.proofs.long.Reads as long-reads
 
--- src/lib.rt:167:9
+-- src/lib.rt:130:9
 long-requires : tie.Need-long-requires
 long-requires c κs = search needs
 
--- src/lib.rt:168:7
+-- src/lib.rt:131:7
 mul-result : tie.Need-mul-result
 mul-result c = search needs
 
--- src/lib.rt:163:1
+-- src/lib.rt:126:1
 returns : tie.Need-returns
 returns c =
     let e = c .long .ensures .0 in

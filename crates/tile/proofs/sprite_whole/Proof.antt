@@ -18,61 +18,61 @@ use Rattle.tile.proofs.codes_of.Reads as codes-of-reads
 use Rattle.tile.proofs.overlay.Reads as overlay-reads
 use Rattle.tile.proofs.reversed.Reads as reversed-reads
 
--- src/lib.rt:358:14
+-- src/lib.rt:321:14
 shared-slice-read-p0 : tie.Need-shared-slice-read-p0
 shared-slice-read-p0 c = search needs
 
--- src/lib.rt:359:19
+-- src/lib.rt:322:19
 add-p1 : tie.Need-add-p1
 add-p1 c = search needs
 
--- src/lib.rt:359:14
+-- src/lib.rt:322:14
 shared-slice-read-p1 : tie.Need-shared-slice-read-p1
 shared-slice-read-p1 c = search needs
 
--- src/lib.rt:360:19
+-- src/lib.rt:323:19
 add-p2 : tie.Need-add-p2
 add-p2 c = search needs
 
--- src/lib.rt:360:14
+-- src/lib.rt:323:14
 shared-slice-read-p2 : tie.Need-shared-slice-read-p2
 shared-slice-read-p2 c = search needs
 
--- src/lib.rt:361:19
+-- src/lib.rt:324:19
 add-p3 : tie.Need-add-p3
 add-p3 c = search needs
 
--- src/lib.rt:361:14
+-- src/lib.rt:324:14
 shared-slice-read-p3 : tie.Need-shared-slice-read-p3
 shared-slice-read-p3 c = search needs
 
--- src/lib.rt:362:9
+-- src/lib.rt:325:9
 reversed-requires : tie.Need-reversed-requires
 reversed-requires c κs = search needs
 
--- src/lib.rt:363:24
+-- src/lib.rt:326:24
 sub-marks : tie.Need-sub-marks
 sub-marks c = search needs
 
--- src/lib.rt:364:26
+-- src/lib.rt:327:26
 sub-drawn : tie.Need-sub-drawn
 sub-drawn c = search needs
 
--- src/lib.rt:365:30
+-- src/lib.rt:328:30
 codes-of-requires : tie.Need-codes-of-requires
 codes-of-requires c κs = search needs
 
--- src/lib.rt:365:5
+-- src/lib.rt:328:5
 overlay-requires : tie.Need-overlay-requires
 overlay-requires c κs =
     let q = lane-code _ _ _ _ (c .codes-of .result) (turned false) (c .codes-of .ensures) in
     (search needs, search needs, λ k h. rw (q k h) (code-lt _ _ _ _ _))
 
--- src/lib.rt:344:1
+-- src/lib.rt:307:1
 same-length : tie.Need-same-length
 same-length c = search needs
 
--- src/lib.rt:344:1
+-- src/lib.rt:307:1
 returns : tie.Need-returns
 unfolding codeAt
 returns c =
