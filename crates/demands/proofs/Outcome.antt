@@ -15,6 +15,7 @@ use Rattle.colour.proofs.palette_recompute
 use Rattle.raster.proofs.Raster.advance
 use Rattle.raster.proofs.Raster.line_interrupt_is_up
 use Rattle.raster.proofs.Raster.line_interrupt_update
+use Rattle.picture.proofs.area_from
 use Rattle.small.proofs.wide
 use Rattle.small.proofs.smaller
 use Rattle.small.proofs.weight
@@ -28,11 +29,14 @@ use Rattle.tile.proofs.character_line_sprite_bitmap
 use Rattle.background.proofs.names_at
 use Rattle.background.proofs.render_background_line
 use Rattle.row.proofs.render_line
+use Rattle.vdp.proofs.refusal_number
 use Rattle.vdp.proofs.VdpState.new
 use Rattle.vdp.proofs.VdpState.with_raster
 use Rattle.vdp.proofs.VdpState.with_cache
 use Rattle.vdp.proofs.VdpState.out
 use Rattle.vdp.proofs.VdpState.input
+use Rattle.step.proofs.interrupt_number
+use Rattle.step.proofs.report_number
 use Rattle.step.proofs.row_points
 use Rattle.step.proofs.frame_points
 use Rattle.step.proofs.row_step
@@ -96,6 +100,10 @@ line-interrupt-is-up-once κs a q z z′ w w′ e f = (e ∙ sym f, refl)
 
 pub line-interrupt-update-once : OneOutcome 0 line_interrupt_update.Kinds.ps line_interrupt_update.Kinds.r line_interrupt_update.Reads.Asked line_interrupt_update.Reads.Learnt
 line-interrupt-update-once κs a q z z′ w w′ e f = (e ∙ sym f, refl)
+
+-- ---- picture
+pub area-from-once : OneOutcome 0 area_from.Kinds.ps area_from.Kinds.r area_from.Reads.Asked area_from.Reads.Learnt
+area-from-once κs a q z z′ w w′ e f = (e ∙ sym f, refl)
 
 -- ---- small
 pub wide-once : OneOutcome 0 wide.Kinds.ps wide.Kinds.r wide.Reads.Asked wide.Reads.Learnt
@@ -166,6 +174,9 @@ pub render-line-once : OneOutcome 3 render_line.Kinds.ps render_line.Kinds.r ren
 render-line-once κs a q z z′ w w′ e f = (e .status ∙ sym (f .status), λ i. ((e .bytes ∙ sym (f .bytes)) i, w .1))
 
 -- ---- vdp
+pub refusal-number-once : OneOutcome 0 refusal_number.Kinds.ps refusal_number.Kinds.r refusal_number.Reads.Asked refusal_number.Reads.Learnt
+refusal-number-once κs a q z z′ w w′ e f = (e .0 ∙ sym (f .0), refl)
+
 pub new-once : OneOutcome 0 new.Kinds.ps new.Kinds.r new.Reads.Asked new.Reads.Learnt
 new-once κs a q z z′ w w′ e f = (e ∙ sym f, refl)
 
@@ -182,6 +193,12 @@ pub input-once : OneOutcome 1 input.Kinds.ps input.Kinds.r input.Reads.Asked inp
 input-once κs a q z z′ w w′ e f = (e ∙ sym f, refl)
 
 -- ---- step
+pub interrupt-number-once : OneOutcome 0 interrupt_number.Kinds.ps interrupt_number.Kinds.r interrupt_number.Reads.Asked interrupt_number.Reads.Learnt
+interrupt-number-once κs a q z z′ w w′ e f = (e .0 ∙ sym (f .0), refl)
+
+pub report-number-once : OneOutcome 0 report_number.Kinds.ps report_number.Kinds.r report_number.Reads.Asked report_number.Reads.Learnt
+report-number-once κs a q z z′ w w′ e f = (e .0 ∙ sym (f .0), refl)
+
 -- the points of a step: each by the step of one device that reads as the arguments say
 pub row-points-once : OneOutcome 3 row_points.Kinds.ps row_points.Kinds.r row_points.Reads.Asked row_points.Reads.Learnt
 row-points-once κs a q z z′ w w′ e f =

@@ -8,10 +8,8 @@ ghost use Rattle.vdp.specs.declared.VdpState.{VdpState};
 ghost use Rattle.block.specs.Block.{stateOf, blockOf, Sized};
 ghost use Rattle.step.specs.Step.{interruptNumber, reportNumber, coloursNow};
 ghost use Rattle.step.specs.Points.{cleaned, joined};
-ghost use Rattle.picture.specs.Area.{areaFrom};
 ghost use Rattle.face.specs.Face.{rowBits, stepWord, newCall, outCall, inputCall, stepCall, rowStepCall, dumpCall, Leaves};
 ghost use Rattle.face.specs.Version.{version};
-use picture::RenderArea;
 use step::DisplayRefresh;
 use step::DrawnRow;
 use step::Points;
@@ -19,44 +17,23 @@ use step::VdpInt;
 use vdp::Refusal;
 use vdp::VdpState;
 
-// The number of a refusal.
+// The parts of a step's answer, as parts of a word: refusal, interrupt, report, and the row with the drawn bit.
 fn number(r: Refusal) -> u32
-    ensures { λ n. ⌜ (n ≡ refusalNumber r) × (n < 12) ⌝ }
+    ensures { λ n. ⌜ (n ≡ refusalNumber r) × (n < 256) ⌝ }
 {
-    match r {
-        Refusal::Accepted => 0,
-        Refusal::UnknownPort => 1,
-        Refusal::HorizontalCounter => 2,
-        Refusal::HighRegister => 3,
-        Refusal::NothingChosen => 4,
-        Refusal::PaletteRead => 5,
-        Refusal::NoPaletteByte => 6,
-        Refusal::OutsideMemory => 7,
-        Refusal::VramLength => 8,
-        Refusal::PixelLength => 9,
-        Refusal::BlockMalformed => 10,
-        Refusal::UnknownArea => 11,
-    }
+    vdp::refusal_number(r) as u32
 }
 
-// The parts of a step's answer: interrupt, report, and the row with the drawn bit.
 fn interrupt_number(i: VdpInt) -> u32
     ensures { λ n. ⌜ (n ≡ interruptNumber i) × (n < 2) ⌝ }
 {
-    match i {
-        VdpInt::NoInterrupt => 0,
-        VdpInt::InterruptGenerated => 1,
-    }
+    step::interrupt_number(i) as u32
 }
 
 fn report_number(r: DisplayRefresh) -> u32
     ensures { λ n. ⌜ (n ≡ reportNumber r) × (n < 3) ⌝ }
 {
-    match r {
-        DisplayRefresh::NoDisplay => 0,
-        DisplayRefresh::ScreenDone => 1,
-        DisplayRefresh::ScreenDoneNoRefresh => 2,
-    }
+    step::report_number(r) as u32
 }
 
 fn row_bits(r: DrawnRow) -> u32
@@ -79,17 +56,6 @@ fn word_of(points: Points) -> u32
         + 256 * interrupt_number(interrupt)
         + 512 * report_number(report)
         + row_bits(row)
-}
-
-// The area of a number that is not above 1.
-fn area_from(n: u8) -> RenderArea
-    ensures { λ r. ⌜ r ≡ areaFrom n ⌝ }
-{
-    if n == 0 {
-        RenderArea::VisibleOnly
-    } else {
-        RenderArea::EffectiveArea
-    }
 }
 
 // A fresh device into the block.
@@ -190,7 +156,7 @@ pub extern "C" fn vdp_step(state: &mut [u8], vram: &[u8], frame: &mut [u8], area
         &colours,
         vram,
         frame,
-        area_from(area),
+        picture::area_from(area),
     );
     store(state, points, &colours);
     word_of(points)
@@ -215,7 +181,7 @@ pub extern "C" fn vdp_row_step(state: &mut [u8], vram: &[u8], row: &mut [u8], ar
         &colours,
         vram,
         row,
-        area_from(area),
+        picture::area_from(area),
     );
     store(state, points, &colours);
     word_of(points)

@@ -1,9 +1,22 @@
 // The rules of the picture are in specs/. Here is what the code and the rules share.
+ghost use mathlib.Core.Path.{_≡_};
+ghost use Rattle.picture.specs.Area.{areaFrom};
 
 // What a step draws: the part that the screen shows, or all that the chip makes.
 pub enum RenderArea {
     VisibleOnly,
     EffectiveArea,
+}
+
+// The area of a number that is not above 1.
+pub fn area_from(n: u8) -> RenderArea
+    ensures { λ r. ⌜ r ≡ areaFrom n ⌝ }
+{
+    if n == 0 {
+        RenderArea::VisibleOnly
+    } else {
+        RenderArea::EffectiveArea
+    }
 }
 
 // Where a sprite stands on a row: its column c shows tile pixel start + c, below end, at screen column x + c. Column c is tested for priority at

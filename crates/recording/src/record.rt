@@ -1,7 +1,6 @@
 // The records of a recording (R7.9).
 ghost use mathlib.Core.Path.{_≡_};
 ghost use Prim.Native.Nat.{_+_, _*_};
-ghost use Rattle.picture.specs.Area.{areaFrom};
 ghost use Rattle.recording.specs.Record.{recordAt};
 use picture::RenderArea;
 
@@ -19,17 +18,6 @@ fn word(high: u8, low: u8) -> u16
     ensures { λ r. ⌜ r ≡ 256 * high + low ⌝ }
 {
     256 * (high as u16) + (low as u16)
-}
-
-// The area of this number, 0 or 1.
-fn area_of(x: u8) -> RenderArea
-    ensures { λ r. ⌜ r ≡ areaFrom x ⌝ }
-{
-    if x == 0 {
-        RenderArea::VisibleOnly
-    } else {
-        RenderArea::EffectiveArea
-    }
 }
 
 // The record at this offset.
@@ -56,7 +44,7 @@ pub fn record_at(s: &[u8], at: usize) -> Record
             if 1 < x {
                 return Record::Bad;
             }
-            Record::Step(area_of(x))
+            Record::Step(picture::area_from(x))
         }
         _ => Record::Bad,
     }

@@ -82,44 +82,23 @@ fn put_decimal(out: &mut [u8], at: usize, n: usize) -> usize
     )
 }
 
-// The number of a refusal (R2.1).
+// The number of a refusal, of an interrupt and of a display report, to be printed: the last two have one digit.
 fn number(refusal: Refusal) -> usize
     ensures { λ n. ⌜ n ≡ refusalNumber refusal ⌝ }
 {
-    match refusal {
-        Refusal::Accepted => 0,
-        Refusal::UnknownPort => 1,
-        Refusal::HorizontalCounter => 2,
-        Refusal::HighRegister => 3,
-        Refusal::NothingChosen => 4,
-        Refusal::PaletteRead => 5,
-        Refusal::NoPaletteByte => 6,
-        Refusal::OutsideMemory => 7,
-        Refusal::VramLength => 8,
-        Refusal::PixelLength => 9,
-        Refusal::BlockMalformed => 10,
-        Refusal::UnknownArea => 11,
-    }
+    vdp::refusal_number(refusal) as usize
 }
 
-// The number of an interrupt, and of a display report (R7.7): each one digit.
 fn interrupt_number(interrupt: VdpInt) -> usize
     ensures { λ n. ⌜ (n ≡ interruptNumber interrupt) × (n < 10) ⌝ }
 {
-    match interrupt {
-        VdpInt::NoInterrupt => 0,
-        VdpInt::InterruptGenerated => 1,
-    }
+    step::interrupt_number(interrupt) as usize
 }
 
 fn report_number(report: DisplayRefresh) -> usize
     ensures { λ n. ⌜ (n ≡ reportNumber report) × (n < 10) ⌝ }
 {
-    match report {
-        DisplayRefresh::NoDisplay => 0,
-        DisplayRefresh::ScreenDone => 1,
-        DisplayRefresh::ScreenDoneNoRefresh => 2,
-    }
+    step::report_number(report) as usize
 }
 
 // A word with a space after it, a number, and the end of the line.

@@ -2,7 +2,7 @@
 // And the view of a frame's row, and the dump of all tiles.
 ghost use mathlib.Core.Path.{_≡_};
 ghost use mathlib.Core.Bool.{cond, _&&_, _||_};
-ghost use Prim.Native.Nat.{_≤_};
+ghost use Prim.Native.Nat.{_≤_, _<_};
 ghost use lib.Bits.{bitOr};
 ghost use lib.Dec.{eqb};
 ghost use lib.ListN.{length};
@@ -14,7 +14,7 @@ ghost use Rattle.raster.specs.Raster.{lineInterrupt};
 ghost use Rattle.vdp.specs.declared.VdpState.{VdpState};
 ghost use Rattle.step.specs.declared.VdpInt.the-variants.{NoInterrupt, InterruptGenerated};
 ghost use Rattle.step.specs.declared.DisplayRefresh.the-variants.{NoDisplay, ScreenDone, ScreenDoneNoRefresh};
-ghost use Rattle.step.specs.Step.{rowOn, coloursNow};
+ghost use Rattle.step.specs.Step.{interruptNumber, reportNumber, rowOn, coloursNow};
 ghost use Rattle.step.specs.Points.{RowIn, bitsOf, bytesOf, refusedPoints, Reads, cleaned, joined};
 ghost use Rattle.step.specs.Dump.{DumpLeaves};
 ghost use Rattle.step.specs.Frame.{startOf, RowStepLeaves, FrameStepLeaves, rowView};
@@ -34,6 +34,28 @@ pub enum DisplayRefresh {
     NoDisplay,
     ScreenDone,
     ScreenDoneNoRefresh,
+}
+
+// The numbers of both (R7.7).
+pub fn interrupt_number(interrupt: VdpInt) -> u8
+    ensures { λ n. ⌜ n ≡ interruptNumber interrupt ⌝ }
+    ensures { λ n. ⌜ n < 2 ⌝ }
+{
+    match interrupt {
+        VdpInt::NoInterrupt => 0,
+        VdpInt::InterruptGenerated => 1,
+    }
+}
+
+pub fn report_number(report: DisplayRefresh) -> u8
+    ensures { λ n. ⌜ n ≡ reportNumber report ⌝ }
+    ensures { λ n. ⌜ n < 3 ⌝ }
+{
+    match report {
+        DisplayRefresh::NoDisplay => 0,
+        DisplayRefresh::ScreenDone => 1,
+        DisplayRefresh::ScreenDoneNoRefresh => 2,
+    }
 }
 
 // The row that a step draws, if it draws one.

@@ -3,6 +3,7 @@ ghost use mathlib.Core.Path.{_≡_};
 ghost use Prim.Native.Nat.{ℕ, _+_, _-_, _*_, _%_, _/_, _<_, _≤_};
 ghost use lib.ListN.{length};
 ghost use Rattle.vdp.specs.Device.{fresh, withCommand, withDest, withPaletteByte, withRaster, withCache};
+ghost use Rattle.vdp.specs.Refusals.{refusalNumber};
 ghost use Rattle.vdp.specs.Ports.{commandWrite, paletteWrite, dataWrite, dataRead, statusRead, WriteLeaves, portRead};
 use raster::Raster;
 
@@ -33,6 +34,27 @@ pub enum Refusal {
     PixelLength,
     BlockMalformed,
     UnknownArea,
+}
+
+// The number of a refusal (R2.1).
+pub fn refusal_number(refusal: Refusal) -> u8
+    ensures { λ n. ⌜ n ≡ refusalNumber refusal ⌝ }
+    ensures { λ n. ⌜ n < 256 ⌝ }
+{
+    match refusal {
+        Refusal::Accepted => 0,
+        Refusal::UnknownPort => 1,
+        Refusal::HorizontalCounter => 2,
+        Refusal::HighRegister => 3,
+        Refusal::NothingChosen => 4,
+        Refusal::PaletteRead => 5,
+        Refusal::NoPaletteByte => 6,
+        Refusal::OutsideMemory => 7,
+        Refusal::VramLength => 8,
+        Refusal::PixelLength => 9,
+        Refusal::BlockMalformed => 10,
+        Refusal::UnknownArea => 11,
+    }
 }
 
 // The device: registers, palette, cached colours and the small fields.

@@ -12,7 +12,7 @@ use Rattle.face.proofs.vdp_row_step.Lts as lts
 use Rattle.block.proofs.raster_in.Reads as raster-in-reads
 use Rattle.block.proofs.registers.Reads as registers-reads
 use Rattle.block.proofs.well_formed.Reads as well-formed-reads
-use Rattle.face.proofs.area_from.Reads as area-from-reads
+use Rattle.picture.proofs.area_from.Reads as area-from-reads
 use Rattle.face.proofs.colours_of.Reads as colours-of-reads
 use Rattle.face.proofs.number.Reads as number-reads
 use Rattle.face.proofs.store.Reads as store-reads

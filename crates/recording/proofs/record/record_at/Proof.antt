@@ -6,7 +6,7 @@ use Rattle.recording.proofs.record.record_at.Statement.{statement}
 use Rattle.recording.proofs.record.record_at.Tie as tie
 use Rattle.recording.proofs.record.record_at.Reads as reads
 use Rattle.recording.proofs.record.record_at.Lts as lts
-use Rattle.recording.proofs.record.area_of.Reads as area-of-reads
+use Rattle.picture.proofs.area_from.Reads as area-from-reads
 use Rattle.recording.proofs.record.word.Reads as word-reads
 
 -- src/record.rt:37:9
@@ -66,8 +66,8 @@ unfolding recordAt marked
 returns-4 c = simp (lt-leb _ _ (c .before .before .before .before .before .before .before .if1 .left), le-ltb _ _ (c .before .before .before .before .before .before .if2 .left), sym (c .before .before .word .ensures), c .before .match .keys3, lt-ltb _ _ (c .if4 .taken))
 
 -- src/record.rt:56:26
-area-of-requires : tie.Need-area-of-requires
-area-of-requires c κs = search needs
+area-from-requires : tie.Need-area-from-requires
+area-from-requires c κs = search needs
 
 -- src/record.rt:33:1
 returns-5 : tie.Need-returns-5
@@ -82,7 +82,7 @@ returns-6 c = simp (lt-leb _ _ (c .before .before .before .before .before .befor
 -- src/record.rt:33:1
 returns-7 : tie.Need-returns-7
 unfolding recordAt marked
-returns-7 c = simp (lt-leb _ _ (c .before .before .before .before .before .before .before .before .if1 .left), le-ltb _ _ (c .before .before .before .before .before .before .before .if2 .left), sym (c .before .before .before .word .ensures), c .before .before .match .keys3, le-ltb _ _ (c .before .if4 .left), c .area-of .ensures)
+returns-7 c = simp (lt-leb _ _ (c .before .before .before .before .before .before .before .before .if1 .left), le-ltb _ _ (c .before .before .before .before .before .before .before .if2 .left), sym (c .before .before .before .word .ensures), c .before .before .match .keys3, le-ltb _ _ (c .before .if4 .left), c .area-from .ensures)
 
 -- src/record.rt:33:1
 returns-8 : tie.Need-returns-8
@@ -106,7 +106,7 @@ record-at-spec =
     add-t15
     shared-slice-read-t17
     returns-4
-    area-of-requires
+    area-from-requires
     returns-5
     returns-6
     returns-7

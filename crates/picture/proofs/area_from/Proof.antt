@@ -1,14 +1,14 @@
 use borrow.Author.Tests.{eq-eqb, ne-eqb}
-use Rattle.face.proofs.area_from.Statement.{statement}
-use Rattle.face.proofs.area_from.Tie as tie
-use Rattle.face.proofs.area_from.Reads as reads
-use Rattle.face.proofs.area_from.Lts as lts
+use Rattle.picture.proofs.area_from.Statement.{statement}
+use Rattle.picture.proofs.area_from.Tie as tie
+use Rattle.picture.proofs.area_from.Reads as reads
+use Rattle.picture.proofs.area_from.Lts as lts
 
--- src/lib.rt:76:1
+-- src/lib.rt:12:1
 returns : tie.Need-returns
 returns c = simp (eq-eqb _ _ (c .if1 .taken))
 
--- src/lib.rt:76:1
+-- src/lib.rt:12:1
 returns-2 : tie.Need-returns-2
 returns-2 c = simp (ne-eqb _ _ (c .if1 .left))
 
