@@ -25,7 +25,7 @@ use Rattle.vdp.specs.Refusals.{whole}
 use Rattle.step.specs.declared.Stepped.{Stepped}
 use Rattle.step.specs.declared.DisplayRefresh.the-variants.{NoDisplay, ScreenDone, ScreenDoneNoRefresh}
 use Rattle.step.specs.declared.DrawnRow.the-variants.{Drawn}
-use Rattle.step.specs.Step.{register, lineOf, advance, rowOn, reportOf, stepped}
+use Rattle.step.specs.Step.{register, lineOf, counterUp, rowOn, reportOf, stepped}
 use Rattle.step.specs.Frame.{drawnBytes, FrameStepLeaves}
 use Rattle.step.proofs.Rows.{row-low, row-line, row-at}
 use Rattle.step.proofs.Laws.{stepped-raster, frame-step-length, frame-step-past, frame-step-other, frame-step-here}
@@ -93,7 +93,7 @@ module _ {a : RenderArea} (r : Run a) where
   ready-sound i = sound (until r i)
 
   -- the scroll that step i draws with
-  pub scroll-at : (i : ℕ) → advance (dev i) .raster .«vertical_scroll» ≡ latched (through r i)
+  pub scroll-at : (i : ℕ) → counterUp (dev i) .raster .«vertical_scroll» ≡ latched (through r i)
   unfolding ticked counted
   scroll-at i =
       sym (ap (λ (x : Raster). x .«vertical_scroll») (raster-left i))
@@ -104,7 +104,7 @@ module _ {a : RenderArea} (r : Run a) where
   unfolding ticked counted advanced
   line-of i = ap (λ (x : Raster). x .«v_counter») (raster-left i)
 
-  row-of : (i : ℕ) → answer r i .row ≡ rowOn a (lineOf (advance (dev i)))
+  row-of : (i : ℕ) → answer r i .row ≡ rowOn a (lineOf (counterUp (dev i)))
   unfolding stepped
   row-of i = ap (λ (s : Stepped). s .row) (steps i)
 
@@ -131,13 +131,13 @@ module _ {a : RenderArea} (r : Run a) where
   pub still : (i : ℕ) → lineOf (ready r (suc i)) ≡ lineSet r i
   still i = ap (λ (x : Raster). x .«v_counter») (raster-next i ∙ sym (raster-left i))
 
-  report-of : (i : ℕ) → answer r i .report ≡ reportOf (advance (dev i))
+  report-of : (i : ℕ) → answer r i .report ≡ reportOf (counterUp (dev i))
   unfolding stepped
   report-of i = ap (λ (s : Stepped). s .report) (steps i)
 
   end-once : ExactlyOnce passLength (λ i. answer r i .report ≢ NoDisplay)
   unfolding advanced
-  end-once = once-iff (λ i. rw (report-of i) (end-line (advance (dev i)))) (lines 193 (inl (omega arith)) (omega arith))
+  end-once = once-iff (λ i. rw (report-of i) (end-line (counterUp (dev i)))) (lines 193 (inl (omega arith)) (omega arith))
 
   -- ---- the frame
   pub same-length : (i : ℕ) → length (frameAt r i) ≡ length (r .frame)
@@ -162,7 +162,7 @@ module _ {a : RenderArea} (r : Run a) where
   just-drawn i y e =
       let size : frameSize a ≤ length (frameAt r i) = omega (arith, accepted i .room, same-length i) in
       frame-step-here a (r .vram i) (dev i) (frameAt r i) y (accepted i .memory) size (sym (row-of i) ∙ e)
-      ∙ rw (colours-now (advance (dev i)) (ready-sound i .clean), scroll-at i)
+      ∙ rw (colours-now (counterUp (dev i)) (ready-sound i .clean), scroll-at i)
 
   -- a row that n steps from step i on do not draw
   undrawn :

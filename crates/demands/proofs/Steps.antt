@@ -20,7 +20,7 @@ use Rattle.vdp.specs.Refusals.{whole}
 use Rattle.step.specs.declared.DrawnRow.{DrawnRow}
 use Rattle.step.specs.declared.DrawnRow.the-variants.{NoRow, Drawn}
 use Rattle.step.specs.declared.VdpInt.the-variants.{InterruptGenerated, NoInterrupt}
-use Rattle.step.specs.Step.{register, lineOf, advance, rowOn, coloursNow, stepped, refusedStep, stepWith}
+use Rattle.step.specs.Step.{register, lineOf, counterUp, rowOn, coloursNow, stepped, refusedStep, stepWith}
 use Rattle.step.proofs.Laws.{stepped-refusal, dirtyAfter, cacheAfter, stepped-dirty, stepped-cache, stepped-cram, stepped-interrupt, step-accepted, step-left}
 use Rattle.demands.proofs.Kept.{Clean}
 
@@ -35,7 +35,7 @@ drawn-clean (Drawn y) d k = λ _. colours-now d k
 
 pub stepped-clean : (a : RenderArea) (vram : List ℕ) (d : VdpState) → Clean d → Clean (stepped a vram d .vdp)
 stepped-clean a vram d k =
-    rw (stepped-dirty a vram d refl, stepped-cache a vram d refl, stepped-cram a vram d) (drawn-clean (rowOn a (lineOf (advance d))) d k)
+    rw (stepped-dirty a vram d refl, stepped-cache a vram d refl, stepped-cram a vram d) (drawn-clean (rowOn a (lineOf (counterUp d))) d k)
 
 -- ---- the interrupt
 raised : (b : Bool) → (cond b InterruptGenerated NoInterrupt ≡ InterruptGenerated) ↔ (b ≡ true)

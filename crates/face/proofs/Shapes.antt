@@ -19,7 +19,7 @@ use Rattle.block.proofs.Shapes.{carried}
 use Rattle.step.specs.declared.DrawnRow.{DrawnRow}
 use Rattle.step.specs.declared.DrawnRow.the-variants.{NoRow, Drawn}
 use Rattle.step.specs.declared.Stepped.{Stepped}
-use Rattle.step.specs.Step.{lineOf, advance, rowOn, coloursNow, drawnBy, draw, endScreen, stepped, stepWith}
+use Rattle.step.specs.Step.{lineOf, counterUp, rowOn, coloursNow, drawnBy, rowDrawn, endScreen, stepped, stepWith}
 
 -- a colour of two bytes fits 32 bits
 colour-low : (a b : ℕ) → a < 256 → colour a b < 4294967296
@@ -57,7 +57,7 @@ ended-shape d g = carried g _ _ _ _ _ _ _
 
 pub step-shape : (a : RenderArea) (m : List ℕ) (d : VdpState) → Shape d → Shape (stepped a m d .vdp)
 unfolding stepped
-step-shape a m d g = carried (ended-shape (draw a m (advance d)) (drawn-shape (rowOn a (lineOf (advance d))) a m (advance d) (carried g _ _ _ _ _ _ _))) _ _ _ _ _ _ _
+step-shape a m d g = carried (ended-shape (rowDrawn a m (counterUp d)) (drawn-shape (rowOn a (lineOf (counterUp d))) a m (counterUp d) (carried g _ _ _ _ _ _ _))) _ _ _ _ _ _ _
 
 abbrev ShapeS : Stepped → Type 0
 ShapeS s = Shape (s .vdp)

@@ -31,7 +31,7 @@ use Rattle.step.specs.declared.VdpInt.the-variants.{NoInterrupt, Interru
 use Rattle.step.specs.declared.DrawnRow.{DrawnRow}
 use Rattle.step.specs.declared.DrawnRow.the-variants.{NoRow, Drawn}
 use Rattle.step.specs.declared.Stepped.{Stepped}
-use Rattle.step.specs.Step.{register, lineOf, advance, rowOn, coloursNow, rowPicture, drawnBy, atEnd, endScreen, reportOf, interruptOf, countLine, stepped, refusedStep, stepWith, stepLines}
+use Rattle.step.specs.Step.{register, lineOf, counterUp, rowOn, coloursNow, rowPicture, drawnBy, atEnd, endScreen, reportOf, interruptOf, countLine, stepped, refusedStep, stepWith, stepLines}
 use Rattle.step.specs.Frame.{drawnBytes, rowWith, frameWith, rowAfter, frameAfter}
 use Rattle.step.specs.Dump.{dumpSize, dumpRefusal, dumpLines, dumpAfter}
 use Rattle.step.proofs.Rows.{row-low, frame-rows}
@@ -86,23 +86,23 @@ cacheAfter (Drawn y) d = coloursNow d
 module _ (a : RenderArea) (vram : List ℕ) (d : VdpState) where
   abbrev left : DrawnRow → VdpState
   left r =
-      device (statusAfter r a vram (advance d)) (d .reg) (ticked (register d) (d .raster)) (d .addr) (d .«vram_buffer») (d .dest) (d .cram) (d .«cmd_byte1»)
+      device (statusAfter r a vram (counterUp d)) (d .reg) (ticked (register d) (d .raster)) (d .addr) (d .«vram_buffer») (d .dest) (d .cram) (d .«cmd_byte1»)
       (d .«cram_byte1») (dirtyAfter r d) (cacheAfter r d)
 
-  left-by : (r : DrawnRow) → countLine (endScreen (drawnBy r a vram (advance d))) ≡ left r
+  left-by : (r : DrawnRow) → countLine (endScreen (drawnBy r a vram (counterUp d))) ≡ left r
   unfolding drawnBy endScreen ticked
   left-by NoRow = refl
   left-by (Drawn y) = refl
 
-  module _ {r : DrawnRow} (e : rowOn a (lineOf (advance d)) ≡ r) where
+  module _ {r : DrawnRow} (e : rowOn a (lineOf (counterUp d)) ≡ r) where
     pub stepped-vdp :
         stepped a vram d .vdp
-        ≡ device (statusAfter r a vram (advance d)) (d .reg) (ticked (register d) (d .raster)) (d .addr) (d .«vram_buffer») (d .dest) (d .cram)
+        ≡ device (statusAfter r a vram (counterUp d)) (d .reg) (ticked (register d) (d .raster)) (d .addr) (d .«vram_buffer») (d .dest) (d .cram)
         (d .«cmd_byte1») (d .«cram_byte1») (dirtyAfter r d) (cacheAfter r d)
     unfolding stepped
     stepped-vdp = rw e (left-by r)
 
-    pub stepped-status : stepped a vram d .vdp .status ≡ statusAfter r a vram (advance d)
+    pub stepped-status : stepped a vram d .vdp .status ≡ statusAfter r a vram (counterUp d)
     stepped-status = ap (λ (x : VdpState). x .status) stepped-vdp
 
     pub stepped-cache : stepped a vram d .vdp .«color_cache» ≡ cacheAfter r d
@@ -119,14 +119,14 @@ module _ (a : RenderArea) (vram : List ℕ) (d : VdpState) where
   unfolding stepped
   stepped-refusal = refl
 
-  pub stepped-report : stepped a vram d .report ≡ reportOf (advance d)
+  pub stepped-report : stepped a vram d .report ≡ reportOf (counterUp d)
   unfolding stepped
   stepped-report = refl
 
   pub stepped-raster : stepped a vram d .vdp .raster ≡ ticked (register d) (d .raster)
   stepped-raster = ap (λ (x : VdpState). x .raster) (stepped-vdp refl)
 
-  pub stepped-line : lineOf (stepped a vram d .vdp) ≡ lineOf (advance d)
+  pub stepped-line : lineOf (stepped a vram d .vdp) ≡ lineOf (counterUp d)
   unfolding ticked counted
   stepped-line = ap (λ (x : Raster). x .«v_counter») stepped-raster
 
@@ -153,7 +153,7 @@ module _ (a : RenderArea) (vram : List ℕ) (d : VdpState) where
 
   -- the interrupt, by the status that the step leaves and the line count before it goes down
   interrupt-by :
-      (r : DrawnRow) → let e = endScreen (drawnBy r a vram (advance d)) in
+      (r : DrawnRow) → let e = endScreen (drawnBy r a vram (counterUp d)) in
       interruptOf e
       ≡ cond ((bit (register d 1) 5 && bit (e .status) 7) || lineInterrupt (register d) (advanced (register d) (d .raster))) InterruptGenerated NoInterrupt
   unfolding drawnBy endScreen interruptOf
@@ -165,7 +165,7 @@ module _ (a : RenderArea) (vram : List ℕ) (d : VdpState) where
       ≡ cond ((bit (register d 1) 5 && bit (stepped a vram d .vdp .status) 7) || lineInterrupt (register d) (advanced (register d) (d .raster)))
       InterruptGenerated NoInterrupt
   unfolding stepped
-  stepped-interrupt = interrupt-by (rowOn a (lineOf (advance d)))
+  stepped-interrupt = interrupt-by (rowOn a (lineOf (counterUp d)))
 
 -- ---- bit 7 of the status: set before, or by the end of the screen
 low-bits : (hit ninth : Bool) → bit (cond hit 32 0 + cond ninth 64 0) 7 ≡ false
@@ -186,12 +186,12 @@ unfolding bit
 end-bit true s = bit-or s 0x80 7
 end-bit false s = sym (or-false (bit s 7))
 
-pub stepped-end : (a : RenderArea) (vram : List ℕ) (d : VdpState) → bit (stepped a vram d .vdp .status) 7 ≡ (bit (d .status) 7 || atEnd (advance d))
+pub stepped-end : (a : RenderArea) (vram : List ℕ) (d : VdpState) → bit (stepped a vram d .vdp .status) 7 ≡ (bit (d .status) 7 || atEnd (counterUp d))
 stepped-end a vram d =
-    let r = rowOn a (lineOf (advance d)) in
+    let r = rowOn a (lineOf (counterUp d)) in
     ap (λ (s : ℕ). bit s 7) (stepped-status a vram d {r = r} refl)
-    ∙ end-bit (atEnd (advance d)) (statusDrawn r a vram (advance d))
-    ∙ ap (λ (b : Bool). b || atEnd (advance d)) (drawn-end r a vram (advance d))
+    ∙ end-bit (atEnd (counterUp d)) (statusDrawn r a vram (counterUp d))
+    ∙ ap (λ (b : Bool). b || atEnd (counterUp d)) (drawn-end r a vram (counterUp d))
 
 -- ---- the bytes of a row
 pub drawn-length : (a : RenderArea) (vram : List ℕ) (d : VdpState) (y : ℕ) → length (drawnBytes a vram d y) ≡ rowSize a
@@ -205,7 +205,7 @@ module _ (a : RenderArea) (vram : List ℕ) (d : VdpState) (b : List ℕ) where
   rowTest = whole vram && leb (rowSize a) (length b)
 
   abbrev rowBuffer : DrawnRow → List ℕ
-  rowBuffer r = rowWith r a vram (advance d) b
+  rowBuffer r = rowWith r a vram (counterUp d) b
 
   fits : rowTest ≡ true → rowSize a ≤ length b
   fits t = leb-true (rowSize a) (length b) (both (whole vram) (leb (rowSize a) (length b)) t .1)
@@ -213,23 +213,23 @@ module _ (a : RenderArea) (vram : List ℕ) (d : VdpState) (b : List ℕ) where
   length-by : (r : DrawnRow) → rowSize a ≤ length b → length (rowBuffer r) ≡ length b
   unfolding rowWith
   length-by NoRow h = refl
-  length-by (Drawn y) h = simp (length-append, drawn-length a vram (advance d) y, length-drop) (omega arith)
+  length-by (Drawn y) h = simp (length-append, drawn-length a vram (counterUp d) y, length-drop) (omega arith)
 
   past-by : (r : DrawnRow) → drop (rowSize a) (rowBuffer r) ≡ drop (rowSize a) b
   unfolding rowWith
   past-by NoRow = refl
-  past-by (Drawn y) = drop-at (drawnBytes a vram (advance d) y) (drop (rowSize a) b) (rowSize a) (drawn-length a vram (advance d) y)
+  past-by (Drawn y) = drop-at (drawnBytes a vram (counterUp d) y) (drop (rowSize a) b) (rowSize a) (drawn-length a vram (counterUp d) y)
 
   pub row-step-length : length (rowAfter a vram d b) ≡ length b
   unfolding rowAfter
-  row-step-length = either (λ (l : List ℕ). length l ≡ length b) rowTest (λ t. length-by (rowOn a (lineOf (advance d))) (fits t)) (λ t. refl)
+  row-step-length = either (λ (l : List ℕ). length l ≡ length b) rowTest (λ t. length-by (rowOn a (lineOf (counterUp d))) (fits t)) (λ t. refl)
 
   -- bytes past the row never change
   pub row-step-past : drop (rowSize a) (rowAfter a vram d b) ≡ drop (rowSize a) b
   unfolding rowAfter
-  row-step-past = either (λ l. drop (rowSize a) l ≡ drop (rowSize a) b) rowTest (λ t. past-by (rowOn a (lineOf (advance d)))) (λ t. refl)
+  row-step-past = either (λ l. drop (rowSize a) l ≡ drop (rowSize a) b) rowTest (λ t. past-by (rowOn a (lineOf (counterUp d)))) (λ t. refl)
 
-  pub row-step-none : rowOn a (lineOf (advance d)) ≡ NoRow → rowAfter a vram d b ≡ b
+  pub row-step-none : rowOn a (lineOf (counterUp d)) ≡ NoRow → rowAfter a vram d b ≡ b
   unfolding rowAfter rowWith
   row-step-none e = either (λ l. l ≡ b) rowTest (λ t. rw e) (λ t. refl)
 
@@ -238,12 +238,12 @@ module _ (a : RenderArea) (vram : List ℕ) (d : VdpState) (b : List ℕ) where
   row-step-refused t = rw t
 
   pub row-step-here :
-      (y : ℕ) → length vram ≡ 16384 → rowSize a ≤ length b → rowOn a (lineOf (advance d)) ≡ Drawn y
-      → take (rowSize a) (rowAfter a vram d b) ≡ drawnBytes a vram (advance d) y
+      (y : ℕ) → length vram ≡ 16384 → rowSize a ≤ length b → rowOn a (lineOf (counterUp d)) ≡ Drawn y
+      → take (rowSize a) (rowAfter a vram d b) ≡ drawnBytes a vram (counterUp d) y
   unfolding rowAfter rowWith
   row-step-here y m h e =
       rw (eq-eqb (length vram) 16384 m, le-leb (rowSize a) (length b) h, e)
-      (take-at (drawnBytes a vram (advance d) y) (drop (rowSize a) b) (rowSize a) (drawn-length a vram (advance d) y))
+      (take-at (drawnBytes a vram (counterUp d) y) (drop (rowSize a) b) (rowSize a) (drawn-length a vram (counterUp d) y))
 
 -- ---- a frame
 module _ (a : RenderArea) (vram : List ℕ) (d : VdpState) (f : List ℕ) where
@@ -251,46 +251,46 @@ module _ (a : RenderArea) (vram : List ℕ) (d : VdpState) (f : List ℕ) where
   frameTest = whole vram && leb (frameSize a) (length f)
 
   abbrev onFrame : DrawnRow → List ℕ
-  onFrame r = frameWith r a vram (advance d) f
+  onFrame r = frameWith r a vram (counterUp d) f
 
   fits-frame : frameTest ≡ true → rowSize a * rows a ≤ length f
   fits-frame t = rw (← frame-rows a) (leb-true (frameSize a) (length f) (both (whole vram) (leb (frameSize a) (length f)) t .1))
 
-  frame-length-by : (r : DrawnRow) → rowOn a (lineOf (advance d)) ≡ r → rowSize a * rows a ≤ length f → length (onFrame r) ≡ length f
+  frame-length-by : (r : DrawnRow) → rowOn a (lineOf (counterUp d)) ≡ r → rowSize a * rows a ≤ length f → length (onFrame r) ≡ length f
   unfolding frameWith
   frame-length-by NoRow e h = refl
-  frame-length-by (Drawn y) e h = row-length (rowSize a) (rows a) y (drawnBytes a vram (advance d) y) f (row-low a _ y e) (drawn-length a vram (advance d) y) h
+  frame-length-by (Drawn y) e h = row-length (rowSize a) (rows a) y (drawnBytes a vram (counterUp d) y) f (row-low a _ y e) (drawn-length a vram (counterUp d) y) h
 
-  frame-past-by : (r : DrawnRow) → rowOn a (lineOf (advance d)) ≡ r → rowSize a * rows a ≤ length f → drop (frameSize a) (onFrame r) ≡ drop (frameSize a) f
+  frame-past-by : (r : DrawnRow) → rowOn a (lineOf (counterUp d)) ≡ r → rowSize a * rows a ≤ length f → drop (frameSize a) (onFrame r) ≡ drop (frameSize a) f
   unfolding frameWith
   frame-past-by NoRow e h = refl
-  frame-past-by (Drawn y) e h = rw (frame-rows a) (row-past (rowSize a) (rows a) y (drawnBytes a vram (advance d) y) f (row-low a _ y e) (drawn-length a vram (advance d) y) h)
+  frame-past-by (Drawn y) e h = rw (frame-rows a) (row-past (rowSize a) (rows a) y (drawnBytes a vram (counterUp d) y) f (row-low a _ y e) (drawn-length a vram (counterUp d) y) h)
 
   frame-other-by :
-      (z : ℕ) (r : DrawnRow) → rowOn a (lineOf (advance d)) ≡ r → r ≢ Drawn z → rowSize a * rows a ≤ length f
+      (z : ℕ) (r : DrawnRow) → rowOn a (lineOf (counterUp d)) ≡ r → r ≢ Drawn z → rowSize a * rows a ≤ length f
       → rowOf (rowSize a) z (onFrame r) ≡ rowOf (rowSize a) z f
   unfolding frameWith
   frame-other-by z NoRow e n h = refl
   frame-other-by z (Drawn y) e n h =
       let o : z ≢ y = λ q. n (ap Drawn (sym q)) in
-      row-other (rowSize a) (rows a) y (drawnBytes a vram (advance d) y) f (row-low a _ y e) (drawn-length a vram (advance d) y) h z o
+      row-other (rowSize a) (rows a) y (drawnBytes a vram (counterUp d) y) f (row-low a _ y e) (drawn-length a vram (counterUp d) y) h z o
 
   pub frame-step-length : length (frameAfter a vram d f) ≡ length f
   unfolding frameAfter
-  frame-step-length = either (λ (l : List ℕ). length l ≡ length f) frameTest (λ t. frame-length-by (rowOn a (lineOf (advance d))) refl (fits-frame t)) (λ t. refl)
+  frame-step-length = either (λ (l : List ℕ). length l ≡ length f) frameTest (λ t. frame-length-by (rowOn a (lineOf (counterUp d))) refl (fits-frame t)) (λ t. refl)
 
   -- bytes past the frame never change
   pub frame-step-past : drop (frameSize a) (frameAfter a vram d f) ≡ drop (frameSize a) f
   unfolding frameAfter
-  frame-step-past = either (λ l. drop (frameSize a) l ≡ drop (frameSize a) f) frameTest (λ t. frame-past-by (rowOn a (lineOf (advance d))) refl (fits-frame t)) (λ t. refl)
+  frame-step-past = either (λ l. drop (frameSize a) l ≡ drop (frameSize a) f) frameTest (λ t. frame-past-by (rowOn a (lineOf (counterUp d))) refl (fits-frame t)) (λ t. refl)
 
   -- nor does any row but the one that is drawn
-  pub frame-step-other : (z : ℕ) → rowOn a (lineOf (advance d)) ≢ Drawn z → rowOf (rowSize a) z (frameAfter a vram d f) ≡ rowOf (rowSize a) z f
+  pub frame-step-other : (z : ℕ) → rowOn a (lineOf (counterUp d)) ≢ Drawn z → rowOf (rowSize a) z (frameAfter a vram d f) ≡ rowOf (rowSize a) z f
   unfolding frameAfter
   frame-step-other z n =
-      either (λ l. rowOf (rowSize a) z l ≡ rowOf (rowSize a) z f) frameTest (λ t. frame-other-by z (rowOn a (lineOf (advance d))) refl n (fits-frame t)) (λ t. refl)
+      either (λ l. rowOf (rowSize a) z l ≡ rowOf (rowSize a) z f) frameTest (λ t. frame-other-by z (rowOn a (lineOf (counterUp d))) refl n (fits-frame t)) (λ t. refl)
 
-  pub frame-step-none : rowOn a (lineOf (advance d)) ≡ NoRow → frameAfter a vram d f ≡ f
+  pub frame-step-none : rowOn a (lineOf (counterUp d)) ≡ NoRow → frameAfter a vram d f ≡ f
   unfolding frameAfter frameWith
   frame-step-none e = either (λ l. l ≡ f) frameTest (λ t. rw e) (λ t. refl)
 
@@ -299,12 +299,12 @@ module _ (a : RenderArea) (vram : List ℕ) (d : VdpState) (f : List ℕ) where
   frame-step-refused t = rw t
 
   pub frame-step-here :
-      (y : ℕ) → length vram ≡ 16384 → frameSize a ≤ length f → rowOn a (lineOf (advance d)) ≡ Drawn y
-      → rowOf (rowSize a) y (frameAfter a vram d f) ≡ drawnBytes a vram (advance d) y
+      (y : ℕ) → length vram ≡ 16384 → frameSize a ≤ length f → rowOn a (lineOf (counterUp d)) ≡ Drawn y
+      → rowOf (rowSize a) y (frameAfter a vram d f) ≡ drawnBytes a vram (counterUp d) y
   unfolding frameAfter frameWith
   frame-step-here y m h e =
       rw (eq-eqb (length vram) 16384 m, le-leb (frameSize a) (length f) h, e)
-      (row-here (rowSize a) (rows a) y (drawnBytes a vram (advance d) y) f (row-low a _ y e) (drawn-length a vram (advance d) y) (rw (← frame-rows a) h))
+      (row-here (rowSize a) (rows a) y (drawnBytes a vram (counterUp d) y) f (row-low a _ y e) (drawn-length a vram (counterUp d) y) (rw (← frame-rows a) h))
 
 -- ---- the tile dump
 module _ (vram : List ℕ) (size : ℕ) where

@@ -35,7 +35,7 @@ use Rattle.step.specs.declared.DrawnRow.the-variants.{NoRow, Drawn}
 use Rattle.step.specs.declared.Points.{Points}
 use Rattle.step.specs.declared.Stepped.{Stepped}
 use Rattle.step.specs.Points.{RowIn, bitsOf, bytesOf, refusedPoints, Reads, cleaned, joined}
-use Rattle.step.specs.Step.{register, lineOf, advance, rowOn, coloursNow, drawnBy, endScreen, reportOf, interruptOf, countLine, stepped, refusedStep, stepWith}
+use Rattle.step.specs.Step.{register, lineOf, counterUp, rowOn, coloursNow, drawnBy, endScreen, reportOf, interruptOf, countLine, stepped, refusedStep, stepWith}
 use Rattle.step.specs.Frame.{startOf, drawnBytes, rowWith, frameWith, rowAfter, frameAfter, RowStepLeaves, FrameStepLeaves}
 use Rattle.step.proofs.Rows.{row-in, part-end}
 
@@ -79,7 +79,7 @@ module _ (a : RenderArea) (vram : List ℕ) (d : VdpState) where
   lastStatus r = cond (eqb (risen .«v_counter») 0xC1) (bitOr (bitOr (d .status) (bitsOf r pictures)) 0x80) (bitOr (d .status) (bitsOf r pictures))
 
   abbrev ended : DrawnRow → VdpState
-  ended r = endScreen (drawnBy r a vram (advance d))
+  ended r = endScreen (drawnBy r a vram (counterUp d))
 
   settled : (r : DrawnRow) → withRaster (withStatus (cleaned r d (coloursNow d)) (lastStatus r)) (counted (register d) risen) ≡ countLine (ended r)
   unfolding drawnBy endScreen bitsOf
@@ -93,19 +93,19 @@ module _ (a : RenderArea) (vram : List ℕ) (d : VdpState) where
   interrupted NoRow = rw (or-zero-r (d .status))
   interrupted (Drawn y) = refl
 
-  filled : (b : List ℕ) (r : DrawnRow) → bytesOf r a (coloursNow d) pictures b ≡ rowWith r a vram (advance d) b
+  filled : (b : List ℕ) (r : DrawnRow) → bytesOf r a (coloursNow d) pictures b ≡ rowWith r a vram (counterUp d) b
   unfolding bytesOf rowWith drawnBytes
   filled b NoRow = refl
   filled b (Drawn y) = refl
 
-  reported : cond (eqb (risen .«v_counter») 0xC1) (cond (bit (register d 1) 6) ScreenDone ScreenDoneNoRefresh) NoDisplay ≡ reportOf (advance d)
+  reported : cond (eqb (risen .«v_counter») 0xC1) (cond (bit (register d 1) 6) ScreenDone ScreenDoneNoRefresh) NoDisplay ≡ reportOf (counterUp d)
   unfolding reportOf
   reported = refl
 
   accepted :
       (b : List ℕ) {w : ℕ} {last : VdpState} {row : DrawnRow} {b′ : List ℕ} {i : VdpInt} {report : DisplayRefresh}
-      → length vram ≡ 16384 → w ≡ rowSize a → w ≤ length b → row ≡ rowOn a (lineOf (advance d))
-      → b′ ≡ rowWith row a vram (advance d) b → i ≡ interruptOf (ended row) → report ≡ reportOf (advance d) → last ≡ countLine (ended row)
+      → length vram ≡ 16384 → w ≡ rowSize a → w ≤ length b → row ≡ rowOn a (lineOf (counterUp d))
+      → b′ ≡ rowWith row a vram (counterUp d) b → i ≡ interruptOf (ended row) → report ≡ reportOf (counterUp d) → last ≡ countLine (ended row)
       → RowStepLeaves a vram d b (record { refusal = Accepted; interrupt = i; report = report; row = row; vdp = last }) b′
   unfolding stepWith stepped rowAfter
   accepted b {w} mem ew h er eb ei ep el =
@@ -119,7 +119,7 @@ module _ {d : VdpState} {reg : List ℕ} {raster : Raster} {status : ℕ} {colou
   left : (r : Refusal) {k : Points} → k ≡ refusedPoints r status raster → joined d k ≡ refusedStep r d
   left r e = rw (e, f .bits, f .lines)
 
-  row-is : (a : RenderArea) {up : Raster} {r : DrawnRow} → up ≡ advanced (at reg) raster → r ≡ rowOn a (up .«v_counter») → r ≡ rowOn a (lineOf (advance d))
+  row-is : (a : RenderArea) {up : Raster} {r : DrawnRow} → up ≡ advanced (at reg) raster → r ≡ rowOn a (up .«v_counter») → r ≡ rowOn a (lineOf (counterUp d))
   row-is a eu er = er ∙ ap (λ (x : Raster). rowOn a (x .«v_counter»)) eu ∙ rw (f .registers, f .lines)
 
   module _ (a : RenderArea) (vram b : List ℕ) where
@@ -155,8 +155,8 @@ module _ {d : VdpState} {reg : List ℕ} {raster : Raster} {status : ℕ} {colou
           let g : after ≡ counted (register d) (risen a vram d) = ea ∙ rw (u, f .registers) in
           let v : withRaster (withStatus (cleaned row d (coloursNow d)) last) after ≡ countLine (ended a vram d row) = rw (l, g) (settled a vram d row) in
           let n : i ≡ interruptOf (ended a vram d row) = ei ∙ rw (f .registers, l, u) (interrupted a vram d row) in
-          let p : report ≡ reportOf (advance d) = ep ∙ rw (u, f .registers) (reported a vram d) in
-          let y : b′ ≡ rowWith row a vram (advance d) b = eb ∙ rw (u, f .registers, f .cache) (filled a vram d b row) in
+          let p : report ≡ reportOf (counterUp d) = ep ∙ rw (u, f .registers) (reported a vram d) in
+          let y : b′ ≡ rowWith row a vram (counterUp d) b = eb ∙ rw (u, f .registers, f .cache) (filled a vram d b row) in
           accepted a vram d b mem ew h (row-is a eu er) y n p v
 
 -- ---- a frame, by the part of it that is lent
@@ -174,26 +174,26 @@ module _ (a : RenderArea) (vram : List ℕ) (d : VdpState) (f : List ℕ) (mem :
 
   -- the part put back as the row step leaves it
   placed :
-      (r : DrawnRow) {ys : List ℕ} → length (partOf a r f) ≡ rowSize a → ys ≡ rowWith r a vram (advance d) (partOf a r f)
-      → putMid (startOf a r) (startOf a r + rowSize a - startOf a r) f ys ≡ frameWith r a vram (advance d) f
+      (r : DrawnRow) {ys : List ℕ} → length (partOf a r f) ≡ rowSize a → ys ≡ rowWith r a vram (counterUp d) (partOf a r f)
+      → putMid (startOf a r) (startOf a r + rowSize a - startOf a r) f ys ≡ frameWith r a vram (counterUp d) f
   unfolding rowWith frameWith withRow
   placed NoRow n p = rw p (put-same 0 (0 + rowSize a - 0) f)
   placed (Drawn y) {ys} n p =
       let k : length (partOf a (Drawn y) f) ≤ rowSize a = omega arith in
-      let q : ys ≡ drawnBytes a vram (advance d) y = p ∙ rw (drop-of-length-le (partOf a (Drawn y) f) k) (append-nil (drawnBytes a vram (advance d) y)) in
+      let q : ys ≡ drawnBytes a vram (counterUp d) y = p ∙ rw (drop-of-length-le (partOf a (Drawn y) f) k) (append-nil (drawnBytes a vram (counterUp d) y)) in
       let z : postOf (y * rowSize a) (y * rowSize a + rowSize a - y * rowSize a) f ≡ drop (y * rowSize a + rowSize a) f =
       post-is (y * rowSize a) (y * rowSize a + rowSize a) f (omega arith) in
       rw (q, z, mul-comm (rowSize a) y)
 
   lent :
-      (r : DrawnRow) {s : Stepped} {ys : List ℕ} → r ≡ rowOn a (lineOf (advance d)) → RowStepLeaves a vram d (partOf a r f) s ys
+      (r : DrawnRow) {s : Stepped} {ys : List ℕ} → r ≡ rowOn a (lineOf (counterUp d)) → RowStepLeaves a vram d (partOf a r f) s ys
       → FrameStepLeaves a vram d f s (putMid (startOf a r) (startOf a r + rowSize a - startOf a r) f ys)
   unfolding rowAfter frameAfter
   lent r {s} {ys} er e =
-      let n : length (partOf a r f) ≡ rowSize a = part-length r (row-in a (lineOf (advance d)) er) in
+      let n : length (partOf a r f) ≡ rowSize a = part-length r (row-in a (lineOf (counterUp d)) er) in
       let h : rowSize a ≤ length (partOf a r f) = omega arith in
       let t = eq-eqb (length vram) 16384 mem in
-      let p : ys ≡ rowWith r a vram (advance d) (partOf a r f) = e .bytes ∙ rw (t, le-leb (rowSize a) (length (partOf a r f)) h, sym er) in
+      let p : ys ≡ rowWith r a vram (counterUp d) (partOf a r f) = e .bytes ∙ rw (t, le-leb (rowSize a) (length (partOf a r f)) h, sym er) in
       record { answer = answered n (e .answer); bytes = rw (t, le-leb (frameSize a) (length f) size, sym er) (placed r n p) }
 
 module _

@@ -14,7 +14,7 @@ use Rattle.vdp.specs.Refusals.{whole}
 use Rattle.step.specs.declared.DrawnRow.{DrawnRow}
 use Rattle.step.specs.declared.DrawnRow.the-variants.{NoRow, Drawn}
 use Rattle.step.specs.declared.Stepped.{Stepped}
-use Rattle.step.specs.Step.{lineOf, advance, rowOn, coloursNow, rowPicture, rowStep, frameStep}
+use Rattle.step.specs.Step.{lineOf, counterUp, rowOn, coloursNow, rowPicture, rowStep, frameStep}
 
 -- the bytes of row y, as a step draws it on the device d with its counter up
 unfoldable pub drawnBytes : RenderArea → List ℕ → VdpState → ℕ → List ℕ
@@ -38,11 +38,11 @@ startOf a (Drawn y) = y * rowSize a
 -- the buffer and the frame that a step leaves, refused or not
 unfoldable pub rowAfter : RenderArea → List ℕ → VdpState → List ℕ → List ℕ
 rowAfter a vram d buffer =
-    cond (whole vram && leb (rowSize a) (length buffer)) (rowWith (rowOn a (lineOf (advance d))) a vram (advance d) buffer) buffer
+    cond (whole vram && leb (rowSize a) (length buffer)) (rowWith (rowOn a (lineOf (counterUp d))) a vram (counterUp d) buffer) buffer
 
 unfoldable pub frameAfter : RenderArea → List ℕ → VdpState → List ℕ → List ℕ
 frameAfter a vram d frame =
-    cond (whole vram && leb (frameSize a) (length frame)) (frameWith (rowOn a (lineOf (advance d))) a vram (advance d) frame) frame
+    cond (whole vram && leb (frameSize a) (length frame)) (frameWith (rowOn a (lineOf (counterUp d))) a vram (counterUp d) frame) frame
 
 -- What the row step promises of its answer r and of the buffer after it, and the frame step of the frame.
 pub record RowStepLeaves (a : RenderArea) (vram : List ℕ) (d : VdpState) (buffer : List ℕ) (r : Stepped) (buffer′ : List ℕ) : Type 0 where

@@ -43,8 +43,8 @@ abbrev pub lineOf : VdpState → ℕ
 lineOf d = d .raster .«v_counter»
 
 -- R4.1: the counter, and what line 0 and the jump do
-abbrev pub advance : VdpState → VdpState
-advance d = withRaster d (advanced (register d) (d .raster))
+abbrev pub counterUp : VdpState → VdpState
+counterUp d = withRaster d (advanced (register d) (d .raster))
 
 -- R4.2: the row of a line, if it has one
 unfoldable pub rowOn : RenderArea → ℕ → DrawnRow
@@ -63,8 +63,8 @@ unfoldable pub drawnBy : DrawnRow → RenderArea → List ℕ → VdpState → V
 drawnBy NoRow a vram d = d
 drawnBy (Drawn y) a vram d = withStatus (withCache d (coloursNow d)) (bitOr (d .status) (statusBits (rowPicture a vram d y)))
 
-abbrev pub draw : RenderArea → List ℕ → VdpState → VdpState
-draw a vram d = drawnBy (rowOn a (lineOf d)) a vram d
+abbrev pub rowDrawn : RenderArea → List ℕ → VdpState → VdpState
+rowDrawn a vram d = drawnBy (rowOn a (lineOf d)) a vram d
 
 -- R4.3: the end of the screen, its status bit and its report
 abbrev pub atEnd : VdpState → Bool
@@ -88,8 +88,8 @@ countLine d = withRaster d (counted (register d) (d .raster))
 -- an accepted step: R4.1 to R4.5 in order
 unfoldable pub stepped : RenderArea → List ℕ → VdpState → Stepped
 stepped a vram d =
-    let up = advance d in
-    let e = endScreen (draw a vram up) in
+    let up = counterUp d in
+    let e = endScreen (rowDrawn a vram up) in
     record {
       refusal = Accepted;
       interrupt = interruptOf e;

@@ -280,7 +280,7 @@ pub fn frame_points(
 }
 
 // The device after a step that drew this row: clean colours, if it drew one.
-fn cleaned(vdp: VdpState, row: DrawnRow, colours: [u32; 32]) -> VdpState
+fn clean(vdp: VdpState, row: DrawnRow, colours: [u32; 32]) -> VdpState
     ensures { λ r. ⌜ r ≡ cleaned row vdp colours ⌝ }
 {
     match row {
@@ -290,7 +290,7 @@ fn cleaned(vdp: VdpState, row: DrawnRow, colours: [u32; 32]) -> VdpState
 }
 
 // The answer of the device's own step, from what the points answer and leave.
-fn joined(vdp: VdpState, points: Points, colours: [u32; 32]) -> Stepped
+fn join(vdp: VdpState, points: Points, colours: [u32; 32]) -> Stepped
     requires { ⌜ colours ≡ coloursNow vdp ⌝ }
     ensures { λ r. ⌜ r ≡ joined vdp points ⌝ }
 {
@@ -299,7 +299,7 @@ fn joined(vdp: VdpState, points: Points, colours: [u32; 32]) -> Stepped
     let report = points.report;
     let row = points.row;
     let raster = points.raster;
-    let mut next = cleaned(vdp, row, colours);
+    let mut next = clean(vdp, row, colours);
     next.status = points.status;
     Stepped {
         refusal: refusal,
@@ -318,7 +318,7 @@ pub fn row_step(vdp: VdpState, vram: &[u8], row: &mut [u8], area: RenderArea) ->
     let raster = vdp.raster;
     let colours = colours_of(vdp, vdp.cram_dirty);
     let points = row_points(reg, raster, vdp.status, &colours, vram, row, area);
-    joined(vdp, points, colours)
+    join(vdp, points, colours)
 }
 
 // A step on a whole frame.
@@ -329,7 +329,7 @@ pub fn frame_step(vdp: VdpState, vram: &[u8], frame: &mut [u8], area: RenderArea
     let raster = vdp.raster;
     let colours = colours_of(vdp, vdp.cram_dirty);
     let points = frame_points(reg, raster, vdp.status, &colours, vram, frame, area);
-    joined(vdp, points, colours)
+    join(vdp, points, colours)
 }
 
 // A row of a frame, as a part of the caller's own frame; the empty part where it does not fit.

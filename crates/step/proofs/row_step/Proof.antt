@@ -4,7 +4,7 @@ use Rattle.step.proofs.row_step.Statement.{statement}
 use Rattle.step.proofs.row_step.Tie as tie
 use Rattle.step.proofs.row_step.Reads as reads
 use Rattle.step.proofs.row_step.Lts as lts
-use Rattle.step.proofs.joined.Reads as joined-reads
+use Rattle.step.proofs.join.Reads as join-reads
 use Rattle.step.proofs.colours_of.Reads as colours-of-reads
 use Rattle.step.proofs.row_points.Reads as row-points-reads
 
@@ -17,8 +17,8 @@ row-points-requires : tie.Need-row-points-requires
 row-points-requires c κs = search needs
 
 -- src/lib.rt:341:5
-joined-requires : tie.Need-joined-requires
-joined-requires c κs = search needs
+join-requires : tie.Need-join-requires
+join-requires c κs = search needs
 
 -- src/lib.rt:334:1
 same-length : tie.Need-same-length
@@ -26,8 +26,8 @@ same-length c = search needs
 
 -- src/lib.rt:334:1
 returns : tie.Need-returns
-returns c = rw (c .joined .ensures) (c .before .before .before .row-points .ensures (c .before .before .before .before .before .before .before .before .before .before .before .args .vdp) record { registers = refl; lines = refl; bits = refl; cache = c .before .before .before .before .before .before .colours-of .ensures })
+returns c = rw (c .join .ensures) (c .before .before .before .row-points .ensures (c .before .before .before .before .before .before .before .before .before .before .before .args .vdp) record { registers = refl; lines = refl; bits = refl; cache = c .before .before .before .before .before .before .colours-of .ensures })
 
 pub row-step-spec : {M : Type 1} → statement M
 row-step-spec =
-    tie.close (tie.spec colours-of-requires row-points-requires joined-requires same-length returns)
+    tie.close (tie.spec colours-of-requires row-points-requires join-requires same-length returns)

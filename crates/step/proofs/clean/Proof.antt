@@ -1,8 +1,8 @@
 use borrow.Author.Needs.{needs}
-use Rattle.step.proofs.cleaned.Statement.{statement}
-use Rattle.step.proofs.cleaned.Tie as tie
-use Rattle.step.proofs.cleaned.Reads as reads
-use Rattle.step.proofs.cleaned.Lts as lts
+use Rattle.step.proofs.clean.Statement.{statement}
+use Rattle.step.proofs.clean.Tie as tie
+use Rattle.step.proofs.clean.Reads as reads
+use Rattle.step.proofs.clean.Lts as lts
 use Rattle.vdp.proofs.VdpState.with_cache.Reads as with-cache-reads
 
 -- src/lib.rt:307:28
@@ -25,5 +25,5 @@ returns c = search needs
 returns-2 : tie.Need-returns-2
 returns-2 c = rw (c .before .enum-told2 .given .1) (c .with-cache .ensures)
 
-pub cleaned-spec : {M : Type 1} → statement M
-cleaned-spec = tie.close (tie.spec enum-told enum-told-2 with-cache-requires returns returns-2)
+pub clean-spec : {M : Type 1} → statement M
+clean-spec = tie.close (tie.spec enum-told enum-told-2 with-cache-requires returns returns-2)
