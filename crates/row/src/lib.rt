@@ -1,7 +1,7 @@
 // One row of either area, drawn into a lent row buffer by the picture of section 5.
 ghost use mathlib.Core.Path.{_≡_};
 ghost use mathlib.Core.Bool.{cond};
-ghost use Prim.Native.Nat.{_+_, _<_, _≤_};
+ghost use Prim.Native.Nat.{ℕ, _+_, _<_, _≤_};
 ghost use lib.ListN.{length};
 ghost use Rattle.picture.specs.declared.RenderArea.the-variants.{VisibleOnly, EffectiveArea};
 ghost use Rattle.picture.specs.Area.{rows, rowSize, pictureOf};
@@ -59,17 +59,16 @@ fn render_line_visible(
     ))
 }
 
-// Row `line` of the effective area: the map is the screen.
+// Row `line` of the effective area: the map is the screen, whatever the scroll.
 fn render_line_effective(
     row: &mut [u8],
     vram: &[u8],
     colours: &[u32; 32],
     reg: [u8; 11],
-    scroll: usize,
     line: usize,
 ) -> u8
     requires { ⌜ (length (now vram) ≡ 16384) × (1024 ≤ length (now row)) × (line < 224) ⌝ }
-    ensures { λ r. ⌜ Drawn EffectiveArea (now (colours .entry)) (pictureOf EffectiveArea reg scroll (now (vram .entry)) line) (now (row .entry)) (now (row .exit)) r ⌝ }
+    ensures { λ r. ⌜ ((scroll : ℕ) → Drawn EffectiveArea (now (colours .entry)) (pictureOf EffectiveArea reg scroll (now (vram .entry)) line) (now (row .entry)) (now (row .exit)) r) ⌝ }
 {
     let prio = background::render_background_line(
         row,
@@ -110,6 +109,6 @@ pub fn render_line(
     let l = small::wide(line);
     match area {
         RenderArea::VisibleOnly => render_line_visible(row, vram, colours, reg, s, l),
-        RenderArea::EffectiveArea => render_line_effective(row, vram, colours, reg, s, l),
+        RenderArea::EffectiveArea => render_line_effective(row, vram, colours, reg, l),
     }
 }

@@ -50,7 +50,7 @@ same-length-2 c = search needs
 
 -- src/lib.rt:66:1
 returns-2 : tie.Need-returns-2
-returns-2 c = rw (c .before .before .before .before .enum-told2 .given .1, ← c .before .before .before .before .before .before .before .wide .ensures .0, ← c .before .before .before .before .before .before .wide2 .ensures .0) (c .before .before .render-line-effective .ensures)
+returns-2 c = rw (c .before .before .before .before .enum-told2 .given .1, ← c .before .before .before .before .before .before .wide2 .ensures .0) (c .before .before .render-line-effective .ensures (c .before .before .before .before .before .before .before .before .before .before .args .scroll))
 
 pub render-line-spec : {M : Type 1} → statement M
 render-line-spec =

@@ -38,7 +38,7 @@ same-length c = search needs
 -- src/lib.rt:48:1
 returns : tie.Need-returns
 unfolding pictureOf effective
-returns c =
+returns c = λ scroll.
     let a = c .before .before .before .before .before .before .before .before .before .before .before .before .args in
     let m = at (a .vram .now) in
     let g = at (a .reg) in
