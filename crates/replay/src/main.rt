@@ -29,11 +29,11 @@ fn word_at(list: &[u8], at: usize) -> u32
     requires { ⌜ at + 4 ≤ length (now list) ⌝ }
     ensures { λ r. ⌜ r ≡ wordAt (now (list .entry)) at ⌝ }
 {
-    let r = wide(list[at]);
-    let g = wide(list[at + 1]);
-    let b = wide(list[at + 2]);
-    let a = wide(list[at + 3]);
-    r + 256 * g + 65536 * b + 16777216 * a
+    let b0 = wide(list[at]);
+    let b1 = wide(list[at + 1]);
+    let b2 = wide(list[at + 2]);
+    let b3 = wide(list[at + 3]);
+    b0 + 256 * b1 + 65536 * b2 + 16777216 * b3
 }
 
 // What byte i adds to a checksum.
