@@ -8,6 +8,7 @@ use lib.ListN.{length}
 use lib.Dec.{eqb}
 use Rattle.laws.specs.Bits.{any}
 use Rattle.laws.specs.Lists.{at}
+use Rattle.laws.specs.Sizes.{vramSize}
 use Rattle.picture.specs.Tile.{mapColour, mapFront}
 use Rattle.picture.specs.View.{cutMark}
 
@@ -28,7 +29,7 @@ prioTo vram names sx y cut n i = any n (λ x. eqb (cutMark cut x) i && backFront
 
 -- what the drawing asks of its arguments
 pub record Room (vram : List ℕ) (names sx y : ℕ) : Type 0 where
-  pub memory : length vram ≡ 16384
+  pub memory : length vram ≡ vramSize
   pub names-low : names ≤ 14336
   pub column : sx < 256
   pub line : y < 224

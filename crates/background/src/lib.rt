@@ -7,6 +7,7 @@ ghost use lib.ListN.{length};
 ghost use Rattle.laws.specs.Bits.{number};
 ghost use Rattle.laws.specs.Lists.{at};
 ghost use Rattle.laws.specs.Paint.{painted};
+ghost use Rattle.laws.specs.Sizes.{vramSize};
 ghost use Rattle.bitmap.specs.Mask.{withByte, bytesOf};
 ghost use Rattle.picture.specs.Tile.{turned, namesAt, tileLine};
 ghost use Rattle.background.specs.Background.{Room, backColour, backFront, shade, prioTo, placeAt, Whole};
@@ -32,7 +33,7 @@ fn turn(flip: bool, k: usize) -> usize
 // Where line y of the tile with these entry bytes stands.
 fn line_at(lo: u8, hi: u8, y: usize) -> usize
     ensures { λ r. ⌜ r ≡ tileLine lo hi y ⌝ }
-    ensures { λ r. ⌜ r + 4 ≤ 16384 ⌝ }
+    ensures { λ r. ⌜ r + 4 ≤ vramSize ⌝ }
 {
     let character = small::wide(lo) + small::weight(small::is_set(hi, 0), 256);
     32 * character + 4 * turn(small::is_set(hi, 2), y % 8)

@@ -3,11 +3,14 @@ ghost use mathlib.Core.Path.{_≡_};
 ghost use Prim.Native.Nat.{_+_, _*_, _≤_, _<_};
 ghost use lib.ListN.{length, drop};
 ghost use lib.Seq.{paste};
-ghost use Rattle.block.specs.Block.{stateOf, rasterStored, cacheStored, flagOf, chosenOf, chosenFrom, latchFlag, latchByte, latchFrom, wellFormed, colourAt, coloursAt, colourBytes, small, decoded, encoded};
+ghost use Rattle.block.specs.Block.{blockSize, stateOf, rasterStored, cacheStored, flagOf, chosenOf, chosenFrom, latchFlag, latchByte, latchFrom, wellFormed, colourAt, coloursAt, colourBytes, small, decoded, encoded};
 use raster::Raster;
 use vdp::Latch;
 use vdp::VdpState;
 use vdp::WriteDest;
+
+// The bytes of a block.
+const BLOCK_SIZE: usize = 219;
 
 // What a block holds: whether it is well formed, and its device (a fresh one where it is not).
 pub struct Decoded {
@@ -109,7 +112,7 @@ fn colour_at(src: &[u8], at: usize) -> u32
 
 // The 32 colours that stand from place 91 on.
 fn colours_at(src: &[u8]) -> [u32; 32]
-    requires { ⌜ length (now src) ≡ 219 ⌝ }
+    requires { ⌜ length (now src) ≡ blockSize ⌝ }
     ensures { λ r. ⌜ r ≡ coloursAt (now (src .entry)) ⌝ }
 {
     let mut out = [0u32; 32];
@@ -123,7 +126,7 @@ fn colours_at(src: &[u8]) -> [u32; 32]
 
 // The four bytes of each colour, the lowest first, into dst at 91.
 fn put_colours(dst: &mut [u8], colours: &[u32])
-    requires { ⌜ (length (now dst) ≡ 219) × (length (now colours) ≡ 32) ⌝ }
+    requires { ⌜ (length (now dst) ≡ blockSize) × (length (now colours) ≡ 32) ⌝ }
     ensures { λ _. ⌜ now (dst .exit) ≡ paste (now (dst .entry)) 91 (colourBytes (now (colours .entry))) 128 ⌝ }
 {
     let mut i = 0;
@@ -142,7 +145,7 @@ fn put_colours(dst: &mut [u8], colours: &[u32])
 pub fn well_formed(block: &[u8]) -> bool
     ensures { λ r. ⌜ r ≡ wellFormed (now (block .entry)) ⌝ }
 {
-    if block.len() != 219 {
+    if block.len() != BLOCK_SIZE {
         return false;
     }
     let marked = (block[0] == 0x56) & (block[1] == 0x53);
@@ -160,7 +163,7 @@ pub fn well_formed(block: &[u8]) -> bool
 pub fn decode(block: &[u8]) -> Decoded
     ensures { λ r. ⌜ r ≡ decoded (now (block .entry)) ⌝ }
 {
-    if block.len() != 219 {
+    if block.len() != BLOCK_SIZE {
         return Decoded {
             good: false,
             vdp: VdpState::new(),
@@ -233,7 +236,7 @@ fn small_of(state: VdpState) -> [u8; 13]
 pub fn encode(state: VdpState, block: &mut [u8])
     ensures { λ _. ⌜ now (block .exit) ≡ encoded state (now (block .entry)) ⌝ }
 {
-    if block.len() != 219 {
+    if block.len() != BLOCK_SIZE {
         return;
     }
     let reg = state.reg;
@@ -252,7 +255,7 @@ pub fn encode(state: VdpState, block: &mut [u8])
 
 // The registers.
 pub fn registers(block: &[u8]) -> [u8; 11]
-    requires { ⌜ length (now block) ≡ 219 ⌝ }
+    requires { ⌜ length (now block) ≡ blockSize ⌝ }
     ensures { λ r. ⌜ r ≡ stateOf (now (block .entry)) .reg ⌝ }
 {
     let mut reg = [0u8; 11];
@@ -262,7 +265,7 @@ pub fn registers(block: &[u8]) -> [u8; 11]
 
 // The raster.
 pub fn raster_in(block: &[u8]) -> Raster
-    requires { ⌜ length (now block) ≡ 219 ⌝ }
+    requires { ⌜ length (now block) ≡ blockSize ⌝ }
     ensures { λ r. ⌜ r ≡ stateOf (now (block .entry)) .raster ⌝ }
 {
     Raster {
@@ -275,7 +278,7 @@ pub fn raster_in(block: &[u8]) -> Raster
 
 // The palette, and the cached colours.
 pub fn palette_in(block: &[u8]) -> [u8; 64]
-    requires { ⌜ length (now block) ≡ 219 ⌝ }
+    requires { ⌜ length (now block) ≡ blockSize ⌝ }
     ensures { λ r. ⌜ r ≡ stateOf (now (block .entry)) .cram ⌝ }
 {
     let mut cram = [0u8; 64];
@@ -284,7 +287,7 @@ pub fn palette_in(block: &[u8]) -> [u8; 64]
 }
 
 pub fn cache_in(block: &[u8]) -> [u32; 32]
-    requires { ⌜ length (now block) ≡ 219 ⌝ }
+    requires { ⌜ length (now block) ≡ blockSize ⌝ }
     ensures { λ r. ⌜ r ≡ stateOf (now (block .entry)) .«color_cache» ⌝ }
 {
     colours_at(block)
@@ -292,7 +295,7 @@ pub fn cache_in(block: &[u8]) -> [u32; 32]
 
 // A status and a raster into a block.
 pub fn store_raster(block: &mut [u8], status: u8, raster: Raster)
-    requires { ⌜ length (now block) ≡ 219 ⌝ }
+    requires { ⌜ length (now block) ≡ blockSize ⌝ }
     ensures { λ _. ⌜ now (block .exit) ≡ rasterStored status raster (now (block .entry)) ⌝ }
 {
     block[2] = status;
@@ -304,7 +307,7 @@ pub fn store_raster(block: &mut [u8], status: u8, raster: Raster)
 
 // Colours into a block, which are not dirty then.
 pub fn store_cache(block: &mut [u8], colours: &[u32; 32])
-    requires { ⌜ length (now block) ≡ 219 ⌝ }
+    requires { ⌜ length (now block) ≡ blockSize ⌝ }
     ensures { λ _. ⌜ now (block .exit) ≡ cacheStored (now (colours .entry)) (now (block .entry)) ⌝ }
 {
     put_colours(block, colours);

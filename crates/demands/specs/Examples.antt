@@ -6,6 +6,7 @@ use mathlib.Core.List.{List, [], _∷_}
 use Prim.Native.Nat.{ℕ, zero, suc, _-_}
 use lib.Dec.{eqb}
 use lib.ListN.{length, replicate}
+use Rattle.laws.specs.Sizes.{vramSize}
 use Rattle.laws.specs.Bits.{bit, any}
 use Rattle.laws.specs.Lists.{at}
 use Rattle.laws.specs.Table.{tableFrom, table as tableOf}
@@ -40,7 +41,7 @@ shown i cs = fourBytes (at (coloursOf (afterAll start cs .device .cram)) i)
 
 -- ---- accepted visible-area steps
 abbrev pub zeroed : List ℕ
-zeroed = replicate 16384 0
+zeroed = replicate vramSize 0
 
 -- the device after n of them, the line that it then has, and the lines at which the next n report an interrupt
 unfoldable pub stepsOn : ℕ → VdpState → VdpState

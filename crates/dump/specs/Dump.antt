@@ -41,7 +41,11 @@ dumpByte m tall high colours x y b old =
     let c = tileAt tall (x / 8) (y / 8) in
     pixelByte colours (isSprite c) (codeAt m (lineAt high c (y % 8)) (x % 8)) b old
 
--- the 131,072 bytes after the dump: byte k is byte k mod 4 of pixel k div 4, in rows of 128 pixels, by the colours that it is given (R5.15)
+-- the bytes of a sheet
+abbrev pub dumpSize : ℕ
+dumpSize = 131072
+
+-- the bytes after the dump: byte k is byte k mod 4 of pixel k div 4, in rows of 128 pixels, by the colours that it is given (R5.15)
 unfoldable pub dumped : List ℕ → List ℕ → List ℕ → List ℕ → List ℕ
 dumped vram reg colours pixels =
-    table 131072 (λ k. dumpByte (at vram) (bit (at reg 1) 1) (bit (at reg 6) 2) colours (k / 4 % 128) (k / 4 / 128) (k % 4) (at pixels k))
+    table dumpSize (λ k. dumpByte (at vram) (bit (at reg 1) 1) (bit (at reg 6) 2) colours (k / 4 % 128) (k / 4 / 128) (k % 4) (at pixels k))

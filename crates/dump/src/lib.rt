@@ -6,8 +6,9 @@ ghost use Prim.Native.Nat.{ℕ, _+_, _-_, _*_, _/_, _%_, _<_, _≤_};
 ghost use lib.Dec.{ltb, leb};
 ghost use lib.ListN.{length};
 ghost use Rattle.laws.specs.Lists.{at};
+ghost use Rattle.laws.specs.Sizes.{vramSize};
 ghost use Rattle.picture.specs.Tile.{codeAt};
-ghost use Rattle.dump.specs.Dump.{tileColumn, tileRow, lineAt, pixelByte, dumped};
+ghost use Rattle.dump.specs.Dump.{tileColumn, tileRow, lineAt, pixelByte, dumpSize, dumped};
 ghost use Rattle.dump.specs.Lines.{Dumping};
 
 // R5.14: the column of tiles in which tile chr stands.
@@ -39,7 +40,7 @@ fn row_of(tall: bool, chr: usize) -> usize
 fn line_at(high: bool, chr: usize, line: usize) -> usize
     requires { ⌜ line < 8 ⌝ }
     ensures { λ r. ⌜ r ≡ lineAt high chr line ⌝ }
-    ensures { λ r. ⌜ r + 4 ≤ 16384 ⌝ }
+    ensures { λ r. ⌜ r + 4 ≤ vramSize ⌝ }
 {
     small::weight(small::both(256 <= chr, high), 8192) + 32 * (chr % 256) + 4 * line
 }
@@ -53,7 +54,7 @@ fn dump_line(
     addr: usize,
     x: usize,
 )
-    requires { ⌜ (length (now pixels) ≡ 131072) × (addr + 4 ≤ length (now vram)) × (x + 8 ≤ 32768) ⌝ }
+    requires { ⌜ (length (now pixels) ≡ dumpSize) × (addr + 4 ≤ length (now vram)) × (x + 8 ≤ 32768) ⌝ }
     ensures { λ r. ⌜ ((k : ℕ) → at (now (pixels .exit)) k ≡ cond (leb x (k / 4) && ltb (k / 4 - x) 8) (pixelByte (now (colours .entry)) sprite (codeAt (at (now (vram .entry))) addr (k / 4 - x)) (k % 4) (at (now (pixels .entry)) k)) (at (now (pixels .entry)) k)) ⌝ }
 {
     if sprite {
@@ -72,7 +73,7 @@ fn dump_tile(
     high: bool,
     chr: usize,
 )
-    requires { ⌜ (length (now pixels) ≡ 131072) × (length (now vram) ≡ 16384) × (chr < 512) ⌝ }
+    requires { ⌜ (length (now pixels) ≡ dumpSize) × (length (now vram) ≡ vramSize) × (chr < 512) ⌝ }
     ensures { λ r. ⌜ ((pixels₀ : List ℕ) → Dumping (now (vram .entry)) tall high (now (colours .entry)) pixels₀ (8 * chr) (now (pixels .entry)) → Dumping (now (vram .entry)) tall high (now (colours .entry)) pixels₀ (8 * (chr + 1)) (now (pixels .exit))) ⌝ }
 {
     let x = column_of(tall, chr) * 8;
@@ -94,7 +95,7 @@ fn dump_tile(
 
 // All tiles, by the cached colours as they stand (R5.15).
 pub fn dump_tileset(pixels: &mut [u8], vram: &[u8], colours: &[u32; 32], reg: [u8; 11])
-    requires { ⌜ (length (now pixels) ≡ 131072) × (length (now vram) ≡ 16384) ⌝ }
+    requires { ⌜ (length (now pixels) ≡ dumpSize) × (length (now vram) ≡ vramSize) ⌝ }
     ensures { λ r. ⌜ now (pixels .exit) ≡ dumped (now (vram .entry)) reg (now (colours .entry)) (now (pixels .entry)) ⌝ }
 {
     let tall = small::is_set(reg[1], 1);

@@ -5,7 +5,7 @@ ghost use Prim.Native.Nat.{_+_, _*_, _<_};
 ghost use Rattle.vdp.specs.Refusals.{refusalNumber};
 ghost use lib.ListN.{length};
 ghost use Rattle.vdp.specs.declared.VdpState.{VdpState};
-ghost use Rattle.block.specs.Block.{stateOf, blockOf, Sized};
+ghost use Rattle.block.specs.Block.{blockSize, stateOf, blockOf, Sized};
 ghost use Rattle.step.specs.Step.{interruptNumber, reportNumber, coloursNow};
 ghost use Rattle.step.specs.Points.{cleaned, joined};
 ghost use Rattle.face.specs.Face.{rowBits, stepWord, newCall, outCall, inputCall, stepCall, rowStepCall, dumpCall, Leaves};
@@ -16,6 +16,9 @@ use step::Points;
 use step::VdpInt;
 use vdp::Refusal;
 use vdp::VdpState;
+
+// The bytes of a block.
+const BLOCK_SIZE: usize = 219;
 
 // The parts of a step's answer, as parts of a word: refusal, interrupt, report, and the row with the drawn bit.
 fn number(r: Refusal) -> u32
@@ -63,7 +66,7 @@ fn word_of(points: Points) -> u32
 pub extern "C" fn vdp_new(state: &mut [u8]) -> u32
     ensures { λ r. ⌜ Leaves (newCall (now (state .entry))) r (now (state .exit)) [] ⌝ }
 {
-    if state.len() != 219 {
+    if state.len() != BLOCK_SIZE {
         return number(Refusal::BlockMalformed);
     }
     block::encode(VdpState::new(), state);
@@ -106,7 +109,7 @@ pub extern "C" fn vdp_input(state: &mut [u8], vram: &[u8], port: u16) -> u32
 
 // The colours that a step of the block's device draws with.
 fn colours_of(state: &[u8]) -> [u32; 32]
-    requires { ⌜ length (now state) ≡ 219 ⌝ }
+    requires { ⌜ length (now state) ≡ blockSize ⌝ }
     ensures { λ r. ⌜ r ≡ coloursNow (stateOf (now (state .entry))) ⌝ }
 {
     if state[26] == 1 {
@@ -117,7 +120,7 @@ fn colours_of(state: &[u8]) -> [u32; 32]
 
 // The colours into the block, if a row was drawn with them.
 fn store_colours(state: &mut [u8], row: DrawnRow, colours: &[u32; 32])
-    requires { ⌜ length (now state) ≡ 219 ⌝ }
+    requires { ⌜ length (now state) ≡ blockSize ⌝ }
     ensures { λ _. ⌜ ((s : VdpState) → Sized s → now (state .entry) ≡ blockOf s → now (state .exit) ≡ blockOf (cleaned row s (now (colours .entry)))) ⌝ }
 {
     match row {
@@ -128,7 +131,7 @@ fn store_colours(state: &mut [u8], row: DrawnRow, colours: &[u32; 32])
 
 // What the points of a step leave of the device, into its block.
 fn store(state: &mut [u8], points: Points, colours: &[u32; 32])
-    requires { ⌜ length (now state) ≡ 219 ⌝ }
+    requires { ⌜ length (now state) ≡ blockSize ⌝ }
     ensures { λ _. ⌜ ((s : VdpState) → Sized s → now (colours .entry) ≡ coloursNow s → now (state .entry) ≡ blockOf s → now (state .exit) ≡ blockOf (joined s points .vdp)) ⌝ }
 {
     let row = points.row;

@@ -5,3 +5,4 @@ pub mod Circle
 pub mod Lists
 pub mod Paint
 pub mod Once
+pub mod Sizes

@@ -8,13 +8,18 @@ use lib.Dec.{ltb, leb}
 use lib.ListN.{length}
 use Rattle.laws.specs.Lists.{at, written}
 use Rattle.picture.specs.declared.RenderArea.{RenderArea}
+use Rattle.picture.specs.declared.RenderArea.the-variants.{VisibleOnly}
+use Rattle.picture.specs.Area.{frameSize}
 use Rattle.recording.specs.declared.run.Run.{Run}
 use Rattle.recording.specs.Text.{endLine, badLine, longLine}
 use Rattle.recording.specs.Run.{World, Turn, rowTurn, frameTurn, lines, ran, start}
 
--- R7.8: more than is read
+-- R7.8: the longest recording that is run
+abbrev pub longest : ℕ
+longest = 65535
+
 abbrev pub tooLong : List ℕ → Bool
-tooLong s = ltb 65535 (length s)
+tooLong s = ltb longest (length s)
 
 -- whether a run came to the end of the recording; if not, it stands at a bad record
 abbrev pub ended : List ℕ → Run → Bool
@@ -68,12 +73,18 @@ unfoldable pub leaves : Bool → (RenderArea → World → Turn) → List ℕ �
 leaves room step bytes s w out =
     cond room (left (cond (tooLong s) w (ran step s w)) (length bytes) (written out 0 bytes)) (left w 0 out)
 
--- room for five bytes of text for each byte of the longest recording, and the last line; for a picture; for a frame
+-- room for five bytes of text for each byte of the longest recording, and the last line; for the header of a picture, and three bytes for each pixel
+abbrev pub textRoom : ℕ
+textRoom = 327700
+
+abbrev pub pictureRoom : ℕ
+pictureRoom = 69135
+
 unfoldable pub traced : List ℕ → World → List ℕ → Left
-traced s w out = leaves (leb 327700 (length out)) rowTurn (printed s w) s w out
+traced s w out = leaves (leb textRoom (length out)) rowTurn (printed s w) s w out
 
 unfoldable pub snapped : List ℕ → World → List ℕ → Left
-snapped s w out = leaves (leb 69135 (length out) && leb 92160 (length (w .frame))) frameTurn (pictured s w) s w out
+snapped s w out = leaves (leb pictureRoom (length out) && leb (frameSize VisibleOnly) (length (w .frame))) frameTurn (pictured s w) s w out
 
 -- What `trace` promises of its answer n and of the buffers after it, and what `snapshot` does.
 pub record TraceLeaves (s vram row out : List ℕ) (n : ℕ) (vram′ row′ out′ : List ℕ) : Type 0 where

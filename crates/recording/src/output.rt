@@ -3,7 +3,9 @@ ghost use mathlib.Core.Path.{_≡_};
 ghost use Prim.Native.Nat.{_+_, _≤_};
 ghost use lib.ListN.{length, take};
 ghost use Rattle.laws.specs.Lists.{written};
-ghost use Rattle.recording.specs.Output.{lastLine, ppm, drawn, TraceLeaves, SnapshotLeaves};
+ghost use Rattle.picture.specs.declared.RenderArea.the-variants.{VisibleOnly};
+ghost use Rattle.picture.specs.Area.{frameSize};
+ghost use Rattle.recording.specs.Output.{pictureRoom, lastLine, ppm, drawn, TraceLeaves, SnapshotLeaves};
 use crate::run::Run;
 use crate::run::frame_turn;
 use crate::run::row_turn;
@@ -11,6 +13,17 @@ use crate::text::put_all;
 use crate::text::put_answer;
 use crate::text::put_numbered;
 use vdp::VdpState;
+
+// The longest recording that is run, the room that its text may take, and that of its picture: of a frame's bytes, three to a pixel.
+const LONGEST: usize = 65535;
+
+const TEXT_ROOM: usize = 327_700;
+
+const PICTURE_ROOM: usize = 69135;
+
+const FRAME_SIZE: usize = 92160;
+
+const PIXELS: usize = 23040;
 
 // The last line of a trace: the count of records, or where the recording is bad.
 fn put_last(out: &mut [u8], at: usize, input: &[u8], run: Run) -> usize
@@ -29,10 +42,10 @@ pub fn trace(input: &[u8], vram: &mut [u8], row: &mut [u8], out: &mut [u8]) -> u
     ensures { λ n. ⌜ TraceLeaves (now (input .entry)) (now (vram .entry)) (now (row .entry)) (now (out .entry)) n (now (vram .exit)) (now (row .exit)) (now (out .exit)) ⌝ }
     ensures { λ n. ⌜ (n ≤ length (now (out .exit))) × (n ≡ length (take n (now (out .exit)))) ⌝ }
 {
-    if out.len() < 327_700 {
+    if out.len() < TEXT_ROOM {
         return 0;
     }
-    if 65535 < input.len() {
+    if LONGEST < input.len() {
         return put_all(out, 0, b"long\n");
     }
     let mut run = Run {
@@ -54,13 +67,13 @@ pub fn trace(input: &[u8], vram: &mut [u8], row: &mut [u8], out: &mut [u8]) -> u
 
 // The picture of a frame: red, green and blue of each pixel, behind the header of a binary PPM.
 fn put_ppm(out: &mut [u8], frame: &[u8]) -> usize
-    requires { ⌜ (69135 ≤ length (now out)) × (92160 ≤ length (now frame)) ⌝ }
+    requires { ⌜ (pictureRoom ≤ length (now out)) × (frameSize VisibleOnly ≤ length (now frame)) ⌝ }
     ensures { λ r. ⌜ r ≡ length (ppm (now (frame .entry))) ⌝ }
     ensures { λ _. ⌜ now (out .exit) ≡ written (now (out .entry)) 0 (ppm (now (frame .entry))) ⌝ }
 {
     let mut at = put_all(out, 0, b"P6\n160 144\n255\n");
     let mut i = 0;
-    while i < 23040 {
+    while i < PIXELS {
         let k = 4 * i;
         at = put_all(out, at, &[frame[k], frame[k + 1], frame[k + 2]]);
         i += 1;
@@ -70,7 +83,7 @@ fn put_ppm(out: &mut [u8], frame: &[u8]) -> usize
 
 // What is written at the end of a run: its picture, or where the recording is bad.
 fn put_picture(out: &mut [u8], input: &[u8], run: Run, frame: &[u8]) -> usize
-    requires { ⌜ (69135 ≤ length (now out)) × (92160 ≤ length (now frame)) ⌝ }
+    requires { ⌜ (pictureRoom ≤ length (now out)) × (frameSize VisibleOnly ≤ length (now frame)) ⌝ }
     ensures { λ r. ⌜ r ≡ length (drawn (now (input .entry)) run (now (frame .entry))) ⌝ }
     ensures { λ _. ⌜ now (out .exit) ≡ written (now (out .entry)) 0 (drawn (now (input .entry)) run (now (frame .entry))) ⌝ }
 {
@@ -92,13 +105,13 @@ pub fn snapshot(
     ensures { λ n. ⌜ SnapshotLeaves (now (input .entry)) (now (vram .entry)) (now (row .entry)) (now (frame .entry)) (now (out .entry)) n (now (vram .exit)) (now (row .exit)) (now (frame .exit)) (now (out .exit)) ⌝ }
     ensures { λ n. ⌜ (n ≤ length (now (out .exit))) × (n ≡ length (take n (now (out .exit)))) ⌝ }
 {
-    if out.len() < 69135 {
+    if out.len() < PICTURE_ROOM {
         return 0;
     }
-    if frame.len() < 92160 {
+    if frame.len() < FRAME_SIZE {
         return 0;
     }
-    if 65535 < input.len() {
+    if LONGEST < input.len() {
         return put_all(out, 0, b"long\n");
     }
     let mut run = Run {

@@ -3,11 +3,21 @@ ghost use mathlib.Core.Path.{_≡_};
 ghost use mathlib.Core.Bool.{cond};
 ghost use Prim.Native.Nat.{ℕ, _+_, _<_, _≤_};
 ghost use lib.ListN.{length};
+ghost use Rattle.laws.specs.Sizes.{vramSize};
 ghost use Rattle.picture.specs.declared.RenderArea.the-variants.{VisibleOnly, EffectiveArea};
 ghost use Rattle.picture.specs.Area.{rows, rowSize, pictureOf};
 ghost use Rattle.row.specs.Row.{Drawn};
 use picture::RenderArea;
 use sprites::Line;
+
+// Width and first line of the visible area; width and height of the map, which are those of the effective area.
+const GG_VISIBLE_PIXEL_WIDTH: usize = 160;
+
+const GG_VISIBLE_AREA_START_Y: usize = 24;
+
+const SCROLL_PIXEL_WIDTH: usize = 256;
+
+const SCROLL_PIXEL_HEIGHT: usize = 224;
 
 // The status bits that a line of sprites sets: 5 where two pixels met, 6 where there was a ninth.
 fn status_bits(line: Line) -> u8
@@ -31,11 +41,11 @@ fn render_line_visible(
     scroll: usize,
     line: usize,
 ) -> u8
-    requires { ⌜ (length (now vram) ≡ 16384) × (640 ≤ length (now row)) × (scroll < 256) × (line < 144) ⌝ }
+    requires { ⌜ (length (now vram) ≡ vramSize) × (rowSize VisibleOnly ≤ length (now row)) × (scroll < 256) × (line < rows VisibleOnly) ⌝ }
     ensures { λ r. ⌜ Drawn VisibleOnly (now (colours .entry)) (pictureOf VisibleOnly reg scroll (now (vram .entry)) line) (now (row .entry)) (now (row .exit)) r ⌝ }
 {
     let sx = (304 - small::wide(reg[8])) % 256;
-    let y = (line + 24 + scroll) % 224;
+    let y = (line + GG_VISIBLE_AREA_START_Y + scroll) % SCROLL_PIXEL_HEIGHT;
     let cut = (sx % 8) as u8;
     let prio = background::render_background_line(
         row,
@@ -44,7 +54,7 @@ fn render_line_visible(
         background::names_at(reg),
         sx,
         y,
-        160,
+        GG_VISIBLE_PIXEL_WIDTH,
         cut,
     );
     status_bits(sprites::render_sprites_line(
@@ -53,8 +63,8 @@ fn render_line_visible(
         colours,
         RenderArea::VisibleOnly,
         reg,
-        line + 24,
-        160,
+        line + GG_VISIBLE_AREA_START_Y,
+        GG_VISIBLE_PIXEL_WIDTH,
         prio,
     ))
 }
@@ -67,7 +77,7 @@ fn render_line_effective(
     reg: [u8; 11],
     line: usize,
 ) -> u8
-    requires { ⌜ (length (now vram) ≡ 16384) × (1024 ≤ length (now row)) × (line < 224) ⌝ }
+    requires { ⌜ (length (now vram) ≡ vramSize) × (rowSize EffectiveArea ≤ length (now row)) × (line < rows EffectiveArea) ⌝ }
     ensures { λ r. ⌜ ((scroll : ℕ) → Drawn EffectiveArea (now (colours .entry)) (pictureOf EffectiveArea reg scroll (now (vram .entry)) line) (now (row .entry)) (now (row .exit)) r) ⌝ }
 {
     let prio = background::render_background_line(
@@ -77,7 +87,7 @@ fn render_line_effective(
         background::names_at(reg),
         0,
         line,
-        256,
+        SCROLL_PIXEL_WIDTH,
         0,
     );
     status_bits(sprites::render_sprites_line(
@@ -87,7 +97,7 @@ fn render_line_effective(
         RenderArea::EffectiveArea,
         reg,
         line,
-        256,
+        SCROLL_PIXEL_WIDTH,
         prio,
     ))
 }
@@ -102,7 +112,7 @@ pub fn render_line(
     scroll: u8,
     line: u8,
 ) -> u8
-    requires { ⌜ (length (now vram) ≡ 16384) × (rowSize area ≤ length (now row)) × (line < rows area) ⌝ }
+    requires { ⌜ (length (now vram) ≡ vramSize) × (rowSize area ≤ length (now row)) × (line < rows area) ⌝ }
     ensures { λ r. ⌜ Drawn area (now (colours .entry)) (pictureOf area reg scroll (now (vram .entry)) line) (now (row .entry)) (now (row .exit)) r ⌝ }
 {
     let s = small::wide(scroll);

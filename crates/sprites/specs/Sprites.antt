@@ -8,6 +8,7 @@ use lib.ListN.{length, take}
 use lib.Dec.{ltb}
 use Rattle.laws.specs.Lists.{at}
 use Rattle.laws.specs.Paint.{painted}
+use Rattle.laws.specs.Sizes.{vramSize}
 use Rattle.bitmap.specs.Mask.{bytesOf}
 use Rattle.picture.specs.declared.Stand.{Stand}
 use Rattle.picture.specs.declared.RenderArea.{RenderArea}
@@ -36,7 +37,7 @@ pub record Follows (m g : ℕ → ℕ) (l from n d : ℕ) : Type 0 where
   pub below : n < 64 → d ≡ l - topOf m g n
 
 pub record Room (vram row : List ℕ) (width : ℕ) : Type 0 where
-  pub memory : length vram ≡ 16384
+  pub memory : length vram ≡ vramSize
   pub bytes : width * 4 ≤ length row
 
 -- a whole line of sprites, laid on a row of the colours `colour`: the row's bytes, whether two pixels met, and whether there was a ninth

@@ -9,6 +9,7 @@ ghost use lib.Dec.{eqb};
 ghost use Rattle.laws.specs.Bits.{byteOf};
 ghost use Rattle.laws.specs.Lists.{at};
 ghost use Rattle.laws.specs.Paint.{painted, overlaid};
+ghost use Rattle.laws.specs.Sizes.{vramSize};
 ghost use Rattle.bitmap.specs.Mask.{bytesOf, cleared};
 ghost use Rattle.picture.specs.Tile.{codeAt};
 ghost use Rattle.picture.specs.View.{early, visibleEnd, visibleSeen, visibleStand, effectiveStand};
@@ -194,7 +195,7 @@ fn sprite_double_size_src_line(tall: bool, num: u8, d: usize) -> usize
 fn line_at(reg: [u8; 11], num: u8, d: usize) -> usize
     requires { ⌜ d < 16 ⌝ }
     ensures { λ r. ⌜ r ≡ spriteLine (at reg) num d ⌝ }
-    ensures { λ r. ⌜ r + 4 ≤ 16384 ⌝ }
+    ensures { λ r. ⌜ r + 4 ≤ vramSize ⌝ }
 {
     let base = pattern_base(small::is_set(reg[6], 2));
     let char_num = sprite_double_size_src_line(small::is_set(reg[1], 1), num, d);
@@ -273,7 +274,7 @@ fn render_sprite(
 
 // The next sprite on the line, of those from sprite `from` on.
 fn next_on(vram: &[u8], table: usize, from: usize, line: usize, lines: usize) -> Next
-    requires { ⌜ (length (now vram) ≡ 16384) × (table ≤ 16128) × (from ≤ 64) × (lines ≤ 16) ⌝ }
+    requires { ⌜ (length (now vram) ≡ vramSize) × (table ≤ 16128) × (from ≤ 64) × (lines ≤ 16) ⌝ }
     ensures { λ r. ⌜ ((g : ℕ → ℕ) → table ≡ tableAt g → lines ≡ cond (tall g) 16 8 → Follows (at (now (vram .entry))) g line from (r .n) (r .d)) ⌝ }
     ensures { λ r. ⌜ (from ≤ r .n) × (r .n ≤ 64) × (r .d < 16) ⌝ }
 {

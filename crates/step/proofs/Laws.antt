@@ -17,7 +17,7 @@ use Rattle.laws.proofs.Bits.{bit-or}
 use Rattle.laws.proofs.Frames.{row-length, row-here, row-other, row-past}
 use Rattle.laws.proofs.Tables.{length-table}
 use Rattle.laws.proofs.Tests.{either, split, both}
-use Rattle.dump.specs.Dump.{dumped}
+use Rattle.dump.specs.Dump.{dumpSize, dumped}
 use Rattle.picture.specs.declared.RenderArea.{RenderArea}
 use Rattle.picture.specs.declared.RenderArea.the-variants.{VisibleOnly, EffectiveArea}
 use Rattle.picture.specs.Area.{rows, rowSize, frameSize, rowBytes, statusBits}
@@ -33,7 +33,7 @@ use Rattle.step.specs.declared.DrawnRow.the-variants.{NoRow, Drawn}
 use Rattle.step.specs.declared.Stepped.{Stepped}
 use Rattle.step.specs.Step.{register, lineOf, counterUp, rowOn, coloursNow, rowPicture, drawnBy, atEnd, endScreen, reportOf, interruptOf, countLine, stepped, refusedStep, stepWith, stepLines}
 use Rattle.step.specs.Frame.{drawnBytes, rowWith, frameWith, rowAfter, frameAfter}
-use Rattle.step.specs.Dump.{dumpSize, dumpRefusal, dumpLines, dumpAfter}
+use Rattle.step.specs.Dump.{dumpRefusal, dumpLines, dumpAfter}
 use Rattle.step.proofs.Rows.{row-low, frame-rows}
 
 -- ---- refusals

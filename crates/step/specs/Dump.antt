@@ -6,16 +6,13 @@ use mathlib.Core.List.{List, [], _∷_}
 use Prim.Native.Nat.{ℕ}
 use lib.Dec.{eqb}
 use lib.ListN.{length}
-use Rattle.dump.specs.Dump.{dumped}
+use Rattle.dump.specs.Dump.{dumpSize, dumped}
 use Rattle.vdp.specs.declared.VdpState.{VdpState}
 use Rattle.vdp.specs.declared.Refusal.{Refusal}
 use Rattle.vdp.specs.declared.Refusal.the-variants.{Accepted, VramLength, PixelLength}
 use Rattle.vdp.specs.Refusals.{whole, Line, line}
 
--- R2.1, refusal 9: the one size of a sheet; refusal 8 comes before
-abbrev pub dumpSize : ℕ
-dumpSize = 131072
-
+-- R2.1, refusal 9: a sheet has one size; refusal 8 comes before
 unfoldable pub dumpRefusal : List ℕ → ℕ → Refusal
 dumpRefusal vram size = cond (whole vram) (cond (eqb size dumpSize) Accepted PixelLength) VramLength
 

@@ -8,6 +8,7 @@ ghost use lib.Dec.{eqb};
 ghost use lib.ListN.{length};
 ghost use Rattle.laws.specs.Bits.{bit};
 ghost use Rattle.laws.specs.Lists.{at};
+ghost use Rattle.laws.specs.Sizes.{vramSize};
 ghost use Rattle.colour.specs.Colour.{coloursOf};
 ghost use Rattle.picture.specs.Area.{rows, rowSize, frameSize, pictureOf};
 ghost use Rattle.raster.specs.Raster.{lineInterrupt};
@@ -22,6 +23,17 @@ use picture::RenderArea;
 use raster::Raster;
 use vdp::Refusal;
 use vdp::VdpState;
+
+// The bytes of video memory and of the sheet of all tiles, and the lines between which the areas' rows are drawn.
+const VRAM_SIZE: usize = 0x4000;
+
+const DUMP_SIZE: usize = 131072;
+
+const GG_VISIBLE_AREA_START_Y: u8 = 24;
+
+const GG_VISIBLE_AREA_END_Y: u8 = 168;
+
+const SCROLL_PIXEL_HEIGHT: u8 = 224;
 
 // Whether a step asks the processor for an interrupt.
 pub enum VdpInt {
@@ -89,16 +101,16 @@ fn row_on(area: RenderArea, line: u8) -> DrawnRow
 {
     match area {
         RenderArea::VisibleOnly => {
-            if line < 24 {
+            if line < GG_VISIBLE_AREA_START_Y {
                 return DrawnRow::NoRow;
             }
-            if 168 <= line {
+            if GG_VISIBLE_AREA_END_Y <= line {
                 return DrawnRow::NoRow;
             }
-            DrawnRow::Drawn(line - 24)
+            DrawnRow::Drawn(line - GG_VISIBLE_AREA_START_Y)
         }
         RenderArea::EffectiveArea => {
-            if 224 <= line {
+            if SCROLL_PIXEL_HEIGHT <= line {
                 return DrawnRow::NoRow;
             }
             DrawnRow::Drawn(line)
@@ -128,7 +140,7 @@ fn draw(
     area: RenderArea,
     drawn: DrawnRow,
 ) -> u8
-    requires { ⌜ (length (now vram) ≡ 16384) × (rowSize area ≤ length (now row)) × RowIn area drawn ⌝ }
+    requires { ⌜ (length (now vram) ≡ vramSize) × (rowSize area ≤ length (now row)) × RowIn area drawn ⌝ }
     ensures { λ r. ⌜ r ≡ bitsOf drawn (pictureOf area reg scroll (now (vram .entry))) ⌝ }
     ensures { λ r. ⌜ now (row .exit) ≡ bytesOf drawn area (now (colours .entry)) (pictureOf area reg scroll (now (vram .entry))) (now (row .entry)) ⌝ }
 {
@@ -231,7 +243,7 @@ pub fn row_points(
 ) -> Points
     ensures { λ r. ⌜ ((d : VdpState) → Reads d reg raster status (now (colours .entry)) → RowStepLeaves area (now (vram .entry)) d (now (row .entry)) (joined d r) (now (row .exit))) ⌝ }
 {
-    if vram.len() != 16384 {
+    if vram.len() != VRAM_SIZE {
         return refused(Refusal::VramLength, status, raster);
     }
     let need = row_size(area);
@@ -265,7 +277,7 @@ pub fn frame_points(
 ) -> Points
     ensures { λ r. ⌜ ((d : VdpState) → Reads d reg raster status (now (colours .entry)) → FrameStepLeaves area (now (vram .entry)) d (now (frame .entry)) (joined d r) (now (frame .exit))) ⌝ }
 {
-    if vram.len() != 16384 {
+    if vram.len() != VRAM_SIZE {
         return refused(Refusal::VramLength, status, raster);
     }
     let need = frame_size(area);
@@ -352,10 +364,10 @@ pub fn row_view<'a>(frame: &'a [u8], area: RenderArea, row: usize) -> &'a [u8]
 pub fn dump_tileset(vdp: VdpState, vram: &[u8], pixels: &mut [u8]) -> Refusal
     ensures { λ r. ⌜ DumpLeaves vdp (now (vram .entry)) (now (pixels .entry)) r (now (pixels .exit)) ⌝ }
 {
-    if vram.len() != 16384 {
+    if vram.len() != VRAM_SIZE {
         return Refusal::VramLength;
     }
-    if pixels.len() != 131072 {
+    if pixels.len() != DUMP_SIZE {
         return Refusal::PixelLength;
     }
     let reg = vdp.reg;

@@ -3,6 +3,7 @@
 use Prim.Native.Nat.{ℕ}
 use mathlib.Core.List.{List, [], _∷_}
 use lib.ListN.{replicate}
+use Rattle.laws.specs.Sizes.{vramSize}
 use Rattle.vdp.specs.declared.VdpState.{VdpState}
 use Rattle.vdp.specs.Device.{fresh}
 use Rattle.vdp.specs.Refusals.{refusalNumber}
@@ -45,4 +46,4 @@ answers k (c ∷ cs) = answer k c ∷ answers (after k c) cs
 
 -- A fresh device with zeroed memory.
 unfoldable pub start : World
-start = record { device = fresh; vram = replicate 16384 0 }
+start = record { device = fresh; vram = replicate vramSize 0 }

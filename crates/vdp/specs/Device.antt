@@ -5,6 +5,7 @@ use mathlib.Core.List.{List, [], _∷_}
 use mathlib.Core.Bool.{Bool, true, false}
 use lib.ListN.{replicate}
 use Rattle.raster.specs.declared.Raster.{Raster}
+use Rattle.laws.specs.Sizes.{cramSize}
 use Rattle.vdp.specs.declared.VdpState.{VdpState}
 use Rattle.vdp.specs.declared.WriteDest.{WriteDest}
 use Rattle.vdp.specs.declared.WriteDest.the-variants as Chosen
@@ -33,7 +34,7 @@ abbrev pub fresh : VdpState
 fresh =
     device 0 (0 ∷ 0 ∷ 0xFF ∷ 0xFF ∷ 0xFF ∷ 0xFF ∷ 0xFF ∷ 0 ∷ 0 ∷ 0 ∷ 1 ∷ [])
     (record { «v_counter» = 0; «v_counter_jumped» = false; «line_interrupt_counter» = 0; «vertical_scroll» = 0 })
-    0 0 Chosen.None (replicate 64 0) Empty Empty true (replicate 32 0)
+    0 0 Chosen.None (replicate cramSize 0) Empty Empty true (replicate 32 0)
 
 -- ---- the same device with another command latch, and so on
 abbrev pub withCommand : VdpState → Latch → VdpState

@@ -7,6 +7,7 @@ use mathlib.Core.Bool.{Bool, true, false, cond, not, _||_}
 use lib.ListN.{length, set}
 use lib.Dec.{ltb, leb, eqb}
 use Rattle.laws.specs.Lists.{at}
+use Rattle.laws.specs.Sizes.{vramSize, cramSize}
 use Rattle.vdp.specs.declared.VdpState.{VdpState}
 use Rattle.vdp.specs.declared.Written.{Written}
 use Rattle.vdp.specs.declared.ReadBack.{ReadBack}
@@ -37,11 +38,11 @@ given b d = record { refusal = Accepted; byte = b; vdp = d }
 -- ---- R3.4, R3.5: the command byte
 -- the address of the two bytes, low and high
 abbrev pub videoAddress : ℕ → ℕ → ℕ
-videoAddress d v = (d + 256 * v) % 16384
+videoAddress d v = (d + 256 * v) % vramSize
 
 -- the read buffer filled from address a, and the address one on
 abbrev pub loaded : VdpState → List ℕ → ℕ → VdpState
-loaded s m a = withAddr (withBuffer s (at m a)) ((a + 1) % 16384)
+loaded s m a = withAddr (withBuffer s (at m a)) ((a + 1) % vramSize)
 
 -- R3.5, with first byte d and second v: 00, 01, 10, 11
 abbrev pub secondByte : VdpState → List ℕ → ℕ → ℕ → Written
@@ -50,7 +51,7 @@ secondByte s m d v =
     (cond (eqb (v / 64) 1) (answered Accepted (withAddr (withDest s Vram) (videoAddress d v)))
     (cond (eqb (v / 64) 2)
     (cond (ltb 10 (v % 128)) (answered HighRegister s) (answered Accepted (withReg s (set (s .reg) (v % 128) d))))
-    (answered Accepted (withAddr (withDest s Cram) (d % 64)))))
+    (answered Accepted (withAddr (withDest s Cram) (d % cramSize)))))
 
 -- R3.4: a first byte waits; at a second the latch is emptied
 abbrev pub commandBy : Latch → VdpState → List ℕ → ℕ → Written
@@ -63,7 +64,7 @@ commandWrite s m v = commandBy (s .«cmd_byte1») s m v
 -- ---- R3.6, R3.7: the data write. The device s has its command latch empty already
 -- R3.7, even: the byte waits, and no colour changes
 abbrev pub evenPalette : VdpState → ℕ → Written
-evenPalette s v = answered Accepted (withAddr (withPaletteByte s (Held v)) ((s .addr + 1) % 64))
+evenPalette s v = answered Accepted (withAddr (withPaletteByte s (Held v)) ((s .addr + 1) % cramSize))
 
 -- R3.7, odd: both bytes are stored, dirty where one is another than before; the byte waits on
 abbrev pub changed : ℕ → ℕ → Bool
@@ -76,18 +77,18 @@ stored s a low high =
 
 abbrev pub oddPalette : Latch → VdpState → ℕ → Written
 oddPalette Empty s v = answered NoPaletteByte s
-oddPalette (Held low) s v = answered Accepted (withAddr (stored s (s .addr) low (v % 16)) ((s .addr + 1) % 64))
+oddPalette (Held low) s v = answered Accepted (withAddr (stored s (s .addr) low (v % 16)) ((s .addr + 1) % cramSize))
 
 abbrev pub paletteWrite : VdpState → ℕ → Written
 paletteWrite s v =
-    cond (ltb (s .addr) 64) (cond (eqb (s .addr % 2) 0) (evenPalette s v) (oddPalette (s .«cram_byte1») s v))
+    cond (ltb (s .addr) cramSize) (cond (eqb (s .addr % 2) 0) (evenPalette s v) (oddPalette (s .«cram_byte1») s v))
     (answered OutsideMemory s)
 
 -- R3.6: video memory and the read buffer take the byte
 abbrev pub vramWrite : VdpState → List ℕ → ℕ → After
 vramWrite s m v =
-    cond (ltb (s .addr) 16384)
-    (record { answer = answered Accepted (withAddr (withBuffer s v) ((s .addr + 1) % 16384)); vram = set m (s .addr) v })
+    cond (ltb (s .addr) vramSize)
+    (record { answer = answered Accepted (withAddr (withBuffer s v) ((s .addr + 1) % vramSize)); vram = set m (s .addr) v })
     (record { answer = answered OutsideMemory s; vram = m })
 
 abbrev pub dataBy : WriteDest → VdpState → List ℕ → ℕ → After
@@ -103,7 +104,7 @@ abbrev pub readBy : WriteDest → VdpState → List ℕ → ReadBack
 readBy None s m = refusedRead NothingChosen s
 readBy Cram s m = refusedRead PaletteRead s
 readBy Vram s m =
-    cond (ltb (s .addr) 16384) (given (s .«vram_buffer») (loaded s m (s .addr))) (refusedRead OutsideMemory s)
+    cond (ltb (s .addr) vramSize) (given (s .«vram_buffer») (loaded s m (s .addr))) (refusedRead OutsideMemory s)
 
 abbrev pub dataRead : VdpState → List ℕ → ReadBack
 dataRead s m = readBy (s .dest) (unlatched s) m

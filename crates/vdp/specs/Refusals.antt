@@ -5,6 +5,7 @@ use mathlib.Core.List.{List, [], _∷_}
 use mathlib.Core.Bool.{Bool, true, false, cond, not, _||_, _&&_}
 use lib.ListN.{length}
 use lib.Dec.{leb, ltb, eqb}
+use Rattle.laws.specs.Sizes.{vramSize, cramSize}
 use Rattle.vdp.specs.declared.VdpState.{VdpState}
 use Rattle.vdp.specs.declared.WriteDest.{WriteDest}
 use Rattle.vdp.specs.declared.WriteDest.the-variants.{None, Vram, Cram}
@@ -74,13 +75,13 @@ isPalette Cram = true
 
 -- R6.4: the size of the memory that is chosen; with none chosen refusal 4 comes before
 abbrev pub size : WriteDest → ℕ
-size None = 16384
-size Vram = 16384
-size Cram = 64
+size None = vramSize
+size Vram = vramSize
+size Cram = cramSize
 
 -- R2.5: no call goes on without the whole of video memory
 abbrev pub whole : List ℕ → Bool
-whole vram = eqb (length vram) 16384
+whole vram = eqb (length vram) vramSize
 
 -- R3.3: a port is known by its low byte
 abbrev pub isPort : ℕ → ℕ → Bool

@@ -2,10 +2,24 @@
 ghost use mathlib.Core.Path.{_≡_};
 ghost use Prim.Native.Nat.{ℕ, _+_, _-_, _*_, _%_, _/_, _<_, _≤_};
 ghost use lib.ListN.{length};
+ghost use Rattle.laws.specs.Sizes.{vramSize};
 ghost use Rattle.vdp.specs.Device.{fresh, withCommand, withDest, withPaletteByte, withRaster, withCache};
 ghost use Rattle.vdp.specs.Refusals.{refusalNumber};
 ghost use Rattle.vdp.specs.Ports.{commandWrite, paletteWrite, dataWrite, dataRead, statusRead, WriteLeaves, portRead};
 use raster::Raster;
+
+// The ports, known by their low byte (R3.3), and the bytes of video memory and of the palette.
+const VDP_CMD: u16 = 0xBF;
+
+const VDP_DATA: u16 = 0xBE;
+
+const VCOUNTER_READ: u16 = 0x7E;
+
+const HCOUNTER_READ: u16 = 0x7F;
+
+const VRAM_SIZE: u16 = 0x4000;
+
+const CRAM_SIZE: u16 = 0x40;
 
 // The memory that the data port reads and writes.
 pub enum WriteDest {
@@ -237,7 +251,7 @@ impl VdpState {
 
     // A command byte: the first of two waits in the latch (R3.4), the second acts with it (R3.5).
     fn write_cmd(self, vram: &[u8], val: u8) -> Written
-        requires { ⌜ length (now vram) ≡ 16384 ⌝ }
+        requires { ⌜ length (now vram) ≡ vramSize ⌝ }
         ensures { λ r. ⌜ r ≡ commandWrite self (now (vram .entry)) val ⌝ }
     {
         let cmd_byte1 = self.cmd_byte1;
@@ -248,13 +262,13 @@ impl VdpState {
             };
         };
         let mut vdp = self.with_command(Latch::Empty);
-        let addr = ((data as u16) + 256 * (val as u16)) % 16384;
+        let addr = ((data as u16) + 256 * (val as u16)) % VRAM_SIZE;
         match val / 64 {
             0 => {
                 let at = addr as usize;
                 let mut video = vdp.with_dest(WriteDest::Vram);
                 video.vram_buffer = vram[at];
-                video.addr = (addr + 1) % 16384;
+                video.addr = (addr + 1) % VRAM_SIZE;
                 Written {
                     refusal: Refusal::Accepted,
                     vdp: video,
@@ -298,7 +312,7 @@ impl VdpState {
         ensures { λ r. ⌜ r ≡ paletteWrite self val ⌝ }
     {
         let addr = self.addr;
-        if 64 <= addr {
+        if CRAM_SIZE <= addr {
             return Written {
                 refusal: Refusal::OutsideMemory,
                 vdp: self,
@@ -306,7 +320,7 @@ impl VdpState {
         }
         if addr % 2 == 0 {
             let mut first = self.with_palette_byte(Latch::Held(val));
-            first.addr = (addr + 1) % 64;
+            first.addr = (addr + 1) % CRAM_SIZE;
             return Written {
                 refusal: Refusal::Accepted,
                 vdp: first,
@@ -328,7 +342,7 @@ impl VdpState {
         vdp.cram_dirty = vdp.cram_dirty | (was_low != low) | (was_high != high);
         vdp.cram[below] = low;
         vdp.cram[here] = high;
-        vdp.addr = (addr + 1) % 64;
+        vdp.addr = (addr + 1) % CRAM_SIZE;
         Written {
             refusal: Refusal::Accepted,
             vdp: vdp,
@@ -337,7 +351,7 @@ impl VdpState {
 
     // A data byte, for the memory that is chosen (R3.6, R3.7).
     fn write_ram(self, vram: &mut [u8], val: u8) -> Written
-        requires { ⌜ length (now vram) ≡ 16384 ⌝ }
+        requires { ⌜ length (now vram) ≡ vramSize ⌝ }
         ensures { λ r. ⌜ r ≡ dataWrite self (now (vram .entry)) val .answer ⌝ }
         ensures { λ r. ⌜ now (vram .exit) ≡ dataWrite self (now (vram .entry)) val .vram ⌝ }
     {
@@ -350,7 +364,7 @@ impl VdpState {
             },
             WriteDest::Vram => {
                 let addr = self.addr;
-                if 16384 <= addr {
+                if VRAM_SIZE <= addr {
                     return Written {
                         refusal: Refusal::OutsideMemory,
                         vdp: vdp,
@@ -359,7 +373,7 @@ impl VdpState {
                 let at = addr as usize;
                 vram[at] = val;
                 vdp.vram_buffer = val;
-                vdp.addr = (addr + 1) % 16384;
+                vdp.addr = (addr + 1) % VRAM_SIZE;
                 Written {
                     refusal: Refusal::Accepted,
                     vdp: vdp,
@@ -371,7 +385,7 @@ impl VdpState {
 
     // The read buffer, and the next byte into it (R3.8).
     fn read_ram(self, vram: &[u8]) -> ReadBack
-        requires { ⌜ length (now vram) ≡ 16384 ⌝ }
+        requires { ⌜ length (now vram) ≡ vramSize ⌝ }
         ensures { λ r. ⌜ r ≡ dataRead self (now (vram .entry)) ⌝ }
     {
         let mut vdp = self.with_command(Latch::Empty);
@@ -389,7 +403,7 @@ impl VdpState {
             },
             WriteDest::Vram => {
                 let addr = self.addr;
-                if 16384 <= addr {
+                if VRAM_SIZE <= addr {
                     return ReadBack {
                         refusal: Refusal::OutsideMemory,
                         byte: 0,
@@ -399,7 +413,7 @@ impl VdpState {
                 let byte = self.vram_buffer;
                 let at = addr as usize;
                 vdp.vram_buffer = vram[at];
-                vdp.addr = (addr + 1) % 16384;
+                vdp.addr = (addr + 1) % VRAM_SIZE;
                 ReadBack {
                     refusal: Refusal::Accepted,
                     byte: byte,
@@ -427,15 +441,15 @@ impl VdpState {
     pub fn out(self, vram: &mut [u8], addr: u16, val: u8) -> Written
         ensures { λ r. ⌜ WriteLeaves self (now (vram .entry)) addr val r (now (vram .exit)) ⌝ }
     {
-        if vram.len() != 16384 {
+        if vram.len() != VRAM_SIZE as usize {
             return Written {
                 refusal: Refusal::VramLength,
                 vdp: self,
             };
         }
         match addr % 256 {
-            0xBF => self.write_cmd(vram, val),
-            0xBE => self.write_ram(vram, val),
+            VDP_CMD => self.write_cmd(vram, val),
+            VDP_DATA => self.write_ram(vram, val),
             _ => Written {
                 refusal: Refusal::UnknownPort,
                 vdp: self,
@@ -447,7 +461,7 @@ impl VdpState {
     pub fn input(self, vram: &[u8], addr: u16) -> ReadBack
         ensures { λ r. ⌜ r ≡ portRead self (now (vram .entry)) addr ⌝ }
     {
-        if vram.len() != 16384 {
+        if vram.len() != VRAM_SIZE as usize {
             return ReadBack {
                 refusal: Refusal::VramLength,
                 byte: 0,
@@ -455,7 +469,7 @@ impl VdpState {
             };
         }
         match addr % 256 {
-            0x7E => {
+            VCOUNTER_READ => {
                 let raster = self.raster;
                 ReadBack {
                     refusal: Refusal::Accepted,
@@ -463,13 +477,13 @@ impl VdpState {
                     vdp: self,
                 }
             }
-            0x7F => ReadBack {
+            HCOUNTER_READ => ReadBack {
                 refusal: Refusal::HorizontalCounter,
                 byte: 0,
                 vdp: self,
             },
-            0xBF => self.read_status(),
-            0xBE => self.read_ram(vram),
+            VDP_CMD => self.read_status(),
+            VDP_DATA => self.read_ram(vram),
             _ => ReadBack {
                 refusal: Refusal::UnknownPort,
                 byte: 0,

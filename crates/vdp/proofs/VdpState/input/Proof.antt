@@ -8,6 +8,10 @@ use Rattle.vdp.proofs.VdpState.input.Lts as lts
 use Rattle.vdp.proofs.VdpState.read_ram.Reads as read-ram-reads
 use Rattle.vdp.proofs.VdpState.read_status.Reads as read-status-reads
 
+-- src/lib.rt
+cast-if1 : tie.Need-cast-if1
+cast-if1 c = search needs
+
 -- src/lib.rt:384:13
 returns : tie.Need-returns
 unfolding portRead
@@ -58,6 +62,7 @@ pub input-spec : {M : Type 1} → statement M
 input-spec =
     tie.close
     (tie.spec
+    cast-if1
     returns
     read-status-requires
     read-ram-requires

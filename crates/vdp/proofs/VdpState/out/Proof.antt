@@ -8,6 +8,10 @@ use Rattle.vdp.proofs.VdpState.out.Lts as lts
 use Rattle.vdp.proofs.VdpState.write_cmd.Reads as write-cmd-reads
 use Rattle.vdp.proofs.VdpState.write_ram.Reads as write-ram-reads
 
+-- src/lib.rt
+cast-if1 : tie.Need-cast-if1
+cast-if1 c = search needs
+
 -- src/lib.rt:364:13
 returns : tie.Need-returns
 unfolding portWrite
@@ -61,6 +65,7 @@ pub out-spec : {M : Type 1} → statement M
 out-spec =
     tie.close
     (tie.spec
+    cast-if1
     returns
     write-cmd-requires
     write-ram-requires
