@@ -40,7 +40,7 @@ extern "C" {
 
 /* The number of this face, 65536 * major + 256 * minor + small; vdp_version() gives that of the library at hand. Major goes
  * up where a program that was right may have to change, minor where calls are added, small where neither is so. */
-#define VDP_VERSION_MAJOR 1
+#define VDP_VERSION_MAJOR 2
 #define VDP_VERSION_MINOR 0
 #define VDP_VERSION_SMALL 0
 #define VDP_VERSION (65536 * VDP_VERSION_MAJOR + 256 * VDP_VERSION_MINOR + VDP_VERSION_SMALL)
@@ -48,7 +48,7 @@ extern "C" {
 /* Stack in bytes: the deepest that was measured (tests/stack.c) is about 2,100, on x86-64 and on Arm. */
 #define VDP_STACK_NEED 4096
 
-/* Sizes in bytes. A frame or a row may be longer (the bytes past its size never change); all others are exact. */
+/* Sizes in bytes. A row may be longer (the bytes past its size never change); all others are exact. */
 #define VDP_STATE_SIZE           219
 #define VDP_VRAM_SIZE            16384
 #define VDP_VISIBLE_FRAME_SIZE   92160  /* 160 x 144 pixels of 4 bytes */
@@ -90,6 +90,7 @@ extern "C" {
 #define VDP_REFUSED_PIXELS_LENGTH 9  /* frame or row too short, or sheet not exactly VDP_TILESET_SIZE bytes: unchanged */
 #define VDP_REFUSED_BLOCK         10 /* state block malformed: unchanged */
 #define VDP_REFUSED_AREA          11 /* area number above 1: unchanged */
+#define VDP_REFUSED_FRAME_LONG    12 /* frame longer than its area's size: unchanged */
 
 /* Display reports of a step. */
 #define VDP_NO_DISPLAY             0
@@ -126,7 +127,7 @@ uint32_t vdp_out(uint8_t *state, size_t state_len, uint8_t *vram, size_t vram_le
 uint32_t vdp_input(uint8_t *state, size_t state_len, const uint8_t *vram, size_t vram_len, uint16_t port);
 
 /* One step of the line counter, drawing the step's row, if it has one, at its place in the frame.
- * Refusals, in this order: 10, 11, 8, 9. */
+ * The frame has exactly its area's size. Refusals, in this order: 10, 11, 8, 9, 12. */
 uint32_t vdp_step(uint8_t *state, size_t state_len, const uint8_t *vram, size_t vram_len, uint8_t *frame,
                   size_t frame_len, uint8_t area);
 

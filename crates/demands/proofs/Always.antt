@@ -10,7 +10,6 @@ use lib.Dec.{ltb}
 use borrow.Author.Tests.{ltb-false, not-true}
 use Rattle.laws.proofs.Tests.{either, both}
 use Rattle.picture.specs.declared.RenderArea.{RenderArea}
-use Rattle.picture.specs.Area.{rowSize, frameSize}
 use Rattle.raster.specs.Raster.{jumpLine, jumpTo}
 use Rattle.vdp.specs.declared.VdpState.{VdpState}
 use Rattle.vdp.specs.declared.Refusal.{Refusal}
@@ -18,7 +17,7 @@ use Rattle.vdp.specs.Refusals.{refusalNumber, Line, first, size, isPort, writeL
 use Rattle.vdp.specs.Ports.{portWrite, portRead}
 use Rattle.vdp.proofs.Exact.{write-exact, read-exact}
 use Rattle.vdp.proofs.Invariant.{Aimed}
-use Rattle.step.specs.Step.{stepWith, stepLines}
+use Rattle.step.specs.Step.{rowLines, frameLines, stepWith}
 use Rattle.step.specs.Dump.{dumpLines}
 use Rattle.step.proofs.Laws.{step-exact, dump-exact}
 use Rattle.demands.specs.Pass.{Call, out, input, step-frame, step-row, dump-tiles, refusalOf, History, deviceAfter}
@@ -57,16 +56,15 @@ module _ (d : VdpState) (m : List ℕ) (p : ℕ) (aimed : Aimed d) where
       (first-not (readLines d m p)
       (λ _. omega arith, (λ _. omega arith, (λ _. omega arith, (λ _. omega arith, (λ _. omega arith, (λ e. absurd (inside (isPort 0xBE p) e), tt)))))))
 
-step-not : (need : ℕ) (a : RenderArea) (vram : List ℕ) (n : ℕ) (d : VdpState) → NotSeven (stepWith need a vram n d .refusal)
-step-not need a vram n d =
-    rw (step-exact need a vram n d) (first-not (stepLines need vram n) (λ _. omega arith, (λ _. omega arith, tt)))
+step-not : (ls : List Line) (a : RenderArea) (vram : List ℕ) (d : VdpState) → Silent ls → NotSeven (stepWith ls a vram d .refusal)
+step-not ls a vram d s = rw (step-exact ls a vram d) (first-not ls s)
 
 not-seven : (c : Call) (d : VdpState) → Aimed d → NotSeven (refusalOf c d)
 unfolding refusalOf
 not-seven (out p v m) d h = write-not d m p h v
 not-seven (input p m) d h = read-not d m p h
-not-seven (step-frame a vram n) d h = step-not (frameSize a) a vram n d
-not-seven (step-row a vram n) d h = step-not (rowSize a) a vram n d
+not-seven (step-frame a vram n) d h = step-not (frameLines a vram n) a vram d (λ _. omega arith, (λ _. omega arith, (λ _. omega arith, tt)))
+not-seven (step-row a vram n) d h = step-not (rowLines a vram n) a vram d (λ _. omega arith, (λ _. omega arith, tt))
 not-seven (dump-tiles vram n) d h =
     rw (dump-exact vram n) (first-not (dumpLines vram n) (λ _. omega arith, (λ _. omega arith, tt)))
 

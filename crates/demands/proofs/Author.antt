@@ -13,7 +13,6 @@ use borrow.Author.Tests.{eq-eqb, ne-eqb, leb-true, leb-false}
 use Rattle.laws.proofs.Tests.{split}
 use Rattle.colour.proofs.Laws.{colours-at}
 use Rattle.picture.specs.declared.RenderArea.the-variants.{VisibleOnly}
-use Rattle.picture.specs.Area.{frameSize}
 use Rattle.raster.specs.Raster.{jumps}
 use Rattle.vdp.specs.declared.VdpState.{VdpState}
 use Rattle.vdp.specs.declared.Written.{Written}
@@ -24,12 +23,12 @@ use Rattle.vdp.specs.declared.Refusal.the-variants.{Accepted}
 use Rattle.vdp.specs.Device.{fresh, withCommand, unlatched, withDest, withAddr, withPaletteByte}
 use Rattle.vdp.specs.Refusals.{whole}
 use Rattle.vdp.specs.Ports.{commandBy, commandWrite, dataWrite, stored, portWrite}
-use Rattle.step.specs.Step.{frameStep}
+use Rattle.step.specs.Step.{frameLines, frameStep}
 use Rattle.demands.specs.Pass.{Run, after, deviceAfter, then, until, through, ready, answer, lineSet}
 use Rattle.demands.specs.Split.{Split, Twins}
 use Rattle.demands.specs.Author.{asked, unasked, newPalette, Answered}
-use Rattle.step.proofs.Laws.{stepped-reg, stepped-cram, stepped-command}
-use Rattle.demands.proofs.Steps.{taken, accepts}
+use Rattle.step.proofs.Laws.{frame-passes, frame-memory, stepped-reg, stepped-cram, stepped-command}
+use Rattle.demands.proofs.Steps.{frame-taken, accepts}
 use Rattle.demands.proofs.Demand3.{steps, after-step, line-of}
 use Rattle.demands.proofs.Split.{rising, other-colours, changed-visible}
 
@@ -117,7 +116,7 @@ module _
     whole-90 : whole (vram 90) ≡ true
     whole-90 =
         eq-eqb (length (vram 90)) 16384
-        (taken (frameSize VisibleOnly) VisibleOnly (vram 90) (length frame) fresh (accepted 90 fresh) .memory)
+        (frame-memory VisibleOnly (vram 90) (length frame) (frame-taken VisibleOnly (vram 90) (length frame) fresh (accepted 90 fresh)))
 
     written : Holds (ready r 90) new
     unfolding ready until then deviceAfter after
@@ -201,7 +200,9 @@ unfolding memory
 memory-length = length-replicate {A = ℕ} 16384 0
 
 zeros-accepted : (i : ℕ) (d : VdpState) → frameStep VisibleOnly memory (length zeros) d .refusal ≡ Accepted
-zeros-accepted i d = accepts (frameSize VisibleOnly) VisibleOnly memory (length zeros) d memory-length (omega (arith, frame-length))
+zeros-accepted i d =
+    accepts (frameLines VisibleOnly memory (length zeros)) VisibleOnly memory d
+    (frame-passes VisibleOnly memory (length zeros) memory-length frame-length)
 
 zeros-answered : (low high : ℕ) → Answered (λ i. memory) zeros zeros-accepted low high
 zeros-answered low high = answered (λ i. memory) zeros zeros-accepted low high

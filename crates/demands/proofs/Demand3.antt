@@ -8,7 +8,7 @@ use Prim.Native.Nat.{ℕ, zero, suc, _+_, _-_, _≤_, _<_}
 use native.Mathlib.Nat.{add-zero, add-suc, add-comm}
 use native.Mathlib.Omega.{arith}
 use lib.Dec.{eqb}
-use lib.ListN.{length, drop}
+use lib.ListN.{length}
 use borrow.Author.Tests.{eq-eqb, eqb-true}
 use Rattle.laws.specs.Bits.{bit}
 use Rattle.laws.specs.Lists.{rowOf}
@@ -21,20 +21,20 @@ use Rattle.picture.specs.Area.{columns, rows, firstLine, rowSize, frameSize, ro
 use Rattle.raster.specs.declared.Raster.{Raster}
 use Rattle.raster.specs.Raster.{passLength, jumpLine, jumpTo, advanced, counted, ticked}
 use Rattle.vdp.specs.declared.VdpState.{VdpState}
-use Rattle.vdp.specs.Refusals.{whole}
+use Rattle.vdp.proofs.Tables.{Passed}
 use Rattle.step.specs.declared.Stepped.{Stepped}
 use Rattle.step.specs.declared.DisplayRefresh.the-variants.{NoDisplay, ScreenDone, ScreenDoneNoRefresh}
 use Rattle.step.specs.declared.DrawnRow.the-variants.{Drawn}
-use Rattle.step.specs.Step.{register, lineOf, counterUp, rowOn, reportOf, stepped}
+use Rattle.step.specs.Step.{register, lineOf, counterUp, rowOn, reportOf, stepped, frameLines}
 use Rattle.step.specs.Frame.{drawnBytes, FrameStepLeaves}
 use Rattle.step.proofs.Rows.{row-low, row-line, row-at}
-use Rattle.step.proofs.Laws.{stepped-raster, frame-step-length, frame-step-past, frame-step-other, frame-step-here}
+use Rattle.step.proofs.Laws.{stepped-raster, step-accepted, frame-fits, frame-memory, frame-step-length, frame-step-other, frame-step-here}
 use Rattle.demands.specs.Pass.{History, Steps, Between, Run, after, deviceAfter, then, stepCall, until, through, ready, answer, lineSet, frameAt, latched, pictureAt, rowAtEnd, LineInterruptsEvery, ForLine, Demand3}
 use Rattle.demands.specs.Rows.{RowsDrawn}
 use Rattle.demands.specs.Interrupts.{AllSo, here, call, step}
 use Rattle.demands.proofs.Counter.{line}
 use Rattle.demands.proofs.Lines.{before-0, line-once, line-twice}
-use Rattle.demands.proofs.Steps.{colours-now, Taken, taken, is-stepped}
+use Rattle.demands.proofs.Steps.{colours-now, frame-taken}
 use Rattle.demands.proofs.Sound.{Sound, sound, scroll-is, then-raster}
 use Rattle.demands.proofs.Interrupts.{from-line-0}
 
@@ -70,12 +70,16 @@ module _ {a : RenderArea} (r : Run a) where
   dev i = ready r i
 
   -- each step of a run is an accepted one
-  accepted : (i : ℕ) → Taken (frameSize a) a (r .vram i) (length (r .frame)) (dev i)
-  accepted i = taken (frameSize a) a (r .vram i) (length (r .frame)) (dev i) (r .accepted i (dev i))
+  accepted : (i : ℕ) → Passed (frameLines a (r .vram i) (length (r .frame)))
+  accepted i = frame-taken a (r .vram i) (length (r .frame)) (dev i) (r .accepted i (dev i))
+
+  -- and so the frame has exactly its area's size
+  pub exact-frame : length (r .frame) ≡ frameSize a
+  exact-frame = frame-fits a (r .vram 0) (length (r .frame)) (accepted 0)
 
   pub steps : (i : ℕ) → answer r i ≡ stepped a (r .vram i) (dev i)
   unfolding answer
-  steps i = is-stepped (frameSize a) a (r .vram i) (length (r .frame)) (dev i) (r .accepted i (dev i))
+  steps i = step-accepted (frameLines a (r .vram i) (length (r .frame))) a (r .vram i) (dev i) (accepted i)
 
   pub after-step : (i : ℕ) → deviceAfter (through r i) ≡ answer r i .vdp
   unfolding deviceAfter after answer ready
@@ -149,19 +153,13 @@ module _ {a : RenderArea} (r : Run a) where
   unfolding frameAt
   row-kept i y n = frame-step-other a (r .vram i) (dev i) (frameAt r i) y (λ e. n (row-of i ∙ e))
 
-  past-kept : (i : ℕ) → drop (frameSize a) (frameAt r i) ≡ drop (frameSize a) (r .frame)
-  unfolding frameAt
-  past-kept zero = refl
-  past-kept (suc i) = frame-step-past a (r .vram i) (dev i) (frameAt r i) ∙ past-kept i
-
   -- the row that step i draws, in the frame just after it
   just-drawn :
       (i y : ℕ) → answer r i .row ≡ Drawn y →
       rowOf (rowSize a) y (frameAt r (suc i)) ≡ rowBytes (coloursOf (dev i .cram)) (columns a) (pictureAt r i y)
   unfolding frameAt drawnBytes
   just-drawn i y e =
-      let size : frameSize a ≤ length (frameAt r i) = omega (arith, accepted i .room, same-length i) in
-      frame-step-here a (r .vram i) (dev i) (frameAt r i) y (accepted i .memory) size (sym (row-of i) ∙ e)
+      frame-step-here a (r .vram i) (dev i) (frameAt r i) y (frame-memory a (r .vram i) (length (r .frame)) (accepted i)) (same-length i ∙ exact-frame) (sym (row-of i) ∙ e)
       ∙ rw (colours-now (counterUp (dev i)) (ready-sound i .clean), scroll-at i)
 
   -- a row that n steps from step i on do not draw
@@ -248,7 +246,6 @@ module _ {a : RenderArea} (r : Run a) where
           row-once = row-once;
           no-other = λ i y e. omega (arith, no-other i y e);
           row-kept = row-kept;
-          past-kept = past-kept;
           end-once = end-once;
           row-bytes = row-bytes;
           line-interrupts = λ i N b every k h. line-interrupts i N every b k h;

@@ -7,15 +7,16 @@ use Prim.Native.Nat.{ℕ, zero, suc, _+_, _≤_, _<_, _∣_}
 use native.Mathlib.Nat.{add-zero, dvd-refl, dvd-add-iff-left}
 use native.Mathlib.Omega.{arith}
 use Rattle.picture.specs.declared.RenderArea.{RenderArea}
-use Rattle.picture.specs.Area.{rowSize, frameSize}
 use Rattle.raster.specs.declared.Raster.{Raster}
 use Rattle.raster.specs.Raster.{passLength, jumpTo, advanced, counted, ticked}
 use Rattle.vdp.specs.declared.VdpState.{VdpState}
 use Rattle.vdp.specs.declared.Refusal.the-variants.{Accepted}
 use Rattle.vdp.specs.Device.{fresh}
+use Rattle.vdp.specs.Refusals.{Line}
+use Rattle.vdp.proofs.Tables.{Refusing}
 use Rattle.step.specs.declared.Stepped.{Stepped}
-use Rattle.step.specs.Step.{register, lineOf, stepped, stepWith}
-use Rattle.step.proofs.Laws.{stepped-raster}
+use Rattle.step.specs.Step.{register, lineOf, stepped, rowLines, frameLines, stepWith}
+use Rattle.step.proofs.Laws.{row-refusing, frame-refusing, stepped-raster}
 use Rattle.demands.specs.Pass.{Call, out, input, step-frame, step-row, dump-tiles, Steps, LineInterruptsEvery, InterruptsWhen}
 use Rattle.demands.specs.Interrupts.{AllSo, here, call, step, FromLine0, FirstPass}
 use Rattle.demands.proofs.Lines.{Due, Takes, due-first, takes-0, takes-next, sets, leaves, comes, comes-late}
@@ -28,15 +29,16 @@ record Is (d : VdpState) (s : Stepped) : Type 0 where
   vram : List ℕ
   is : s ≡ stepped area vram d
 
-accepted : (need : ℕ) (a : RenderArea) (vram : List ℕ) (n : ℕ) (d : VdpState) (s : Stepped) → s ≡ stepWith need a vram n d → s .refusal ≡ Accepted → Is d s
-accepted need a vram n d s e ok =
-    record { area = a; vram = vram; is = e ∙ is-stepped need a vram n d (sym (ap (λ (x : Stepped). x .refusal) e) ∙ ok) }
+accepted :
+    (ls : List Line) (a : RenderArea) (vram : List ℕ) (d : VdpState) (s : Stepped) → Refusing ls → s ≡ stepWith ls a vram d → s .refusal ≡ Accepted → Is d s
+accepted ls a vram d s q e ok =
+    record { area = a; vram = vram; is = e ∙ is-stepped ls a vram d q (sym (ap (λ (x : Stepped). x .refusal) e) ∙ ok) }
 
 is-step : (c : Call) (d : VdpState) (s : Stepped) → Steps c d s → Is d s
 is-step (out p v m) d s e = absurd e
 is-step (input p m) d s e = absurd e
-is-step (step-frame a vram n) d s e = accepted (frameSize a) a vram n d s (e .0) (e .1)
-is-step (step-row a vram n) d s e = accepted (rowSize a) a vram n d s (e .0) (e .1)
+is-step (step-frame a vram n) d s e = accepted (frameLines a vram n) a vram d s (frame-refusing a vram n) (e .0) (e .1)
+is-step (step-row a vram n) d s e = accepted (rowLines a vram n) a vram d s (row-refusing a vram n) (e .0) (e .1)
 is-step (dump-tiles vram n) d s e = absurd e
 
 raster-by : (d : VdpState) (s : Stepped) → Is d s → s .vdp .raster ≡ ticked (register d) (d .raster)

@@ -5,18 +5,18 @@ use mathlib.Core.Bool.{Bool, true, false, cond, not, _&&_, and-false}
 use mathlib.Core.List.{List, [], _∷_}
 use Prim.Native.Nat.{ℕ}
 use native.Mathlib.Omega.{arith}
-use lib.Dec.{eqb, leb}
+use lib.Dec.{eqb}
 use borrow.Author.Tests.{eqb-true, ne-eqb}
-use Rattle.laws.proofs.Tests.{either, split, clash}
+use Rattle.laws.proofs.Tests.{split, clash}
 use Rattle.picture.specs.declared.RenderArea.{RenderArea}
-use Rattle.picture.specs.Area.{rowSize, frameSize}
 use Rattle.raster.specs.declared.Raster.{Raster}
 use Rattle.raster.specs.Raster.{up, jumps, starts, jumpLine, advanced, counted, ticked}
 use Rattle.vdp.specs.declared.VdpState.{VdpState}
-use Rattle.vdp.specs.Refusals.{size, whole}
+use Rattle.vdp.specs.Refusals.{Line, size}
+use Rattle.vdp.proofs.Tables.{under-either}
 use Rattle.vdp.proofs.Invariant.{Aimed, write-aimed, read-aimed}
 use Rattle.step.specs.declared.Stepped.{Stepped}
-use Rattle.step.specs.Step.{register, lineOf, stepped, stepWith, rowStep, frameStep}
+use Rattle.step.specs.Step.{register, lineOf, stepped, refusedStep, rowLines, frameLines, stepWith, rowStep, frameStep}
 use Rattle.demands.specs.Pass.{Call, out, input, step-frame, step-row, dump-tiles, History, after, deviceAfter, becomesZero, latched, NoStepOn, Between, then}
 use Rattle.demands.proofs.Counter.{InPass, tick, line}
 use Rattle.demands.proofs.Lines.{starts-at}
@@ -39,10 +39,9 @@ record Left (d d′ : VdpState) : Type 0 where
   clean : Clean d → Clean d′
   aimed : Aimed d → Aimed d′
 
-step-left : (need : ℕ) (a : RenderArea) (vram : List ℕ) (size : ℕ) (d : VdpState) → Left d (stepWith need a vram size d .vdp)
+step-left : (ls : List Line) (a : RenderArea) (vram : List ℕ) (d : VdpState) → Left d (stepWith ls a vram d .vdp)
 unfolding stepWith
-step-left need a vram n d =
-    either LeftBy (whole vram) (λ _. either LeftBy (leb need n) (λ _. took) (λ _. none)) (λ _. none)
+step-left ls a vram d = under-either LeftBy ls (λ r. refusedStep r d) (stepped a vram d) (λ _. none) (λ _. took)
   where
     LeftBy : Stepped → Type 0
     LeftBy s = Left d (s .vdp)
@@ -66,8 +65,8 @@ left (out p v m) d =
 left (input p m) d =
     let k = read-keeps d m p in
     record { moved = stays (k .raster); clean = k .clean; aimed = read-aimed d m p }
-left (step-frame a vram n) d = step-left (frameSize a) a vram n d
-left (step-row a vram n) d = step-left (rowSize a) a vram n d
+left (step-frame a vram n) d = step-left (frameLines a vram n) a vram d
+left (step-row a vram n) d = step-left (rowLines a vram n) a vram d
 left (dump-tiles vram n) d = record { moved = stays refl; clean = λ k. k; aimed = λ k. k }
 
 moved-within : {g : ℕ → ℕ} {x x′ : Raster} → Moved g x x′ → InPass x → InPass x′
@@ -116,8 +115,8 @@ pub quiet : (c : Call) (d : VdpState) → NoStepOn d c → after c d .raster ≡
 unfolding after
 quiet (out p v m) d n = write-keeps d m p v .raster
 quiet (input p m) d n = read-keeps d m p .raster
-quiet (step-frame a vram k) d n = refused-raster (frameSize a) a vram k d (λ e. n (frameStep a vram k d) (refl, e))
-quiet (step-row a vram k) d n = refused-raster (rowSize a) a vram k d (λ e. n (rowStep a vram k d) (refl, e))
+quiet (step-frame a vram k) d n = refused-raster (frameLines a vram k) a vram d (λ e. n (frameStep a vram k d) (refl, e))
+quiet (step-row a vram k) d n = refused-raster (rowLines a vram k) a vram d (λ e. n (rowStep a vram k d) (refl, e))
 quiet (dump-tiles vram k) d n = refl
 
 pub then-raster : (cs : List Between) (h : History) → deviceAfter (then cs h) .raster ≡ deviceAfter h .raster

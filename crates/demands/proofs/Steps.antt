@@ -1,27 +1,25 @@
 -- Of a step: clean colours stay the palette's, the interrupt with frame interrupts off, and what an acceptance and a refusal tell.
 -- Assumes nothing.
-use mathlib.Core.Path.{_≡_, refl}
+use mathlib.Core.Path.{_≡_, refl, sym, _∙_}
 use mathlib.Core.Logic.{_↔_, _≢_}
 use mathlib.Core.Bool.{Bool, true, false, cond}
 use mathlib.Core.List.{List}
-use Prim.Native.Nat.{ℕ, _≤_}
+use Prim.Native.Nat.{ℕ}
 use native.Mathlib.Omega.{arith}
-use lib.Dec.{leb}
-use lib.ListN.{length}
-use borrow.Author.Tests.{eqb-true, leb-true}
 use Rattle.laws.specs.Bits.{bit}
 use Rattle.laws.proofs.Tests.{either}
 use Rattle.colour.specs.Colour.{coloursOf}
 use Rattle.picture.specs.declared.RenderArea.{RenderArea}
 use Rattle.raster.specs.Raster.{advanced, lineInterrupt}
 use Rattle.vdp.specs.declared.VdpState.{VdpState}
-use Rattle.vdp.specs.declared.Refusal.the-variants.{Accepted, VramLength, PixelLength}
-use Rattle.vdp.specs.Refusals.{whole}
+use Rattle.vdp.specs.declared.Refusal.the-variants.{Accepted}
+use Rattle.vdp.specs.Refusals.{Line}
+use Rattle.vdp.proofs.Tables.{Passed, Refusing, passed}
 use Rattle.step.specs.declared.DrawnRow.{DrawnRow}
 use Rattle.step.specs.declared.DrawnRow.the-variants.{NoRow, Drawn}
 use Rattle.step.specs.declared.VdpInt.the-variants.{InterruptGenerated, NoInterrupt}
-use Rattle.step.specs.Step.{register, lineOf, counterUp, rowOn, coloursNow, stepped, refusedStep, stepWith}
-use Rattle.step.proofs.Laws.{stepped-refusal, dirtyAfter, cacheAfter, stepped-dirty, stepped-cache, stepped-cram, stepped-interrupt, step-accepted, step-left}
+use Rattle.step.specs.Step.{register, lineOf, counterUp, rowOn, coloursNow, stepped, frameLines, stepWith, frameStep}
+use Rattle.step.proofs.Laws.{stepped-refusal, dirtyAfter, cacheAfter, stepped-dirty, stepped-cache, stepped-cram, stepped-interrupt, step-exact, step-accepted, step-left, frame-refusing}
 use Rattle.demands.proofs.Kept.{Clean}
 
 -- ---- colours
@@ -50,28 +48,19 @@ line-alone a vram d off =
     rw (stepped-interrupt a vram d, off) (raised (lineInterrupt (register d) (advanced (register d) (d .raster))))
 
 -- ---- accepted or refused
-module _ (need : ℕ) (a : RenderArea) (vram : List ℕ) (size : ℕ) (d : VdpState) where
-  -- an accepted step had memory and room
-  pub record Taken : Type 0 where
-    pub memory : length vram ≡ 16384
-    pub room : need ≤ size
+module _ (ls : List Line) (a : RenderArea) (vram : List ℕ) (d : VdpState) where
+  -- no line of an accepted step's table holds
+  pub taken : Refusing ls → stepWith ls a vram d .refusal ≡ Accepted → Passed ls
+  taken q e = passed ls q (sym (step-exact ls a vram d) ∙ e)
 
-  pub taken : stepWith need a vram size d .refusal ≡ Accepted → Taken
-  unfolding stepWith
-  taken = go (whole vram) (leb need size) refl refl
-    where
-      go :
-          (b c : Bool) → whole vram ≡ b → leb need size ≡ c →
-          cond b (cond c (stepped a vram d) (refusedStep PixelLength d)) (refusedStep VramLength d) .refusal ≡ Accepted → Taken
-      go true true w l e = record { memory = eqb-true (length vram) 16384 w; room = leb-true need size l }
-      go true false w l e = absurd (let z : _≡_ {A = ℕ} 0 1 = cc in omega arith)
-      go false c w l e = absurd (let z : _≡_ {A = ℕ} 0 1 = cc in omega arith)
+  pub is-stepped : Refusing ls → stepWith ls a vram d .refusal ≡ Accepted → stepWith ls a vram d ≡ stepped a vram d
+  is-stepped q e = step-accepted ls a vram d (taken q e)
 
-  pub is-stepped : stepWith need a vram size d .refusal ≡ Accepted → stepWith need a vram size d ≡ stepped a vram d
-  is-stepped e = let t = taken e in step-accepted need a vram size d (t .memory) (t .room)
+  pub refused-raster : stepWith ls a vram d .refusal ≢ Accepted → stepWith ls a vram d .vdp .raster ≡ d .raster
+  refused-raster n = rw (step-left ls a vram d n)
 
-  pub refused-raster : stepWith need a vram size d .refusal ≢ Accepted → stepWith need a vram size d .vdp .raster ≡ d .raster
-  refused-raster n = rw (step-left need a vram size d n)
+  pub accepts : Passed ls → stepWith ls a vram d .refusal ≡ Accepted
+  accepts p = rw (step-accepted ls a vram d p) (stepped-refusal a vram d)
 
-  pub accepts : length vram ≡ 16384 → need ≤ size → stepWith need a vram size d .refusal ≡ Accepted
-  accepts m h = rw (step-accepted need a vram size d m h) (stepped-refusal a vram d)
+pub frame-taken : (a : RenderArea) (vram : List ℕ) (size : ℕ) (d : VdpState) → frameStep a vram size d .refusal ≡ Accepted → Passed (frameLines a vram size)
+frame-taken a vram size d e = taken (frameLines a vram size) a vram d (frame-refusing a vram size) e

@@ -6,14 +6,14 @@ use mathlib.Core.Bool.{Bool, true, false, cond, not, _&&_}
 use mathlib.Core.List.{List, [], _∷_}
 use Prim.Native.Nat.{ℕ, zero, suc, _+_, _≤_, _<_, _∣_}
 use lib.Dec.{eqb}
-use lib.ListN.{length, drop}
+use lib.ListN.{length}
 use Rattle.laws.specs.Bits.{bit}
 use Rattle.laws.specs.Lists.{rowOf}
 use Rattle.laws.specs.Once.{ExactlyOnce}
 use Rattle.colour.specs.Colour.{coloursOf}
 use Rattle.picture.specs.declared.RenderArea.{RenderArea}
 use Rattle.picture.specs.Picture.{Row}
-use Rattle.picture.specs.Area.{columns, rows, rowSize, frameSize, pictureOf, rowBytes}
+use Rattle.picture.specs.Area.{columns, rows, rowSize, pictureOf, rowBytes}
 use Rattle.raster.specs.Raster.{passLength}
 use Rattle.vdp.specs.declared.VdpState.{VdpState}
 use Rattle.vdp.specs.declared.Refusal.{Refusal}
@@ -102,7 +102,7 @@ pub record Run (a : RenderArea) : Type 0 where
   pub vram : ℕ → List ℕ
   -- the frame as step 0 finds it
   pub frame : List ℕ
-  -- each step is accepted, whatever the device (a step's refusal does not depend on the device)
+  -- each step is accepted, whatever the device (a step's refusal does not depend on the device); so the frame has exactly its area's size
   pub accepted : (i : ℕ) (d : VdpState) → frameStep a (vram i) (length frame) d .refusal ≡ Accepted
 
 unfoldable pub then : List Between → History → History
@@ -163,9 +163,8 @@ pub record Demand3 {a : RenderArea} (r : Run a) : Type 0 where
   -- R13.3: every row once, and no other
   pub row-once : (y : ℕ) → y < rows a → ExactlyOnce passLength (λ i. answer r i .row ≡ Drawn y)
   pub no-other : (i y : ℕ) → answer r i .row ≡ Drawn y → y < rows a
-  -- a step that does not draw row y leaves row y as it is, and none changes a byte past the frame
+  -- a step that does not draw row y leaves row y as it is (the rows are all of the frame)
   pub row-kept : (i y : ℕ) → answer r i .row ≢ Drawn y → rowOf (rowSize a) y (frameAt r (suc i)) ≡ rowOf (rowSize a) y (frameAt r i)
-  pub past-kept : (i : ℕ) → drop (frameSize a) (frameAt r i) ≡ drop (frameSize a) (r .frame)
   -- R13.4: one end of the screen
   pub end-once : ExactlyOnce passLength (λ i. answer r i .report ≢ NoDisplay)
   -- R13.5: at the end row y is as its own step i drew it

@@ -3,7 +3,7 @@
 use mathlib.Core.Path.{_≡_, refl, sym, ap, _∙_}
 use mathlib.Core.Logic.{_≢_}
 use mathlib.Core.Bool.{true, cond, _&&_}
-use mathlib.Core.List.{List, [], _++_}
+use mathlib.Core.List.{List, [], _∷_, _++_}
 use Prim.Native.Nat.{ℕ, suc, _+_, _<_}
 use native.Mathlib.Omega.{arith}
 use lib.Dec.{eqb, leb}
@@ -13,18 +13,17 @@ use Rattle.laws.specs.Lists.{at}
 use Rattle.laws.proofs.Parts.{set-past}
 use Rattle.laws.proofs.Tests.{split, either}
 use Rattle.picture.specs.declared.RenderArea.{RenderArea}
-use Rattle.picture.specs.Area.{rowSize, frameSize}
 use Rattle.vdp.specs.declared.VdpState.{VdpState}
 use Rattle.vdp.specs.declared.Refusal.{Refusal}
-use Rattle.vdp.specs.declared.Refusal.the-variants.{Accepted, UnknownPort, HorizontalCounter, HighRegister, NothingChosen, PaletteRead, NoPaletteByte, OutsideMemory, VramLength, PixelLength, BlockMalformed, UnknownArea}
+use Rattle.vdp.specs.declared.Refusal.the-variants.{Accepted, UnknownPort, HorizontalCounter, HighRegister, NothingChosen, PaletteRead, NoPaletteByte, OutsideMemory, VramLength, PixelLength, BlockMalformed, UnknownArea, FrameTooLong}
 use Rattle.vdp.specs.Device.{unlatched}
-use Rattle.vdp.specs.Refusals.{refusalNumber, leftBehind, whole}
+use Rattle.vdp.specs.Refusals.{refusalNumber, leftBehind, Line, under, whole}
 use Rattle.vdp.specs.Ports.{portWrite, portRead}
 use Rattle.vdp.proofs.Behind.{write-behind, read-behind}
 use Rattle.block.specs.Block.{wellFormed, stateOf, head, small, colourBytes, blockOf}
 use Rattle.block.proofs.Whole.{long}
 use Rattle.block.proofs.RoundTrip.{block-back}
-use Rattle.step.specs.Step.{stepped, refusedStep, stepWith}
+use Rattle.step.specs.Step.{stepped, refusedStep, rowLines, frameLines, stepWith}
 use Rattle.step.specs.Dump.{dumpRefusal, dumpAfter}
 use Rattle.step.specs.Frame.{rowAfter, frameAfter}
 use Rattle.picture.specs.Area.{areaFrom}
@@ -79,6 +78,7 @@ module _ (b : List ℕ) (bytes : (i : ℕ) → at b i < 256) where
   behind w PixelLength = block-back b w bytes
   behind w BlockMalformed = block-back b w bytes
   behind w UnknownArea = block-back b w bytes
+  behind w FrameTooLong = block-back b w bytes
 
   pub left-by : wellFormed b ≡ true → (r : Refusal) {n : ℕ} → n ≡ refusalNumber r → blockOf (leftBehind r (stateOf b)) ≡ blockLeft n b
   left-by w r e = behind w r ∙ ap (λ (n : ℕ). blockLeft n b) (sym e)
@@ -140,23 +140,27 @@ module _ (b : List ℕ) (bytes : (i : ℕ) → at b i < 256) where
       (λ _. whole-refused BlockMalformed [] refl)
 
   -- a step on the device of the block, with x its buffer and x′ what an accepted one leaves there
+  -- no line of its table is one that empties the latch
+  abbrev Keeping : List Line → Type 0
+  Keeping [] = Unit {0}
+  Keeping (l ∷ ls) = (b ≡ blockLeft (refusalNumber (l .refusal)) b) × Keeping ls
+
   step-left :
-      (w : wellFormed b ≡ true) (need : ℕ) (a : RenderArea) (m x x′ : List ℕ)
-      → LeftBehind b x (steppedTo (stepWith need a m (length x) (stateOf b)) (cond (whole m && leb need (length x)) x′ x))
+      (w : wellFormed b ≡ true) (ls : List Line) (a : RenderArea) (m x x′ : List ℕ) → Keeping ls
+      → LeftBehind b x (steppedTo (stepWith ls a m (stateOf b)) (under ls (λ r. x) x′))
   unfolding stepWith
-  step-left w need a m x x′ =
+  step-left w [] a m x x′ k =
       let s = stateOf b in
-      let accepted : LeftBehind b x (steppedTo (stepped a m s) x′) = record { word = λ h. absurd (h (all-well a m s)); block = λ h. absurd (h (all-well a m s)); lent = λ h. absurd (h (all-well a m s)) } in
-      split (whole m)
-      (λ e. split (leb need (length x)) (λ f. simp (e, f) accepted) (λ f. simp (e, f) (unstepped w PixelLength x refl)))
-      (λ e. simp e (unstepped w VramLength x refl))
+      record { word = λ h. absurd (h (all-well a m s)); block = λ h. absurd (h (all-well a m s)); lent = λ h. absurd (h (all-well a m s)) }
+  step-left w (l ∷ ls) a m x x′ k =
+      split (l .holds) (λ e. simp e (unstepped w (l .refusal) x (k .0))) (λ e. simp e (step-left w ls a m x x′ (k .1)))
 
   pub step-behind : (m frame : List ℕ) (n : ℕ) → LeftBehind b frame (stepCall b m frame n)
   unfolding stepCall frameAfter
   step-behind m frame n =
       either (LeftBehind b frame) (wellFormed b)
       (λ w. either (LeftBehind b frame) (leb n 1)
-      (λ _. step-left w (frameSize (areaFrom n)) (areaFrom n) m frame _)
+      (λ _. step-left w (frameLines (areaFrom n) m (length frame)) (areaFrom n) m frame _ (refl, (refl, (refl, tt))))
       (λ _. whole-refused UnknownArea frame refl))
       (λ _. whole-refused BlockMalformed frame refl)
 
@@ -165,7 +169,7 @@ module _ (b : List ℕ) (bytes : (i : ℕ) → at b i < 256) where
   row-behind m row n =
       either (LeftBehind b row) (wellFormed b)
       (λ w. either (LeftBehind b row) (leb n 1)
-      (λ _. step-left w (rowSize (areaFrom n)) (areaFrom n) m row _)
+      (λ _. step-left w (rowLines (areaFrom n) m (length row)) (areaFrom n) m row _ (refl, (refl, tt)))
       (λ _. whole-refused UnknownArea row refl))
       (λ _. whole-refused BlockMalformed row refl)
 

@@ -11,9 +11,8 @@ use borrow.Author.Tests.{eqb-false, leb-true, leb-false, not-true}
 use lib.Dec.{eqb, leb}
 use lib.ListN.{length}
 use Rattle.laws.proofs.Tests.{split, both, clash}
-use Rattle.picture.specs.Area.{rowSize, frameSize}
 use Rattle.vdp.specs.declared.Refusal.{Refusal}
-use Rattle.vdp.specs.declared.Refusal.the-variants.{Accepted, UnknownPort, HorizontalCounter, HighRegister, NothingChosen, PaletteRead, NoPaletteByte, OutsideMemory, VramLength, PixelLength, BlockMalformed, UnknownArea}
+use Rattle.vdp.specs.declared.Refusal.the-variants.{Accepted, UnknownPort, HorizontalCounter, HighRegister, NothingChosen, PaletteRead, NoPaletteByte, OutsideMemory, VramLength, PixelLength, BlockMalformed, UnknownArea, FrameTooLong}
 use Rattle.vdp.specs.Refusals.{refusalNumber, Line, first, line, writeLines, readLines}
 use Rattle.vdp.specs.Ports.{portWrite, portRead}
 use Rattle.vdp.proofs.Exact.{write-exact, read-exact}
@@ -22,13 +21,13 @@ use Rattle.step.specs.declared.DrawnRow.{DrawnRow}
 use Rattle.step.specs.declared.DrawnRow.the-variants.{NoRow, Drawn}
 use Rattle.step.specs.declared.Stepped.{Stepped}
 use Rattle.step.specs.Dump.{dumpRefusal, dumpLines}
-use Rattle.step.specs.Step.{stepLines, rowStep, frameStep}
+use Rattle.step.specs.Step.{rowLines, frameLines, rowStep, frameStep}
 use Rattle.step.proofs.Laws as Steps
 use Rattle.picture.specs.Area.{areaFrom}
 use Rattle.face.specs.Face.{rowBits, stepWord, newCall, outCall, inputCall, stepCall, rowStepCall, dumpCall}
 use Rattle.face.specs.Refused.{refusalIn, malformed, newLines, outLines, inputLines, stepCallLines, dumpCallLines}
 
-pub number-low : (r : Refusal) → refusalNumber r < 12
+pub number-low : (r : Refusal) → refusalNumber r < 256
 number-low Accepted = omega arith
 number-low UnknownPort = omega arith
 number-low HorizontalCounter = omega arith
@@ -41,6 +40,7 @@ number-low VramLength = omega arith
 number-low PixelLength = omega arith
 number-low BlockMalformed = omega arith
 number-low UnknownArea = omega arith
+number-low FrameTooLong = omega arith
 
 -- the refusal is the low byte of a word that has it there
 pub low-byte : (r : Refusal) (k : ℕ) → refusalIn (refusalNumber r + 256 * k) ≡ refusalNumber r
@@ -78,26 +78,26 @@ step-byte s = omega (arith, number-low (s .refusal), row-byte (s .row))
 
 pub step-exact :
     (b m frame : List ℕ) (n : ℕ)
-    → refusalIn (stepCall b m frame n .word) ≡ refusalNumber (first (stepCallLines (frameSize (areaFrom n)) b m (length frame) n))
+    → refusalIn (stepCall b m frame n .word) ≡ refusalNumber (first (stepCallLines b n (frameLines (areaFrom n) m (length frame))))
 unfolding stepCall
 step-exact b m frame n =
     split (wellFormed b)
     (λ e. split (leb n 1)
     (λ f.
     let s = frameStep (areaFrom n) m (length frame) (stateOf b) in
-    simp (e, f) (step-byte s ∙ ap refusalNumber (Steps.step-exact (frameSize (areaFrom n)) (areaFrom n) m (length frame) (stateOf b))))
+    simp (e, f) (step-byte s ∙ ap refusalNumber (Steps.step-exact (frameLines (areaFrom n) m (length frame)) (areaFrom n) m (stateOf b))))
     (λ f. simp (e, f)))
     (λ e. simp e)
 
 pub row-exact :
-    (b m row : List ℕ) (n : ℕ) → refusalIn (rowStepCall b m row n .word) ≡ refusalNumber (first (stepCallLines (rowSize (areaFrom n)) b m (length row) n))
+    (b m row : List ℕ) (n : ℕ) → refusalIn (rowStepCall b m row n .word) ≡ refusalNumber (first (stepCallLines b n (rowLines (areaFrom n) m (length row))))
 unfolding rowStepCall
 row-exact b m row n =
     split (wellFormed b)
     (λ e. split (leb n 1)
     (λ f.
     let s = rowStep (areaFrom n) m (length row) (stateOf b) in
-    simp (e, f) (step-byte s ∙ ap refusalNumber (Steps.step-exact (rowSize (areaFrom n)) (areaFrom n) m (length row) (stateOf b))))
+    simp (e, f) (step-byte s ∙ ap refusalNumber (Steps.step-exact (rowLines (areaFrom n) m (length row)) (areaFrom n) m (stateOf b))))
     (λ f. simp (e, f)))
     (λ e. simp e)
 
@@ -139,28 +139,29 @@ input-ten b m p = ten-exactly b (readLines (stateOf b) m p) (inputCall b m p .wo
 
 -- ---- 11 exactly where the block is well formed and the area number is above 1
 eleven-exactly :
-    (b m : List ℕ) (need size n w : ℕ) → refusalIn w ≡ refusalNumber (first (stepCallLines need b m size n)) → (refusalIn w ≡ 11) ↔ ((wellFormed b ≡ true) × (1 < n))
-eleven-exactly b m need size n w e =
+    (b : List ℕ) (ls : List Line) (n w : ℕ) → none 11 ls ≡ true → refusalIn w ≡ refusalNumber (first (stepCallLines b n ls)) →
+    (refusalIn w ≡ 11) ↔ ((wellFormed b ≡ true) × (1 < n))
+eleven-exactly b ls n w h e =
     split (wellFormed b)
     (λ t. split (leb n 1)
     (λ l. (
-      λ q. absurd (never 11 (stepLines need m size) (λ z. omega arith) refl (sym (simp (t, l) at e) ∙ q)),
-      λ h. let k = leb-true n 1 l in absurd (omega (arith, h .1)),
+      λ q. absurd (never 11 ls (λ z. omega arith) h (sym (simp (t, l) at e) ∙ q)),
+      λ k. let low = leb-true n 1 l in absurd (omega (arith, k .1)),
     ))
-    (λ l. (λ q. (t, leb-false n 1 l), λ h. simp (t, l) at e)))
-    (λ f. (λ q. absurd (let k = simp f at e in omega (arith, k, q)), λ h. clash (sym (h .0) ∙ f)))
+    (λ l. (λ q. (t, leb-false n 1 l), λ k. simp (t, l) at e)))
+    (λ f. (λ q. absurd (let k = simp f at e in omega (arith, k, q)), λ k. clash (sym (k .0) ∙ f)))
 
 pub step-ten : (b m frame : List ℕ) (n : ℕ) → (refusalIn (stepCall b m frame n .word) ≡ 10) ↔ (wellFormed b ≡ false)
-step-ten b m frame n = ten-exactly b (line (not (leb n 1)) UnknownArea ∷ stepLines (frameSize (areaFrom n)) m (length frame)) (stepCall b m frame n .word) refl (step-exact b m frame n)
+step-ten b m frame n = ten-exactly b (line (not (leb n 1)) UnknownArea ∷ frameLines (areaFrom n) m (length frame)) (stepCall b m frame n .word) refl (step-exact b m frame n)
 
 pub row-ten : (b m row : List ℕ) (n : ℕ) → (refusalIn (rowStepCall b m row n .word) ≡ 10) ↔ (wellFormed b ≡ false)
-row-ten b m row n = ten-exactly b (line (not (leb n 1)) UnknownArea ∷ stepLines (rowSize (areaFrom n)) m (length row)) (rowStepCall b m row n .word) refl (row-exact b m row n)
+row-ten b m row n = ten-exactly b (line (not (leb n 1)) UnknownArea ∷ rowLines (areaFrom n) m (length row)) (rowStepCall b m row n .word) refl (row-exact b m row n)
 
 pub step-eleven : (b m frame : List ℕ) (n : ℕ) → (refusalIn (stepCall b m frame n .word) ≡ 11) ↔ ((wellFormed b ≡ true) × (1 < n))
-step-eleven b m frame n = eleven-exactly b m (frameSize (areaFrom n)) (length frame) n (stepCall b m frame n .word) (step-exact b m frame n)
+step-eleven b m frame n = eleven-exactly b (frameLines (areaFrom n) m (length frame)) n (stepCall b m frame n .word) refl (step-exact b m frame n)
 
 pub row-eleven : (b m row : List ℕ) (n : ℕ) → (refusalIn (rowStepCall b m row n .word) ≡ 11) ↔ ((wellFormed b ≡ true) × (1 < n))
-row-eleven b m row n = eleven-exactly b m (rowSize (areaFrom n)) (length row) n (rowStepCall b m row n .word) (row-exact b m row n)
+row-eleven b m row n = eleven-exactly b (rowLines (areaFrom n) m (length row)) n (rowStepCall b m row n .word) refl (row-exact b m row n)
 
 pub dump-ten : (b m pixels : List ℕ) → (refusalIn (dumpCall b m pixels .word) ≡ 10) ↔ (wellFormed b ≡ false)
 dump-ten b m pixels = ten-exactly b (dumpLines m (length pixels)) (dumpCall b m pixels .word) refl (dump-exact b m pixels)

@@ -5,7 +5,6 @@ use mathlib.Core.List.{List}
 use Prim.Native.Nat.{ℕ, _+_, _*_, _<_, _≤_}
 use native.Mathlib.Decide.{decLt}
 use native.Mathlib.Omega.{arith}
-use lib.Dec.{leb}
 use lib.ListN.{length, List·getD-eq-default}
 use Rattle.laws.specs.Lists.{at}
 use Rattle.laws.proofs.Tests.{either}
@@ -13,13 +12,14 @@ use Rattle.colour.specs.Colour.{colour, coloursOf}
 use Rattle.colour.proofs.Laws.{length-colours, colours-at}
 use Rattle.picture.specs.declared.RenderArea.{RenderArea}
 use Rattle.vdp.specs.declared.VdpState.{VdpState}
-use Rattle.vdp.specs.Refusals.{whole}
+use Rattle.vdp.specs.Refusals.{Line}
+use Rattle.vdp.proofs.Tables.{under-either}
 use Rattle.block.specs.Block.{Shape}
 use Rattle.block.proofs.Shapes.{carried}
 use Rattle.step.specs.declared.DrawnRow.{DrawnRow}
 use Rattle.step.specs.declared.DrawnRow.the-variants.{NoRow, Drawn}
 use Rattle.step.specs.declared.Stepped.{Stepped}
-use Rattle.step.specs.Step.{lineOf, counterUp, rowOn, coloursNow, drawnBy, rowDrawn, endScreen, stepped, stepWith}
+use Rattle.step.specs.Step.{lineOf, counterUp, rowOn, coloursNow, drawnBy, rowDrawn, endScreen, stepped, refusedStep, stepWith}
 
 -- a colour of two bytes fits 32 bits
 colour-low : (a b : ℕ) → a < 256 → colour a b < 4294967296
@@ -63,7 +63,6 @@ abbrev ShapeS : Stepped → Type 0
 ShapeS s = Shape (s .vdp)
 
 -- a step with any buffer, refused or not
-pub with-shape : (need : ℕ) (a : RenderArea) (m : List ℕ) (size : ℕ) (d : VdpState) → Shape d → Shape (stepWith need a m size d .vdp)
+pub with-shape : (ls : List Line) (a : RenderArea) (m : List ℕ) (d : VdpState) → Shape d → Shape (stepWith ls a m d .vdp)
 unfolding stepWith
-with-shape need a m size d g =
-    either ShapeS (whole m) (λ _. either ShapeS (leb need size) (λ _. step-shape a m d g) (λ _. g)) (λ _. g)
+with-shape ls a m d g = under-either ShapeS ls (λ r. refusedStep r d) (stepped a m d) (λ r. g) (λ p. step-shape a m d g)

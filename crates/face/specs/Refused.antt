@@ -11,7 +11,6 @@ use Rattle.vdp.specs.declared.Refusal.the-variants.{BlockMalformed, UnknownArea
 use Rattle.vdp.specs.Refusals.{Line, line, writeLines, readLines}
 use Rattle.block.specs.Block.{blockSize, wellFormed, stateOf}
 use Rattle.step.specs.Dump.{dumpLines}
-use Rattle.step.specs.Step.{stepLines}
 use Rattle.face.specs.Face.{Called}
 
 -- R7.7: the refusal is the word's low byte
@@ -31,9 +30,9 @@ outLines b m p v = malformed b ∷ writeLines (stateOf b) m p v
 abbrev pub inputLines : List ℕ → List ℕ → ℕ → List Line
 inputLines b m p = malformed b ∷ readLines (stateOf b) m p
 
--- a step with a pixel buffer of `size` bytes, of which it needs `need`, and a dump
-abbrev pub stepCallLines : ℕ → List ℕ → List ℕ → ℕ → ℕ → List Line
-stepCallLines need b m size n = malformed b ∷ line (not (leb n 1)) UnknownArea ∷ stepLines need m size
+-- a step of area number n whose own lines are `lines`, and a dump
+abbrev pub stepCallLines : List ℕ → ℕ → List Line → List Line
+stepCallLines b n lines = malformed b ∷ line (not (leb n 1)) UnknownArea ∷ lines
 
 abbrev pub dumpCallLines : List ℕ → List ℕ → ℕ → List Line
 dumpCallLines b m size = malformed b ∷ dumpLines m size

@@ -1,13 +1,14 @@
 -- What a whole recording prints and draws, as the code puts it together.
 -- Assumes nothing.
 use mathlib.Core.Path.{_≡_, refl, sym, ap, _∙_}
+use mathlib.Core.Logic.{_≢_}
 use mathlib.Core.Bool.{Bool, true, false, _&&_}
 use mathlib.Core.List.{List, [], _∷_, _++_}
 use Prim.Native.Nat.{ℕ, zero, suc, _+_, _*_, _<_, _≤_}
 use native.Mathlib.Numerals.{add-one}
 use native.Mathlib.Omega.{arith}
-use borrow.Author.Tests.{lt-ltb, le-ltb, le-leb, lt-leb}
-use lib.Dec.{leb}
+use borrow.Author.Tests.{eq-eqb, ne-eqb, lt-ltb, le-ltb, le-leb, lt-leb}
+use lib.Dec.{leb, eqb}
 use lib.ListN.{length, take, length-append}
 use lib.Seq.{length-take-le}
 use Rattle.laws.specs.Lists.{at, written}
@@ -136,24 +137,24 @@ module _ (s : List ℕ) (w : World) (o : List ℕ) where
   pub snapshot-no-room : length o < 69135 → left w 0 o ≡ snapped s w o
   unfolding snapped
   snapshot-no-room h =
-      no-room (leb 69135 (length o) && leb 92160 (length (w .frame))) frameTurn (pictured s w) s w o (rw (lt-leb 69135 (length o) h))
+      no-room (leb 69135 (length o) && eqb (length (w .frame)) 92160) frameTurn (pictured s w) s w o (rw (lt-leb 69135 (length o) h))
 
   module _ (h : 69135 ≤ length o) where
-    pub snapshot-no-frame : length (w .frame) < 92160 → left w 0 o ≡ snapped s w o
+    pub snapshot-no-frame : length (w .frame) ≢ 92160 → left w 0 o ≡ snapped s w o
     unfolding snapped
     snapshot-no-frame k =
-        no-room (leb 69135 (length o) && leb 92160 (length (w .frame))) frameTurn (pictured s w) s w o
-        (rw (le-leb 69135 (length o) h, lt-leb 92160 (length (w .frame)) k))
+        no-room (leb 69135 (length o) && eqb (length (w .frame)) 92160) frameTurn (pictured s w) s w o
+        (rw (le-leb 69135 (length o) h, ne-eqb (length (w .frame)) 92160 k))
 
-    module _ (g : 92160 ≤ length (w .frame)) where
-      enough : (leb 69135 (length o) && leb 92160 (length (w .frame))) ≡ true
-      enough = rw (le-leb 69135 (length o) h, le-leb 92160 (length (w .frame)) g)
+    module _ (g : length (w .frame) ≡ 92160) where
+      enough : (leb 69135 (length o) && eqb (length (w .frame)) 92160) ≡ true
+      enough = rw (le-leb 69135 (length o) h, eq-eqb (length (w .frame)) 92160 g)
 
       pub snapshot-long : 65535 < length s → {n : ℕ} {o′ : List ℕ} → n ≡ length longLine → o′ ≡ written o 0 longLine → left w n o′ ≡ snapped s w o
       unfolding snapped pictured
       snapshot-long k en eo =
           let b : longLine ≡ pictured s w = rw (lt-ltb 65535 (length s) k) in
-          too-long (leb 69135 (length o) && leb 92160 (length (w .frame))) frameTurn (pictured s w) s w o enough k (en ∙ ap length b) (eo ∙ ap (written o 0) b)
+          too-long (leb 69135 (length o) && eqb (length (w .frame)) 92160) frameTurn (pictured s w) s w o enough k (en ∙ ap length b) (eo ∙ ap (written o 0) b)
 
       pub snapshot-whole :
           length s ≤ 65535 → {x : World} {n : ℕ} {o′ : List ℕ} → x ≡ after frameTurn (length s) s w
@@ -162,7 +163,7 @@ module _ (s : List ℕ) (w : World) (o : List ℕ) where
       snapshot-whole k {x} ex p =
           let b : drawn s (x .run) (x .frame) ≡ pictured s w =
           ap (λ (y : World). drawn s (y .run) (y .frame)) ex ∙ sym (rw (le-ltb 65535 (length s) k)) in
-          whole (leb 69135 (length o) && leb 92160 (length (w .frame))) frameTurn (pictured s w) s w o enough k ex (p .0 ∙ ap length b) (p .1 ∙ ap (written o 0) b)
+          whole (leb 69135 (length o) && eqb (length (w .frame)) 92160) frameTurn (pictured s w) s w o enough k ex (p .0 ∙ ap length b) (p .1 ∙ ap (written o 0) b)
 
 pub trace-leaves :
     {s vram row o : List ℕ} (x : World) {n : ℕ} {o′ : List ℕ} → left x n o′ ≡ traced s (start vram row []) o

@@ -10,16 +10,18 @@ use lib.ListN.{length, length-set}
 use Rattle.laws.proofs.Tests.{either}
 use Rattle.picture.specs.declared.RenderArea.{RenderArea}
 use Rattle.picture.specs.declared.RenderArea.the-variants.{VisibleOnly, EffectiveArea}
+use Rattle.picture.specs.Area.{rowSize}
 use Rattle.vdp.specs.declared.VdpState.{VdpState}
 use Rattle.vdp.specs.declared.ReadBack.{ReadBack}
 use Rattle.vdp.specs.declared.WriteDest.{WriteDest}
 use Rattle.vdp.specs.declared.WriteDest.the-variants.{None, Vram, Cram}
-use Rattle.vdp.specs.Refusals.{whole, isPort}
+use Rattle.vdp.specs.Refusals.{Line, whole, isPort}
+use Rattle.vdp.proofs.Tables.{Passed}
 use Rattle.vdp.specs.Device.{unlatched}
 use Rattle.vdp.specs.Ports.{After, dataBy, portWrite, portRead}
 use Rattle.step.specs.declared.Stepped.{Stepped}
-use Rattle.step.specs.Step.{stepped, stepWith}
-use Rattle.step.proofs.Laws.{step-accepted, row-step-length, frame-step-length}
+use Rattle.step.specs.Step.{stepped, rowLines, frameLines, stepWith}
+use Rattle.step.proofs.Laws.{step-accepted, row-passes, frame-passes, row-step-length, frame-step-length}
 use Rattle.recording.specs.declared.record.Record.{Record}
 use Rattle.recording.specs.declared.record.Record.the-variants.{Write, Read, Step, Bad, End}
 use Rattle.recording.specs.declared.text.Answer.the-variants as Says
@@ -43,14 +45,14 @@ write-length s m p v =
     either P (isPort 0xBF p) (λ _. refl) (λ _. either P (isPort 0xBE p) (λ _. data-length (s .dest) (unlatched s) m v) (λ _. refl)))
     (λ _. refl)
 
--- two worlds with the same device and video memory, and large enough buffers to draw in
+-- two worlds with the same device and video memory, and buffers of a size to draw in
 pub record Alike (t w : World) : Type 0 where
   pub runs : t .run ≡ w .run
   pub memory : t .vram ≡ w .vram
   pub vram : length (t .vram) ≡ 16384
   pub rows : 1024 ≤ length (t .row)
   pub rows′ : 1024 ≤ length (w .row)
-  pub frame : 92160 ≤ length (w .frame)
+  pub frame : length (w .frame) ≡ 92160
 
 -- one turn of each
 pub record SameTurn (a b : Turn) : Type 0 where
@@ -59,12 +61,18 @@ pub record SameTurn (a b : Turn) : Type 0 where
 
 -- a step that is accepted in both answers the same: that depends on the device and on video memory alone
 same-step :
-    (a : RenderArea) (need need′ size size′ : ℕ) {t w : World} → Alike t w → need ≤ size → need′ ≤ size′
-    → stepWith need a (t .vram) size (t .run .vdp) ≡ stepWith need′ a (w .vram) size′ (w .run .vdp)
-same-step a need need′ size size′ {t} {w} h k k′ =
-    step-accepted need a (t .vram) size (t .run .vdp) (h .vram) k
+    (a : RenderArea) (ls ls′ : List Line) {t w : World} → Alike t w → Passed ls → Passed ls′
+    → stepWith ls a (t .vram) (t .run .vdp) ≡ stepWith ls′ a (w .vram) (w .run .vdp)
+same-step a ls ls′ {t} {w} h k k′ =
+    step-accepted ls a (t .vram) (t .run .vdp) k
     ∙ (λ i. stepped a (h .memory i) (h .runs i .vdp))
-    ∙ sym (step-accepted need′ a (w .vram) size′ (w .run .vdp) (sym (ap length (h .memory)) ∙ h .vram) k′)
+    ∙ sym (step-accepted ls′ a (w .vram) (w .run .vdp) k′)
+
+row-taken : (a : RenderArea) {t w : World} → Alike t w → rowSize a ≤ length (t .row) → Passed (rowLines a (t .vram) (length (t .row)))
+row-taken a {t} h k = row-passes a (t .vram) (length (t .row)) (h .vram) k
+
+memory′ : {t w : World} → Alike t w → length (w .vram) ≡ 16384
+memory′ h = sym (ap length (h .memory)) ∙ h .vram
 
 -- the answer and the run, from two steps that answer the same
 same-answer : {x y : Stepped} → x ≡ y → stepAnswer x ≡ stepAnswer y
@@ -78,7 +86,10 @@ unfolding rowTurn frameTurn
 step-both VisibleOnly {t} {w} h =
     let r = h .rows in
     let f = h .frame in
-    let e = same-step VisibleOnly 640 92160 (length (t .row)) (length (w .frame)) h (omega arith) f in
+    let e =
+    same-step VisibleOnly (rowLines VisibleOnly (t .vram) (length (t .row))) (frameLines VisibleOnly (w .vram) (length (w .frame))) h
+    (row-taken VisibleOnly h (omega arith)) (frame-passes VisibleOnly (w .vram) (length (w .frame)) (memory′ h) f)
+    in
     record {
       answer = same-answer e;
       world = record {
@@ -93,7 +104,10 @@ step-both VisibleOnly {t} {w} h =
 step-both EffectiveArea {t} {w} h =
     let r = h .rows in
     let r′ = h .rows′ in
-    let e = same-step EffectiveArea 1024 1024 (length (t .row)) (length (w .row)) h r r′ in
+    let e =
+    same-step EffectiveArea (rowLines EffectiveArea (t .vram) (length (t .row))) (rowLines EffectiveArea (w .vram) (length (w .row))) h
+    (row-taken EffectiveArea h r) (row-passes EffectiveArea (w .vram) (length (w .row)) (memory′ h) r′)
+    in
     record {
       answer = same-answer e;
       world = record {

@@ -4,7 +4,7 @@ use mathlib.Core.Path.{_≡_}
 use mathlib.Core.Bool.{Bool, cond, _&&_}
 use mathlib.Core.List.{List, [], _∷_, _++_}
 use Prim.Native.Nat.{ℕ, zero, suc, _+_, _*_}
-use lib.Dec.{ltb, leb}
+use lib.Dec.{ltb, leb, eqb}
 use lib.ListN.{length}
 use Rattle.laws.specs.Lists.{at, written}
 use Rattle.picture.specs.declared.RenderArea.{RenderArea}
@@ -73,7 +73,7 @@ unfoldable pub leaves : Bool → (RenderArea → World → Turn) → List ℕ �
 leaves room step bytes s w out =
     cond room (left (cond (tooLong s) w (ran step s w)) (length bytes) (written out 0 bytes)) (left w 0 out)
 
--- room for five bytes of text for each byte of the longest recording, and the last line; for the header of a picture, and three bytes for each pixel
+-- room for five bytes of text for each byte of the longest recording, and the last line; for the header of a picture, and three bytes for each pixel; and a visible frame
 abbrev pub textRoom : ℕ
 textRoom = 327700
 
@@ -84,7 +84,7 @@ unfoldable pub traced : List ℕ → World → List ℕ → Left
 traced s w out = leaves (leb textRoom (length out)) rowTurn (printed s w) s w out
 
 unfoldable pub snapped : List ℕ → World → List ℕ → Left
-snapped s w out = leaves (leb pictureRoom (length out) && leb (frameSize VisibleOnly) (length (w .frame))) frameTurn (pictured s w) s w out
+snapped s w out = leaves (leb pictureRoom (length out) && eqb (length (w .frame)) (frameSize VisibleOnly)) frameTurn (pictured s w) s w out
 
 -- What `trace` promises of its answer n and of the buffers after it, and what `snapshot` does.
 pub record TraceLeaves (s vram row out : List ℕ) (n : ℕ) (vram′ row′ out′ : List ℕ) : Type 0 where

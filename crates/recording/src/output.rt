@@ -94,7 +94,7 @@ fn put_picture(out: &mut [u8], input: &[u8], run: Run, frame: &[u8]) -> usize
 }
 
 // R7.13: the picture that a recording's visible steps draw into the frame, at the start of out, and how long it is; of a bad or long recording, only
-// the line that says so. Without room for a picture, or with a frame that is too short, nothing happens.
+// the line that says so. Without room for a picture, or with a frame of another length, nothing happens.
 pub fn snapshot(
     input: &[u8],
     vram: &mut [u8],
@@ -108,7 +108,7 @@ pub fn snapshot(
     if out.len() < PICTURE_ROOM {
         return 0;
     }
-    if frame.len() < FRAME_SIZE {
+    if frame.len() != FRAME_SIZE {
         return 0;
     }
     if LONGEST < input.len() {

@@ -2,19 +2,19 @@
 -- Assumes nothing.
 use mathlib.Core.Path.{_≡_, refl, sym, ap, _∙_}
 use mathlib.Core.Logic.{_≢_}
-use mathlib.Core.Bool.{Bool, true, false, cond, _&&_, _||_, or-false}
-use mathlib.Core.List.{List}
+use mathlib.Core.Bool.{Bool, true, false, cond, not, _&&_, _||_, or-false}
+use mathlib.Core.List.{List, [], _∷_}
 use Prim.Native.Nat.{ℕ, _+_, _*_, _<_, _≤_}
 use native.Mathlib.Omega.{arith}
 use lib.Bits.{bitOr}
-use lib.Dec.{eqb, leb}
+use lib.Dec.{eqb}
 use lib.ListN.{length, take, drop, length-append, length-drop}
 use lib.Seq.{take-at, drop-at}
-use borrow.Author.Tests.{eq-eqb, ne-eqb, le-leb, lt-leb, eqb-true, leb-true}
+use borrow.Author.Tests.{eq-eqb, le-ltb, eqb-true, ltb-false, not-false}
 use Rattle.laws.specs.Bits.{bit}
 use Rattle.laws.specs.Lists.{rowOf}
 use Rattle.laws.proofs.Bits.{bit-or}
-use Rattle.laws.proofs.Frames.{row-length, row-here, row-other, row-past}
+use Rattle.laws.proofs.Frames.{row-length, row-here, row-other}
 use Rattle.laws.proofs.Tables.{length-table}
 use Rattle.laws.proofs.Tests.{either, split, both}
 use Rattle.dump.specs.Dump.{dumpSize, dumped}
@@ -24,47 +24,63 @@ use Rattle.picture.specs.Area.{rows, rowSize, frameSize, rowBytes, statusBits}
 use Rattle.raster.specs.declared.Raster.{Raster}
 use Rattle.raster.specs.Raster.{advanced, lineInterrupt, counted, ticked}
 use Rattle.vdp.specs.declared.VdpState.{VdpState}
-use Rattle.vdp.specs.declared.Refusal.the-variants.{Accepted, VramLength, PixelLength}
+use Rattle.vdp.specs.declared.Refusal.the-variants.{Accepted, VramLength, PixelLength, FrameTooLong}
 use Rattle.vdp.specs.Device.{device}
-use Rattle.vdp.specs.Refusals.{whole, first}
+use Rattle.vdp.specs.Refusals.{whole, Line, first}
+use Rattle.vdp.proofs.Tables.{Passed, Refusing, under-either, under-passed, under-refused, refuses}
 use Rattle.step.specs.declared.VdpInt.the-variants.{NoInterrupt, InterruptGenerated}
 use Rattle.step.specs.declared.DrawnRow.{DrawnRow}
 use Rattle.step.specs.declared.DrawnRow.the-variants.{NoRow, Drawn}
 use Rattle.step.specs.declared.Stepped.{Stepped}
-use Rattle.step.specs.Step.{register, lineOf, counterUp, rowOn, coloursNow, rowPicture, drawnBy, atEnd, endScreen, reportOf, interruptOf, countLine, stepped, refusedStep, stepWith, stepLines}
+use Rattle.step.specs.Step.{register, lineOf, counterUp, rowOn, coloursNow, rowPicture, drawnBy, atEnd, endScreen, reportOf, interruptOf, countLine, stepped, refusedStep, rowLines, frameLines, stepWith}
 use Rattle.step.specs.Frame.{drawnBytes, rowWith, frameWith, rowAfter, frameAfter}
 use Rattle.step.specs.Dump.{dumpRefusal, dumpLines, dumpAfter}
 use Rattle.step.proofs.Rows.{row-low, frame-rows}
 
 -- ---- refusals
-module _ (need : ℕ) (a : RenderArea) (vram : List ℕ) (size : ℕ) (d : VdpState) where
-  pub step-refused-8 : length vram ≢ 16384 → stepWith need a vram size d ≡ refusedStep VramLength d
-  unfolding stepWith
-  step-refused-8 h = rw (ne-eqb (length vram) 16384 h)
+-- a step is refused by the first line of its table that holds
+pub step-exact : (ls : List Line) (a : RenderArea) (vram : List ℕ) (d : VdpState) → stepWith ls a vram d .refusal ≡ first ls
+unfolding stepWith stepped
+step-exact [] a vram d = refl
+step-exact (l ∷ ls) a vram d = split (l .holds) (λ e. simp e) (λ e. simp e (step-exact ls a vram d))
 
-  pub step-refused-9 : length vram ≡ 16384 → size < need → stepWith need a vram size d ≡ refusedStep PixelLength d
+module _ (ls : List Line) (a : RenderArea) (vram : List ℕ) (d : VdpState) where
+  pub step-accepted : Passed ls → stepWith ls a vram d ≡ stepped a vram d
   unfolding stepWith
-  step-refused-9 m h = rw (eq-eqb (length vram) 16384 m, lt-leb need size h)
-
-  pub step-accepted : length vram ≡ 16384 → need ≤ size → stepWith need a vram size d ≡ stepped a vram d
-  unfolding stepWith
-  step-accepted m h = rw (eq-eqb (length vram) 16384 m, le-leb need size h)
-
-  -- a step is refused by the first line of its table that holds
-  pub step-exact : stepWith need a vram size d .refusal ≡ first (stepLines need vram size)
-  unfolding stepWith stepped
-  step-exact = split (whole vram) (λ e. split (leb need size) (λ f. simp (e, f)) (λ f. simp (e, f))) (λ e. simp e)
+  step-accepted p = under-passed ls (λ r. refusedStep r d) (stepped a vram d) p
 
   -- a refused step gives no interrupt, no display report, no row, and leaves the device
   abbrev Left : Stepped → Type 0
   Left s = s .refusal ≢ Accepted → s ≡ refusedStep (s .refusal) d
 
-  pub step-left : stepWith need a vram size d .refusal ≢ Accepted → stepWith need a vram size d ≡ refusedStep (stepWith need a vram size d .refusal) d
+  pub step-left : stepWith ls a vram d .refusal ≢ Accepted → stepWith ls a vram d ≡ refusedStep (stepWith ls a vram d .refusal) d
   unfolding stepWith stepped
-  step-left =
-      either Left (whole vram)
-      (λ e. either Left (leb need size) {a = stepped a vram d} {b = refusedStep PixelLength d} (λ f n. absurd (n refl)) (λ f n. refl))
-      (λ e n. refl)
+  step-left = under-either Left ls (λ r. refusedStep r d) (stepped a vram d) (λ r n. refl) (λ p n. absurd (n refl))
+
+-- the tables of the two steps: where no line of them holds, and that each line refuses
+module _ (a : RenderArea) (vram : List ℕ) (size : ℕ) where
+  pub row-passes : length vram ≡ 16384 → rowSize a ≤ size → Passed (rowLines a vram size)
+  row-passes m h = (ap not (eq-eqb (length vram) 16384 m), (le-ltb size (rowSize a) h, tt))
+
+  pub row-fits : Passed (rowLines a vram size) → rowSize a ≤ size
+  row-fits p = ltb-false size (rowSize a) (p .1 .0)
+
+  pub row-refusing : Refusing (rowLines a vram size)
+  row-refusing = (refuses VramLength (λ z. omega arith), (refuses PixelLength (λ z. omega arith), tt))
+
+  pub frame-passes : length vram ≡ 16384 → size ≡ frameSize a → Passed (frameLines a vram size)
+  frame-passes m e =
+      (ap not (eq-eqb (length vram) 16384 m), (le-ltb size (frameSize a) (omega (arith, e)), (le-ltb (frameSize a) size (omega (arith, e)), tt)))
+
+  pub frame-fits : Passed (frameLines a vram size) → size ≡ frameSize a
+  frame-fits p = omega (arith, ltb-false size (frameSize a) (p .1 .0), ltb-false (frameSize a) size (p .1 .1 .0))
+
+  pub frame-memory : Passed (frameLines a vram size) → length vram ≡ 16384
+  frame-memory p = eqb-true (length vram) 16384 (not-false (whole vram) (p .0))
+
+  pub frame-refusing : Refusing (frameLines a vram size)
+  frame-refusing =
+      (refuses VramLength (λ z. omega arith), (refuses PixelLength (λ z. omega arith), (refuses FrameTooLong (λ z. omega arith), tt)))
 
 -- ---- the device after an accepted step, part by part: r is the row that the step draws, d the device with its counter up
 abbrev pub statusDrawn : DrawnRow → RenderArea → List ℕ → VdpState → ℕ
@@ -201,14 +217,14 @@ drawn-length EffectiveArea vram d y = length-table 1024 _
 
 -- ---- a row buffer
 module _ (a : RenderArea) (vram : List ℕ) (d : VdpState) (b : List ℕ) where
-  abbrev rowTest : Bool
-  rowTest = whole vram && leb (rowSize a) (length b)
-
   abbrev rowBuffer : DrawnRow → List ℕ
   rowBuffer r = rowWith r a vram (counterUp d) b
 
-  fits : rowTest ≡ true → rowSize a ≤ length b
-  fits t = leb-true (rowSize a) (length b) (both (whole vram) (leb (rowSize a) (length b)) t .1)
+  -- what holds of the buffer as it was, and of the one with the row in it, holds of the one that is left
+  row-left : (P : List ℕ → Type 0) → P b → (rowSize a ≤ length b → P (rowBuffer (rowOn a (lineOf (counterUp d))))) → P (rowAfter a vram d b)
+  unfolding rowAfter
+  row-left P f g =
+      under-either P (rowLines a vram (length b)) (λ r. b) (rowBuffer (rowOn a (lineOf (counterUp d)))) (λ r. f) (λ p. g (row-fits a vram (length b) p))
 
   length-by : (r : DrawnRow) → rowSize a ≤ length b → length (rowBuffer r) ≡ length b
   unfolding rowWith
@@ -221,50 +237,44 @@ module _ (a : RenderArea) (vram : List ℕ) (d : VdpState) (b : List ℕ) where
   past-by (Drawn y) = drop-at (drawnBytes a vram (counterUp d) y) (drop (rowSize a) b) (rowSize a) (drawn-length a vram (counterUp d) y)
 
   pub row-step-length : length (rowAfter a vram d b) ≡ length b
-  unfolding rowAfter
-  row-step-length = either (λ (l : List ℕ). length l ≡ length b) rowTest (λ t. length-by (rowOn a (lineOf (counterUp d))) (fits t)) (λ t. refl)
+  row-step-length = row-left (λ l. length l ≡ length b) refl (length-by (rowOn a (lineOf (counterUp d))))
 
   -- bytes past the row never change
   pub row-step-past : drop (rowSize a) (rowAfter a vram d b) ≡ drop (rowSize a) b
-  unfolding rowAfter
-  row-step-past = either (λ l. drop (rowSize a) l ≡ drop (rowSize a) b) rowTest (λ t. past-by (rowOn a (lineOf (counterUp d)))) (λ t. refl)
+  row-step-past = row-left (λ l. drop (rowSize a) l ≡ drop (rowSize a) b) refl (λ h. past-by (rowOn a (lineOf (counterUp d))))
 
   pub row-step-none : rowOn a (lineOf (counterUp d)) ≡ NoRow → rowAfter a vram d b ≡ b
-  unfolding rowAfter rowWith
-  row-step-none e = either (λ l. l ≡ b) rowTest (λ t. rw e) (λ t. refl)
+  unfolding rowWith
+  row-step-none e = row-left (λ l. l ≡ b) refl (λ h. rw e)
 
-  pub row-step-refused : (whole vram && leb (rowSize a) (length b)) ≡ false → rowAfter a vram d b ≡ b
+  pub row-step-refused : first (rowLines a vram (length b)) ≢ Accepted → rowAfter a vram d b ≡ b
   unfolding rowAfter
-  row-step-refused t = rw t
+  row-step-refused n = under-refused (rowLines a vram (length b)) (λ r. b) _ n
 
   pub row-step-here :
       (y : ℕ) → length vram ≡ 16384 → rowSize a ≤ length b → rowOn a (lineOf (counterUp d)) ≡ Drawn y
       → take (rowSize a) (rowAfter a vram d b) ≡ drawnBytes a vram (counterUp d) y
   unfolding rowAfter rowWith
   row-step-here y m h e =
-      rw (eq-eqb (length vram) 16384 m, le-leb (rowSize a) (length b) h, e)
+      rw (eq-eqb (length vram) 16384 m, le-ltb (length b) (rowSize a) h, e)
       (take-at (drawnBytes a vram (counterUp d) y) (drop (rowSize a) b) (rowSize a) (drawn-length a vram (counterUp d) y))
 
 -- ---- a frame
 module _ (a : RenderArea) (vram : List ℕ) (d : VdpState) (f : List ℕ) where
-  abbrev frameTest : Bool
-  frameTest = whole vram && leb (frameSize a) (length f)
-
   abbrev onFrame : DrawnRow → List ℕ
   onFrame r = frameWith r a vram (counterUp d) f
 
-  fits-frame : frameTest ≡ true → rowSize a * rows a ≤ length f
-  fits-frame t = rw (← frame-rows a) (leb-true (frameSize a) (length f) (both (whole vram) (leb (frameSize a) (length f)) t .1))
+  -- the same of the frame
+  frame-left : (P : List ℕ → Type 0) → P f → (rowSize a * rows a ≤ length f → P (onFrame (rowOn a (lineOf (counterUp d))))) → P (frameAfter a vram d f)
+  unfolding frameAfter
+  frame-left P k g =
+      under-either P (frameLines a vram (length f)) (λ r. f) (onFrame (rowOn a (lineOf (counterUp d)))) (λ r. k)
+      (λ p. g (rw (← frame-rows a) (omega (arith, frame-fits a vram (length f) p))))
 
   frame-length-by : (r : DrawnRow) → rowOn a (lineOf (counterUp d)) ≡ r → rowSize a * rows a ≤ length f → length (onFrame r) ≡ length f
   unfolding frameWith
   frame-length-by NoRow e h = refl
   frame-length-by (Drawn y) e h = row-length (rowSize a) (rows a) y (drawnBytes a vram (counterUp d) y) f (row-low a _ y e) (drawn-length a vram (counterUp d) y) h
-
-  frame-past-by : (r : DrawnRow) → rowOn a (lineOf (counterUp d)) ≡ r → rowSize a * rows a ≤ length f → drop (frameSize a) (onFrame r) ≡ drop (frameSize a) f
-  unfolding frameWith
-  frame-past-by NoRow e h = refl
-  frame-past-by (Drawn y) e h = rw (frame-rows a) (row-past (rowSize a) (rows a) y (drawnBytes a vram (counterUp d) y) f (row-low a _ y e) (drawn-length a vram (counterUp d) y) h)
 
   frame-other-by :
       (z : ℕ) (r : DrawnRow) → rowOn a (lineOf (counterUp d)) ≡ r → r ≢ Drawn z → rowSize a * rows a ≤ length f
@@ -276,35 +286,30 @@ module _ (a : RenderArea) (vram : List ℕ) (d : VdpState) (f : List ℕ) where
       row-other (rowSize a) (rows a) y (drawnBytes a vram (counterUp d) y) f (row-low a _ y e) (drawn-length a vram (counterUp d) y) h z o
 
   pub frame-step-length : length (frameAfter a vram d f) ≡ length f
-  unfolding frameAfter
-  frame-step-length = either (λ (l : List ℕ). length l ≡ length f) frameTest (λ t. frame-length-by (rowOn a (lineOf (counterUp d))) refl (fits-frame t)) (λ t. refl)
+  frame-step-length = frame-left (λ l. length l ≡ length f) refl (frame-length-by (rowOn a (lineOf (counterUp d))) refl)
 
-  -- bytes past the frame never change
-  pub frame-step-past : drop (frameSize a) (frameAfter a vram d f) ≡ drop (frameSize a) f
-  unfolding frameAfter
-  frame-step-past = either (λ l. drop (frameSize a) l ≡ drop (frameSize a) f) frameTest (λ t. frame-past-by (rowOn a (lineOf (counterUp d))) refl (fits-frame t)) (λ t. refl)
-
-  -- nor does any row but the one that is drawn
+  -- no row changes but the one that is drawn
   pub frame-step-other : (z : ℕ) → rowOn a (lineOf (counterUp d)) ≢ Drawn z → rowOf (rowSize a) z (frameAfter a vram d f) ≡ rowOf (rowSize a) z f
-  unfolding frameAfter
   frame-step-other z n =
-      either (λ l. rowOf (rowSize a) z l ≡ rowOf (rowSize a) z f) frameTest (λ t. frame-other-by z (rowOn a (lineOf (counterUp d))) refl n (fits-frame t)) (λ t. refl)
+      frame-left (λ l. rowOf (rowSize a) z l ≡ rowOf (rowSize a) z f) refl (frame-other-by z (rowOn a (lineOf (counterUp d))) refl n)
 
   pub frame-step-none : rowOn a (lineOf (counterUp d)) ≡ NoRow → frameAfter a vram d f ≡ f
-  unfolding frameAfter frameWith
-  frame-step-none e = either (λ l. l ≡ f) frameTest (λ t. rw e) (λ t. refl)
+  unfolding frameWith
+  frame-step-none e = frame-left (λ l. l ≡ f) refl (λ h. rw e)
 
-  pub frame-step-refused : (whole vram && leb (frameSize a) (length f)) ≡ false → frameAfter a vram d f ≡ f
+  pub frame-step-refused : first (frameLines a vram (length f)) ≢ Accepted → frameAfter a vram d f ≡ f
   unfolding frameAfter
-  frame-step-refused t = rw t
+  frame-step-refused n = under-refused (frameLines a vram (length f)) (λ r. f) _ n
 
   pub frame-step-here :
-      (y : ℕ) → length vram ≡ 16384 → frameSize a ≤ length f → rowOn a (lineOf (counterUp d)) ≡ Drawn y
+      (y : ℕ) → length vram ≡ 16384 → length f ≡ frameSize a → rowOn a (lineOf (counterUp d)) ≡ Drawn y
       → rowOf (rowSize a) y (frameAfter a vram d f) ≡ drawnBytes a vram (counterUp d) y
   unfolding frameAfter frameWith
   frame-step-here y m h e =
-      rw (eq-eqb (length vram) 16384 m, le-leb (frameSize a) (length f) h, e)
-      (row-here (rowSize a) (rows a) y (drawnBytes a vram (counterUp d) y) f (row-low a _ y e) (drawn-length a vram (counterUp d) y) (rw (← frame-rows a) h))
+      let low : frameSize a ≤ length f = omega arith in
+      let high : length f ≤ frameSize a = omega arith in
+      rw (eq-eqb (length vram) 16384 m, le-ltb (length f) (frameSize a) low, le-ltb (frameSize a) (length f) high, e)
+      (row-here (rowSize a) (rows a) y (drawnBytes a vram (counterUp d) y) f (row-low a _ y e) (drawn-length a vram (counterUp d) y) (rw (← frame-rows a) low))
 
 -- ---- the tile dump
 module _ (vram : List ℕ) (size : ℕ) where

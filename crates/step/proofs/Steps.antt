@@ -7,10 +7,10 @@ use mathlib.Core.List.{List, [], _++_, append-nil}
 use Prim.Native.Nat.{ℕ, _+_, _-_, _*_, _<_, _≤_}
 use native.Mathlib.Nat.{mul-comm}
 use native.Mathlib.Omega.{arith}
-use borrow.Author.Tests.{eq-eqb, ne-eqb, le-leb, lt-leb}
+use borrow.Author.Tests.{eq-eqb, ne-eqb, le-ltb, lt-ltb}
 use borrow.Rule.Slice.PartMut.{midOf, postOf, putMid, put-same, mid-len, post-is}
 use lib.Bits.{bitOr, or-zero-r}
-use lib.Dec.{eqb, leb}
+use lib.Dec.{eqb}
 use lib.ListN.{length, drop, drop-of-length-le}
 use Rattle.laws.specs.Bits.{bit}
 use Rattle.laws.specs.Lists.{at, withRow}
@@ -21,11 +21,12 @@ use Rattle.raster.specs.declared.Raster.{Raster}
 use Rattle.raster.specs.Raster.{advanced, lineInterrupt, counted}
 use Rattle.vdp.specs.declared.VdpState.{VdpState}
 use Rattle.vdp.specs.declared.Refusal.{Refusal}
-use Rattle.vdp.specs.declared.Refusal.the-variants.{Accepted, VramLength, PixelLength}
+use Rattle.vdp.specs.declared.Refusal.the-variants.{Accepted, VramLength, PixelLength, FrameTooLong}
 use Rattle.vdp.specs.declared.WriteDest.the-variants.{None}
 use Rattle.vdp.specs.declared.Latch.the-variants.{Empty}
 use Rattle.vdp.specs.Device.{device, withStatus, withRaster}
-use Rattle.vdp.specs.Refusals.{whole}
+use Rattle.vdp.specs.Refusals.{refusalNumber, Line, first, under}
+use Rattle.vdp.proofs.Tables.{refuses, under-refused}
 use Rattle.step.specs.declared.VdpInt.{VdpInt}
 use Rattle.step.specs.declared.VdpInt.the-variants.{NoInterrupt, InterruptGenerated}
 use Rattle.step.specs.declared.DisplayRefresh.{DisplayRefresh}
@@ -35,7 +36,7 @@ use Rattle.step.specs.declared.DrawnRow.the-variants.{NoRow, Drawn}
 use Rattle.step.specs.declared.Points.{Points}
 use Rattle.step.specs.declared.Stepped.{Stepped}
 use Rattle.step.specs.Points.{RowIn, bitsOf, bytesOf, refusedPoints, Reads, cleaned, joined}
-use Rattle.step.specs.Step.{register, lineOf, counterUp, rowOn, coloursNow, drawnBy, endScreen, reportOf, interruptOf, countLine, stepped, refusedStep, stepWith}
+use Rattle.step.specs.Step.{register, lineOf, counterUp, rowOn, coloursNow, drawnBy, endScreen, reportOf, interruptOf, countLine, stepped, refusedStep, atLeast, exactly, stepLines, rowLines, frameLines, stepWith, rowStep, frameStep}
 use Rattle.step.specs.Frame.{startOf, drawnBytes, rowWith, frameWith, rowAfter, frameAfter, RowStepLeaves, FrameStepLeaves}
 use Rattle.step.proofs.Rows.{row-in, part-end}
 
@@ -51,21 +52,34 @@ module _ (a : RenderArea) (colours : List ℕ) (picture : ℕ → Row) (b : List
   unfolding bitsOf bytesOf
   drawn-one y e eb es = (es ∙ rw e, eb ∙ rw e)
 
--- ---- a refused step: its answer, and the buffer b of which it needs `need` bytes and which would hold b′ after it
-module _ (need : ℕ) (a : RenderArea) (vram : List ℕ) (d : VdpState) (b b′ : List ℕ) where
-  abbrev AsItWas : Stepped → Type 0
-  AsItWas r = (r ≡ stepWith need a vram (length b) d) × (b ≡ cond (whole vram && leb need (length b)) b′ b)
-
-  refused-8 : {r : Stepped} → length vram ≢ 16384 → r ≡ refusedStep VramLength d → AsItWas r
+-- ---- a refused step: its answer, and the buffer b, which would hold b′ after it
+module _ (ls : List Line) (a : RenderArea) (vram : List ℕ) (d : VdpState) (b b′ : List ℕ) where
+  as-it-was :
+      (r : Refusal) {s : Stepped} → first ls ≡ r → refusalNumber r ≢ 0 → s ≡ refusedStep r d → (s ≡ stepWith ls a vram d) × (b ≡ under ls (λ q. b) b′)
   unfolding stepWith
-  refused-8 h e = let t = ne-eqb (length vram) 16384 h in (e ∙ rw t, rw t)
+  as-it-was r e n q =
+      let no : first ls ≢ Accepted = λ k. refuses r n (sym e ∙ k) in (
+        q ∙ ap (λ (x : Refusal). refusedStep x d) (sym e) ∙ sym (under-refused ls (λ x. refusedStep x d) (stepped a vram d) no),
+        sym (under-refused ls (λ x. b) b′ no),
+      )
 
-  refused-9 : {r : Stepped} {w : ℕ} → length vram ≡ 16384 → w ≡ need → length b < w → r ≡ refusedStep PixelLength d → AsItWas r
-  unfolding stepWith
-  refused-9 {w = w} mem ew h e =
-      let t = eq-eqb (length vram) 16384 mem in
-      let u = rw ew at (lt-leb w (length b) h) in
-      (e ∙ rw (t, u), rw (t, u))
+-- the first line that holds: 8, and then 9, and then 12
+module _ (vram : List ℕ) (sizes : List Line) where
+  first-8 : length vram ≢ 16384 → first (stepLines vram sizes) ≡ VramLength
+  first-8 h = rw (ne-eqb (length vram) 16384 h)
+
+  first-size : length vram ≡ 16384 → first (stepLines vram sizes) ≡ first sizes
+  first-size mem = rw (eq-eqb (length vram) 16384 mem)
+
+module _ (need size : ℕ) where
+  short-row : size < need → first (atLeast need size) ≡ PixelLength
+  short-row h = rw (lt-ltb size need h)
+
+  short-frame : size < need → first (exactly need size) ≡ PixelLength
+  short-frame h = rw (lt-ltb size need h)
+
+  long-frame : need < size → first (exactly need size) ≡ FrameTooLong
+  long-frame h = let k : need ≤ size = omega arith in rw (le-ltb size need k, lt-ltb need size h)
 
 -- ---- the points, each as the device's own step has it: r is the row that is drawn
 module _ (a : RenderArea) (vram : List ℕ) (d : VdpState) where
@@ -110,7 +124,8 @@ module _ (a : RenderArea) (vram : List ℕ) (d : VdpState) where
   unfolding stepWith stepped rowAfter
   accepted b {w} mem ew h er eb ei ep el =
       let t = eq-eqb (length vram) 16384 mem in
-      let u = rw ew at (le-leb w (length b) h) in
+      let k : rowSize a ≤ length b = omega arith in
+      let u = le-ltb (length b) (rowSize a) k in
       record { answer = rw (t, u, ei, ep, el, er); bytes = rw (t, u, eb, er) }
 
 -- ---- the points of a device that reads so
@@ -125,20 +140,37 @@ module _ {d : VdpState} {reg : List ℕ} {raster : Raster} {status : ℕ} {colou
   module _ (a : RenderArea) (vram b : List ℕ) where
     pub row-refuses-8 : {k : Points} → length vram ≢ 16384 → k ≡ refusedPoints VramLength status raster → RowStepLeaves a vram d b (joined d k) b
     unfolding rowAfter
-    row-refuses-8 h e = let p = refused-8 (rowSize a) a vram d b _ h (left VramLength e) in record { answer = p .0; bytes = p .1 }
+    row-refuses-8 h e =
+        let p = as-it-was (rowLines a vram (length b)) a vram d b _ VramLength (first-8 vram (atLeast (rowSize a) (length b)) h) (λ z. omega arith) (left VramLength e) in
+        record { answer = p .0; bytes = p .1 }
 
     pub frame-refuses-8 : {k : Points} → length vram ≢ 16384 → k ≡ refusedPoints VramLength status raster → FrameStepLeaves a vram d b (joined d k) b
     unfolding frameAfter
-    frame-refuses-8 h e = let p = refused-8 (frameSize a) a vram d b _ h (left VramLength e) in record { answer = p .0; bytes = p .1 }
+    frame-refuses-8 h e =
+        let p = as-it-was (frameLines a vram (length b)) a vram d b _ VramLength (first-8 vram (exactly (frameSize a) (length b)) h) (λ z. omega arith) (left VramLength e) in
+        record { answer = p .0; bytes = p .1 }
 
     module _ {w : ℕ} (mem : length vram ≡ 16384) where
       pub row-refuses-9 : {k : Points} → w ≡ rowSize a → length b < w → k ≡ refusedPoints PixelLength status raster → RowStepLeaves a vram d b (joined d k) b
       unfolding rowAfter
-      row-refuses-9 ew h e = let p = refused-9 (rowSize a) a vram d b _ mem ew h (left PixelLength e) in record { answer = p .0; bytes = p .1 }
+      row-refuses-9 ew h e =
+          let f : first (rowLines a vram (length b)) ≡ PixelLength = first-size vram (atLeast (rowSize a) (length b)) mem ∙ short-row (rowSize a) (length b) (omega arith) in
+          let p = as-it-was (rowLines a vram (length b)) a vram d b _ PixelLength f (λ z. omega arith) (left PixelLength e) in
+          record { answer = p .0; bytes = p .1 }
 
       pub frame-refuses-9 : {k : Points} → w ≡ frameSize a → length b < w → k ≡ refusedPoints PixelLength status raster → FrameStepLeaves a vram d b (joined d k) b
       unfolding frameAfter
-      frame-refuses-9 ew h e = let p = refused-9 (frameSize a) a vram d b _ mem ew h (left PixelLength e) in record { answer = p .0; bytes = p .1 }
+      frame-refuses-9 ew h e =
+          let f : first (frameLines a vram (length b)) ≡ PixelLength = first-size vram (exactly (frameSize a) (length b)) mem ∙ short-frame (frameSize a) (length b) (omega arith) in
+          let p = as-it-was (frameLines a vram (length b)) a vram d b _ PixelLength f (λ z. omega arith) (left PixelLength e) in
+          record { answer = p .0; bytes = p .1 }
+
+      pub frame-refuses-12 : {k : Points} → w ≡ frameSize a → w < length b → k ≡ refusedPoints FrameTooLong status raster → FrameStepLeaves a vram d b (joined d k) b
+      unfolding frameAfter
+      frame-refuses-12 ew h e =
+          let f : first (frameLines a vram (length b)) ≡ FrameTooLong = first-size vram (exactly (frameSize a) (length b)) mem ∙ long-frame (frameSize a) (length b) (omega arith) in
+          let p = as-it-was (frameLines a vram (length b)) a vram d b _ FrameTooLong f (λ z. omega arith) (left FrameTooLong e) in
+          record { answer = p .0; bytes = p .1 }
 
       pub row-accepts :
           {up after : Raster} {row : DrawnRow} {bits last : ℕ} {b′ : List ℕ} {i : VdpInt} {report : DisplayRefresh}
@@ -163,11 +195,13 @@ module _ {d : VdpState} {reg : List ℕ} {raster : Raster} {status : ℕ} {colou
 abbrev pub partOf : RenderArea → DrawnRow → List ℕ → List ℕ
 partOf a r f = midOf (startOf a r) (startOf a r + rowSize a - startOf a r) f
 
-module _ (a : RenderArea) (vram : List ℕ) (d : VdpState) (f : List ℕ) (mem : length vram ≡ 16384) (size : frameSize a ≤ length f) where
-  -- a row's bytes are enough for the row step, as the frame's are for the frame step
-  answered : {n : ℕ} {s : Stepped} → n ≡ rowSize a → s ≡ stepWith (rowSize a) a vram n d → s ≡ stepWith (frameSize a) a vram (length f) d
+module _ (a : RenderArea) (vram : List ℕ) (d : VdpState) (f : List ℕ) (mem : length vram ≡ 16384) (low : frameSize a ≤ length f) (high : length f ≤ frameSize a) where
+  -- a row's bytes are enough for the row step, and the frame's are those of the frame step
+  answered : {n : ℕ} {s : Stepped} → n ≡ rowSize a → s ≡ rowStep a vram n d → s ≡ frameStep a vram (length f) d
   unfolding stepWith
-  answered {n} h e = let k : rowSize a ≤ n = omega arith in e ∙ rw (le-leb (rowSize a) n k, le-leb (frameSize a) (length f) size)
+  answered {n} h e =
+      let k : rowSize a ≤ n = omega arith in
+      e ∙ rw (le-ltb n (rowSize a) k, le-ltb (length f) (frameSize a) low, le-ltb (frameSize a) (length f) high)
 
   part-length : (r : DrawnRow) → RowIn a r → length (partOf a r f) ≡ rowSize a
   part-length r i = mid-len (startOf a r) (startOf a r + rowSize a) f (omega (arith, part-end a r i)) ∙ omega arith
@@ -193,17 +227,17 @@ module _ (a : RenderArea) (vram : List ℕ) (d : VdpState) (f : List ℕ) (mem :
       let n : length (partOf a r f) ≡ rowSize a = part-length r (row-in a (lineOf (counterUp d)) er) in
       let h : rowSize a ≤ length (partOf a r f) = omega arith in
       let t = eq-eqb (length vram) 16384 mem in
-      let p : ys ≡ rowWith r a vram (counterUp d) (partOf a r f) = e .bytes ∙ rw (t, le-leb (rowSize a) (length (partOf a r f)) h, sym er) in
-      record { answer = answered n (e .answer); bytes = rw (t, le-leb (frameSize a) (length f) size, sym er) (placed r n p) }
+      let p : ys ≡ rowWith r a vram (counterUp d) (partOf a r f) = e .bytes ∙ rw (t, le-ltb (length (partOf a r f)) (rowSize a) h, sym er) in
+      record { answer = answered n (e .answer); bytes = rw (t, le-ltb (length f) (frameSize a) low, le-ltb (frameSize a) (length f) high, sym er) (placed r n p) }
 
 module _
     {d : VdpState} {reg : List ℕ} {raster : Raster} {status : ℕ} {colours : List ℕ} (g : Reads d reg raster status colours)
     (a : RenderArea) (vram f : List ℕ) {n s w : ℕ} {up : Raster} {r : DrawnRow}
-    (mem : length vram ≡ 16384) (en : n ≡ frameSize a) (h : n ≤ length f) (eu : up ≡ advanced (at reg) raster) (er : r ≡ rowOn a (up .«v_counter»))
+    (mem : length vram ≡ 16384) (en : n ≡ frameSize a) (low : n ≤ length f) (high : length f ≤ n) (eu : up ≡ advanced (at reg) raster) (er : r ≡ rowOn a (up .«v_counter»))
     (es : s ≡ startOf a r) (ew : w ≡ rowSize a)
   where
     pub frame-accepts : {k : Stepped} {ys : List ℕ} → RowStepLeaves a vram d (midOf s (s + w - s) f) k ys → FrameStepLeaves a vram d f k (putMid s (s + w - s) f ys)
-    frame-accepts e = rw (es, ew) (lent a vram d f mem (omega arith) r (row-is g a eu er) (rw (es, ew) at e))
+    frame-accepts e = rw (es, ew) (lent a vram d f mem (omega arith) (omega arith) r (row-is g a eu er) (rw (es, ew) at e))
 
 -- ---- a device that reads as these registers, raster, status and colours
 abbrev pub readAs : List ℕ → Raster → ℕ → List ℕ → VdpState

@@ -14,9 +14,9 @@ use Rattle.picture.specs.Area.{firstLine, rows, rowSize, frameSize, pictureOf, 
 use Rattle.raster.specs.Raster.{advanced, lineInterrupt, counted}
 use Rattle.vdp.specs.declared.VdpState.{VdpState}
 use Rattle.vdp.specs.declared.Refusal.{Refusal}
-use Rattle.vdp.specs.declared.Refusal.the-variants.{Accepted, VramLength, PixelLength}
+use Rattle.vdp.specs.declared.Refusal.the-variants.{Accepted, VramLength, PixelLength, FrameTooLong}
 use Rattle.vdp.specs.Device.{withRaster, withStatus, withCache}
-use Rattle.vdp.specs.Refusals.{whole, Line, line}
+use Rattle.vdp.specs.Refusals.{whole, Line, line, under}
 use Rattle.step.specs.declared.VdpInt.{VdpInt}
 use Rattle.step.specs.declared.VdpInt.the-variants.{NoInterrupt, InterruptGenerated}
 use Rattle.step.specs.declared.DisplayRefresh.{DisplayRefresh}
@@ -102,18 +102,30 @@ stepped a vram d =
 abbrev pub refusedStep : Refusal → VdpState → Stepped
 refusedStep r d = record { refusal = r; interrupt = NoInterrupt; report = NoDisplay; row = NoRow; vdp = d }
 
--- R6.3: a step with a pixel buffer of `size` bytes, of which it needs `need`: refusal 8, then 9
-unfoldable pub stepWith : ℕ → RenderArea → List ℕ → ℕ → VdpState → Stepped
-stepWith need a vram size d =
-    cond (whole vram) (cond (leb need size) (stepped a vram d) (refusedStep PixelLength d)) (refusedStep VramLength d)
+-- R2.6: a row buffer of `size` bytes has at least `need`, a frame exactly so many
+abbrev pub atLeast : ℕ → ℕ → List Line
+atLeast need size = line (ltb size need) PixelLength ∷ []
 
--- R2.4: the lines of the table that a step can meet
-abbrev pub stepLines : ℕ → List ℕ → ℕ → List Line
-stepLines need vram size = line (not (whole vram)) VramLength ∷ line (not (leb need size)) PixelLength ∷ []
+abbrev pub exactly : ℕ → ℕ → List Line
+exactly need size = line (ltb size need) PixelLength ∷ line (ltb need size) FrameTooLong ∷ []
 
--- R7.1, R7.2: the two steps, each with the size of R2.6
+-- R2.4: the lines of the table that a step can meet: 8, and those of its buffer's size
+abbrev pub stepLines : List ℕ → List Line → List Line
+stepLines vram sizes = line (not (whole vram)) VramLength ∷ sizes
+
+abbrev pub rowLines : RenderArea → List ℕ → ℕ → List Line
+rowLines a vram size = stepLines vram (atLeast (rowSize a) size)
+
+abbrev pub frameLines : RenderArea → List ℕ → ℕ → List Line
+frameLines a vram size = stepLines vram (exactly (frameSize a) size)
+
+-- R6.3, R6.7: a step that these lines refuse, whatever its line
+unfoldable pub stepWith : List Line → RenderArea → List ℕ → VdpState → Stepped
+stepWith lines a vram d = under lines (λ r. refusedStep r d) (stepped a vram d)
+
+-- R7.1, R7.2: the two steps
 abbrev pub rowStep : RenderArea → List ℕ → ℕ → VdpState → Stepped
-rowStep a vram size d = stepWith (rowSize a) a vram size d
+rowStep a vram size d = stepWith (rowLines a vram size) a vram d
 
 abbrev pub frameStep : RenderArea → List ℕ → ℕ → VdpState → Stepped
-frameStep a vram size d = stepWith (frameSize a) a vram size d
+frameStep a vram size d = stepWith (frameLines a vram size) a vram d

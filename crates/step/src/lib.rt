@@ -284,6 +284,9 @@ pub fn frame_points(
     if frame.len() < need {
         return refused(Refusal::PixelLength, status, raster);
     }
+    if need < frame.len() {
+        return refused(Refusal::FrameTooLong, status, raster);
+    }
     let up = raster.advance(reg);
     let drawn = row_on(area, up.v_counter);
     let a = start_of(area, drawn);
@@ -351,7 +354,7 @@ pub fn row_view<'a>(frame: &'a [u8], area: RenderArea, row: usize) -> &'a [u8]
     if row_count(area) <= row {
         return &frame[0..0];
     }
-    if frame.len() < frame_size(area) {
+    if frame.len() != frame_size(area) {
         return &frame[0..0];
     }
     let size = row_size(area);

@@ -2,3 +2,4 @@
 pub mod Exact
 pub mod Behind
 pub mod Invariant
+pub mod Tables

@@ -12,7 +12,7 @@ use Rattle.vdp.specs.declared.WriteDest.the-variants.{None, Vram, Cram}
 use Rattle.vdp.specs.declared.Latch.{Latch}
 use Rattle.vdp.specs.declared.Latch.the-variants.{Empty, Held}
 use Rattle.vdp.specs.declared.Refusal.{Refusal}
-use Rattle.vdp.specs.declared.Refusal.the-variants.{Accepted, UnknownPort, HorizontalCounter, HighRegister, NothingChosen, PaletteRead, NoPaletteByte, OutsideMemory, VramLength, PixelLength, BlockMalformed, UnknownArea}
+use Rattle.vdp.specs.declared.Refusal.the-variants.{Accepted, UnknownPort, HorizontalCounter, HighRegister, NothingChosen, PaletteRead, NoPaletteByte, OutsideMemory, VramLength, PixelLength, BlockMalformed, UnknownArea, FrameTooLong}
 use Rattle.vdp.specs.Device.{unlatched}
 
 -- R2.1, R11.11: the number of each, 0 where the call is accepted
@@ -29,6 +29,7 @@ refusalNumber VramLength = 8
 refusalNumber PixelLength = 9
 refusalNumber BlockMalformed = 10
 refusalNumber UnknownArea = 11
+refusalNumber FrameTooLong = 12
 
 -- R2.2: what it leaves of the device s: all as it was, or the command latch empty and nothing else changed
 abbrev pub leftBehind : Refusal → VdpState → VdpState
@@ -44,6 +45,7 @@ leftBehind VramLength s = s
 leftBehind PixelLength s = s
 leftBehind BlockMalformed s = s
 leftBehind UnknownArea s = s
+leftBehind FrameTooLong s = s
 
 -- R2.1, a line of the table: a condition and the refusal that it gives
 pub record Line : Type 0 where
@@ -57,6 +59,11 @@ line b r = record { holds = b; refusal = r }
 abbrev pub first : List Line → Refusal
 first [] = Accepted
 first (l ∷ ls) = cond (l .holds) (l .refusal) (first ls)
+
+-- the same of what a call does: `refuse` of that refusal; `call` where no condition holds
+abbrev pub under : {A : Type 0} → List Line → (Refusal → A) → A → A
+under [] refuse call = call
+under (l ∷ ls) refuse call = cond (l .holds) (refuse (l .refusal)) (under ls refuse call)
 
 -- ---- the words of the conditions
 abbrev pub isEmpty : Latch → Bool

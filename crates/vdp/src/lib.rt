@@ -48,6 +48,7 @@ pub enum Refusal {
     PixelLength,
     BlockMalformed,
     UnknownArea,
+    FrameTooLong,
 }
 
 // The number of a refusal (R2.1).
@@ -68,6 +69,7 @@ pub fn refusal_number(refusal: Refusal) -> u8
         Refusal::PixelLength => 9,
         Refusal::BlockMalformed => 10,
         Refusal::UnknownArea => 11,
+        Refusal::FrameTooLong => 12,
     }
 }
 
