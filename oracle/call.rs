@@ -5,6 +5,9 @@ use crate::model::{Area, BLOCK_SIZE, SHEET_SIZE, VIDEO_SIZE};
 /// A lent part may be longer than it need be by this much.
 pub const EXTRA: usize = 2048;
 
+/// A length far above that of any frame.
+pub const VERY_LONG: usize = 1_000_003;
+
 #[derive(Clone, Copy, PartialEq, Debug)]
 pub enum Kind {
     New,
@@ -41,8 +44,8 @@ impl Call {
     pub fn input(port: u16) -> Call {
         Call::plain(Kind::Input, port, 0)
     }
-    pub fn step(area: Area, extra: usize) -> Call {
-        Call { pixels_len: area.frame_size() + extra, ..Call::plain(Kind::Step, 0, area as u8) }
+    pub fn step(area: Area) -> Call {
+        Call { pixels_len: area.frame_size(), ..Call::plain(Kind::Step, 0, area as u8) }
     }
     pub fn row_step(area: Area, extra: usize) -> Call {
         Call { pixels_len: area.row_size() + extra, ..Call::plain(Kind::RowStep, 0, area as u8) }

@@ -32,7 +32,8 @@ pub struct Counts {
     calls: u64,
     beside_rust: u64,
     kinds: BTreeMap<&'static str, u64>,
-    refusals: [u64; 12],
+    /// By number, 0 where the call was accepted.
+    refusals: [u64; 13],
     rows: [u64; 2],
     departures: BTreeMap<&'static str, u64>,
     told: Option<Instant>,

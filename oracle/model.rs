@@ -315,6 +315,9 @@ impl Device {
         if frame.len() < area.frame_size() {
             return Err(9);
         }
+        if frame.len() > area.frame_size() {
+            return Err(12);
+        }
         let mut row = [0; 1024];
         let stepped = self.row_step(video, &mut row, area, notes)?;
         if let Some(number) = stepped.row {
@@ -595,9 +598,9 @@ pub fn well_formed(block: &[u8]) -> bool {
         && (block[23] == 1 || block[24] == 0)
 }
 
-/// The bytes of a row as a part of the frame (R7.3); empty if there is no such row or the frame is too short.
+/// The bytes of a row as a part of the frame (R7.3); empty if there is no such row or the frame has another length.
 pub fn row_view(frame: &[u8], area: Area, row: usize) -> &[u8] {
-    if row >= area.height() || frame.len() < area.frame_size() {
+    if row >= area.height() || frame.len() != area.frame_size() {
         return &frame[0..0];
     }
     &frame[row * area.row_size()..(row + 1) * area.row_size()]

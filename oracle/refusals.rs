@@ -4,7 +4,7 @@
 use crate::shrink::{self, Start};
 use crate::world::{Ours, World};
 use crate::Counts;
-use rules::call::{Call, Kind};
+use rules::call::{Call, Kind, VERY_LONG};
 use rules::model::{Area, BLOCK_SIZE, SHEET_SIZE, VIDEO_SIZE};
 use rules::random::Random;
 use rules::sessions::made_by_hand;
@@ -17,7 +17,7 @@ fn right_calls() -> Vec<Call> {
         calls.push(Call::out(port, 0x8B));
     }
     for area in [Area::Visible, Area::Effective] {
-        calls.push(Call::step(area, 0));
+        calls.push(Call::step(area));
         calls.push(Call::row_step(area, 0));
     }
     calls
@@ -48,6 +48,14 @@ fn spoiled_calls() -> Vec<Call> {
         for pixels_len in lengths {
             calls.push(Call { pixels_len, ..right.clone() });
         }
+        if right.kind == Kind::Step {
+            // the frame of the other area, and one far too long; at each line, those that draw nothing too
+            for pixels_len in [0, 92_159, 92_160, 92_161, 229_375, 229_376, 229_377, VERY_LONG] {
+                for line in 0..=255 {
+                    calls.push(Call { pixels_len, poke: Some((14, line)), ..right.clone() });
+                }
+            }
+        }
         if steps {
             for area in 2..=255 {
                 // a buffer that does for the visible area
@@ -56,7 +64,7 @@ fn spoiled_calls() -> Vec<Call> {
             }
         }
         // several at once: the order of the refusals
-        for several in 0..16 {
+        for several in 0..32 {
             let mut call = right.clone();
             if several & 1 != 0 {
                 call.poke = Some((15, 2));
@@ -70,6 +78,9 @@ fn spoiled_calls() -> Vec<Call> {
             }
             if several & 8 != 0 {
                 call.pixels_len = 600;
+            }
+            if several & 16 != 0 && call.kind == Kind::Step {
+                call.pixels_len = VERY_LONG;
             }
             calls.push(call);
         }

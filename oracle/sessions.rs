@@ -2,7 +2,7 @@
 
 use crate::model::{self, Area, BLOCK_SIZE, SHEET_SIZE, VIDEO_SIZE};
 use crate::random::Random;
-use crate::call::{Call, Kind, EXTRA};
+use crate::call::{Call, Kind, EXTRA, VERY_LONG};
 use std::collections::VecDeque;
 
 /// Counters just before and at the places where a step does something else.
@@ -148,7 +148,7 @@ fn sprites_about(random: &mut Random, video: &mut [u8], table: usize, line: u8) 
     }
 }
 
-/// How much longer than it need be a lent part is.
+/// How much longer than it need be a row buffer is.
 fn any_extra(random: &mut Random) -> usize {
     match random.below(4) {
         0 => 1 + random.below(EXTRA),
@@ -170,7 +170,7 @@ pub fn any_call(random: &mut Random) -> Call {
     match random.below(100) {
         0..=23 => {
             let area = any_area(random);
-            Call::step(area, any_extra(random))
+            Call::step(area)
         }
         24..=47 => {
             let area = any_area(random);
@@ -215,6 +215,11 @@ pub fn spoil(random: &mut Random, call: &mut Call) {
                 call.pixels_len = short[random.below(5)];
                 if call.kind == Kind::Dump && random.chance(1, 2) {
                     call.pixels_len = SHEET_SIZE + 1 + random.below(100);
+                }
+                if call.kind == Kind::Step && random.chance(1, 2) {
+                    let (visible, effective) = (Area::Visible.frame_size(), Area::Effective.frame_size());
+                    let (own, other) = if call.value == 1 { (effective, visible) } else { (visible, effective) };
+                    call.pixels_len = [own + 1, own + 4, own + 1 + random.below(EXTRA), other, VERY_LONG][random.below(5)];
                 }
             }
             3 if matches!(call.kind, Kind::Step | Kind::RowStep) => {
@@ -354,7 +359,7 @@ impl Session {
                 let by_row = self.random.chance(1, 2);
                 let extra = any_extra(&mut self.random);
                 for _ in 0..261 + self.random.below(3) {
-                    self.queue.push_back(if by_row { Call::row_step(area, extra) } else { Call::step(area, extra) });
+                    self.queue.push_back(if by_row { Call::row_step(area, extra) } else { Call::step(area) });
                 }
             }
             22..=31 => {
@@ -362,7 +367,7 @@ impl Session {
                 let by_row = self.random.chance(1, 2);
                 let extra = any_extra(&mut self.random);
                 for _ in 0..1 + self.random.below(12) {
-                    self.queue.push_back(if by_row { Call::row_step(area, extra) } else { Call::step(area, extra) });
+                    self.queue.push_back(if by_row { Call::row_step(area, extra) } else { Call::step(area) });
                 }
                 self.queue.push_back(Call::input(0x7E));
             }

@@ -110,6 +110,6 @@ impl Recorder {
             return (Ok(word), 0);
         }
         let row = (word >> 16 & 0xFF) as usize;
-        (Ok(word), checksum(model::row_view(&self.frame, area, row)))
+        (Ok(word), checksum(model::row_view(&self.frame[..area.frame_size()], area, row)))
     }
 }

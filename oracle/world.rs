@@ -1,7 +1,7 @@
 //! One device three times over, beside each other: ours, the model, and the published Rust, with the buffers that each is lent.
 //! `call` makes the same call on all and says where they differ.
 
-use rules::call::{Call, Kind, EXTRA};
+use rules::call::{Call, Kind, EXTRA, VERY_LONG};
 use crate::face;
 use crate::gears::{self, DisplayRefresh, RenderArea, Vdp, VdpInt};
 use crate::io::Device;
@@ -33,13 +33,52 @@ impl Buffer {
     }
 }
 
+/// The frames of one side: a step is lent that of its area, or a larger one where it is to be lent more.
+#[derive(Clone)]
+struct Frames {
+    visible: Buffer,
+    effective: Buffer,
+    long: Buffer,
+}
+
+const VISIBLE_ROOM: usize = 92_160 + EXTRA;
+const EFFECTIVE_ROOM: usize = 229_376 + EXTRA;
+
+impl Frames {
+    fn new(random: &mut Random) -> Frames {
+        Frames {
+            visible: Buffer::new(VISIBLE_ROOM, random),
+            effective: Buffer::new(EFFECTIVE_ROOM, random),
+            long: Buffer::new(VERY_LONG, random),
+        }
+    }
+    /// The frame that a step draws into.
+    fn of(&self, c: &Call) -> &Buffer {
+        if c.pixels_len > EFFECTIVE_ROOM {
+            &self.long
+        } else if c.value == 1 || c.pixels_len > VISIBLE_ROOM {
+            &self.effective
+        } else {
+            &self.visible
+        }
+    }
+    fn of_mut(&mut self, c: &Call) -> &mut Buffer {
+        if c.pixels_len > EFFECTIVE_ROOM {
+            &mut self.long
+        } else if c.value == 1 || c.pixels_len > VISIBLE_ROOM {
+            &mut self.effective
+        } else {
+            &mut self.visible
+        }
+    }
+}
+
 /// What one side owns and lends.
 #[derive(Clone)]
 struct Memory {
     state: Buffer,
     video: Buffer,
-    visible: Buffer,
-    effective: Buffer,
+    frames: Frames,
     row: Buffer,
     sheet: Buffer,
 }
@@ -49,29 +88,13 @@ impl Memory {
         Memory {
             state: Buffer::new(BLOCK_SIZE + 64, random),
             video: Buffer::new(VIDEO_SIZE + 128, random),
-            visible: Buffer::new(Area::Visible.frame_size() + EXTRA, random),
-            effective: Buffer::new(Area::Effective.frame_size() + EXTRA, random),
+            frames: Frames::new(random),
             row: Buffer::new(1024 + EXTRA, random),
             sheet: Buffer::new(SHEET_SIZE + 128, random),
         }
     }
     fn block(&self) -> &[u8] {
         self.state.part(BLOCK_SIZE)
-    }
-    /// The frame that a step of this area draws into.
-    fn frame(&self, area: u8) -> &Buffer {
-        if area == 1 {
-            &self.effective
-        } else {
-            &self.visible
-        }
-    }
-    fn frame_mut(&mut self, area: u8) -> &mut Buffer {
-        if area == 1 {
-            &mut self.effective
-        } else {
-            &mut self.visible
-        }
     }
 }
 
@@ -91,7 +114,7 @@ fn perform_model(m: &mut Memory, c: &Call, notes: &mut Notes) -> u32 {
         Kind::Out => model::vdp_out(m.state.part_mut(c.state_len), m.video.part_mut(c.video_len), c.port, c.value),
         Kind::Input => model::vdp_input(m.state.part_mut(c.state_len), m.video.part(c.video_len), c.port),
         Kind::Step => {
-            let frame = if c.value == 1 { &mut m.effective } else { &mut m.visible };
+            let frame = m.frames.of_mut(c);
             model::vdp_step(m.state.part_mut(c.state_len), m.video.part(c.video_len), frame.part_mut(n), c.value, notes)
         }
         Kind::RowStep => {
@@ -108,7 +131,7 @@ fn perform_library(m: &mut Memory, c: &Call) -> u32 {
         Kind::Out => face::vdp_out(m.state.part_mut(c.state_len), m.video.part_mut(c.video_len), c.port, c.value),
         Kind::Input => face::vdp_input(m.state.part_mut(c.state_len), m.video.part(c.video_len), c.port),
         Kind::Step => {
-            let frame = if c.value == 1 { &mut m.effective } else { &mut m.visible };
+            let frame = m.frames.of_mut(c);
             face::vdp_step(m.state.part_mut(c.state_len), m.video.part(c.video_len), frame.part_mut(n), c.value)
         }
         Kind::RowStep => face::vdp_row_step(m.state.part_mut(c.state_len), m.video.part(c.video_len), m.row.part_mut(n), c.value),
@@ -121,7 +144,7 @@ fn perform_tight(m: &mut Memory, c: &Call) -> u32 {
     let mut state = m.state.part(c.state_len).to_vec();
     let mut video = m.video.part(c.video_len).to_vec();
     let buffer = match c.kind {
-        Kind::Step => m.frame_mut(c.value),
+        Kind::Step => m.frames.of_mut(c),
         Kind::RowStep => &mut m.row,
         _ => &mut m.sheet,
     };
@@ -199,9 +222,10 @@ pub struct Met {
 pub const EARLY_CLOCK: &str = "early clock, X 41 to 48 (Rust asserts)";
 pub const PAST_EDGE: &str = "effective, past the right edge (Rust draws in the next row)";
 pub const SHORT: &str = "short buffer (Rust panics at an index, or not at all)";
+pub const LONG: &str = "long frame (Rust draws rows of the area's own length)";
 pub const ADDRESS_VIDEO: &str = "video address 16384 (Rust panics at an index)";
 pub const ADDRESS_PALETTE: &str = "palette address 64 (Rust accepts the write)";
-pub const DEPARTURES: [&str; 5] = [EARLY_CLOCK, PAST_EDGE, SHORT, ADDRESS_VIDEO, ADDRESS_PALETTE];
+pub const DEPARTURES: [&str; 6] = [EARLY_CLOCK, PAST_EDGE, SHORT, LONG, ADDRESS_VIDEO, ADDRESS_PALETTE];
 
 pub struct World {
     side: Ours,
@@ -283,7 +307,7 @@ impl World {
         same("state block", "model", &self.ours.state.bytes, &self.model.state.bytes, GUARD)?;
         same("video memory", "model", &self.ours.video.bytes, &self.model.video.bytes, GUARD)?;
         match c.kind {
-            Kind::Step => same("frame", "model", &self.ours.frame(c.value).bytes, &self.model.frame(c.value).bytes, GUARD)?,
+            Kind::Step => same("frame", "model", &self.ours.frames.of(c).bytes, &self.model.frames.of(c).bytes, GUARD)?,
             Kind::RowStep => same("row buffer", "model", &self.ours.row.bytes, &self.model.row.bytes, GUARD)?,
             Kind::Dump => same("sheet", "model", &self.ours.sheet.bytes, &self.model.sheet.bytes, GUARD)?,
             _ => {}
@@ -293,7 +317,10 @@ impl World {
         if word % 256 == 9 {
             met.departure = Some(SHORT);
         }
-        // Refusals 8 to 11 have no counterpart in the Rust: what it has can be neither damaged nor of another length.
+        if word % 256 == 12 {
+            met.departure = Some(LONG);
+        }
+        // Refusals 8 to 12 have no counterpart in the Rust: what it has can be neither damaged nor of another length.
         if word % 256 < 8 {
             if let Some(before) = &before {
                 met.beside_rust = true;
@@ -361,7 +388,7 @@ impl World {
                 let rust = &self.rust;
                 let room = if area == Area::Effective { 32 } else { 0 };
                 let said = if c.kind == Kind::Step {
-                    let frame = self.rust_frames.frame_mut(c.value).part_mut(c.pixels_len + room);
+                    let frame = self.rust_frames.frames.of_mut(c).part_mut(c.pixels_len + room);
                     caught(|| rust.step(frame, rust_area(area)))
                 } else {
                     let frame = &mut self.rust_scratch[..area.frame_size() + room];
@@ -376,10 +403,10 @@ impl World {
                         self.reload();
                         if c.kind == Kind::Step {
                             let row = (word >> 16 & 0xFF) as usize * area.row_size();
-                            let good = &self.model.frame(c.value).part(c.pixels_len)[row..row + area.row_size()];
-                            let frame = self.rust_frames.frame_mut(c.value).part_mut(c.pixels_len);
+                            let good = &self.model.frames.of(c).part(c.pixels_len)[row..row + area.row_size()];
+                            let frame = self.rust_frames.frames.of_mut(c).part_mut(c.pixels_len);
                             frame[row..row + area.row_size()].copy_from_slice(good);
-                            same("frame", "Rust", &self.ours.frame(c.value).bytes, &self.rust_frames.frame(c.value).bytes, GUARD)?;
+                            same("frame", "Rust", &self.ours.frames.of(c).bytes, &self.rust_frames.frames.of(c).bytes, GUARD)?;
                         }
                         return Ok(Some(EARLY_CLOCK));
                     }
@@ -399,16 +426,16 @@ impl World {
                         // Only the stray pixels are left out: they are put back.
                         for column in &notes.stray {
                             let at = GUARD + (row + 1) * area.row_size() + 4 * column;
-                            let good = &self.model.frame(c.value).bytes[at..at + 4];
-                            self.rust_frames.frame_mut(c.value).bytes[at..at + 4].copy_from_slice(good);
+                            let good = &self.model.frames.of(c).bytes[at..at + 4];
+                            self.rust_frames.frames.of_mut(c).bytes[at..at + 4].copy_from_slice(good);
                         }
                     } else {
-                        let rust_row = model::row_view(&self.rust_scratch, area, row);
+                        let rust_row = model::row_view(&self.rust_scratch[..area.frame_size()], area, row);
                         same("row buffer", "Rust", self.ours.row.part(area.row_size()), rust_row, 0)?;
                     }
                 }
                 if c.kind == Kind::Step {
-                    same("frame", "Rust", &self.ours.frame(c.value).bytes, &self.rust_frames.frame(c.value).bytes, GUARD)?;
+                    same("frame", "Rust", &self.ours.frames.of(c).bytes, &self.rust_frames.frames.of(c).bytes, GUARD)?;
                 }
             }
         }
