@@ -13,6 +13,7 @@
 static uint8_t state[VDP_STATE_SIZE];
 static uint8_t vram[VDP_VRAM_SIZE];
 static uint8_t frame[VDP_VISIBLE_FRAME_SIZE];
+static uint8_t screen[VDP_EFFECTIVE_FRAME_SIZE];
 static int mistakes;
 
 /* Prints a check and keeps its outcome. */
@@ -187,6 +188,8 @@ static void refusals(void)
           "short video memory is refused (8)");
     check(vdp_step(state, sizeof state, vram, sizeof vram, frame, sizeof frame - 1, VDP_VISIBLE) == VDP_REFUSED_PIXELS_LENGTH,
           "a short frame is refused (9)");
+    check(vdp_step(state, sizeof state, vram, sizeof vram, screen, sizeof screen, VDP_VISIBLE) == VDP_REFUSED_FRAME_LONG,
+          "a visible step on an effective frame is refused (12)");
     check(vdp_input(state, sizeof state, vram, sizeof vram, 0x7F) == VDP_REFUSED_HORIZONTAL, "port 7F is refused (2)");
     check(memcmp(kept, state, sizeof state) == 0, "and the state block is as it was");
 }

@@ -44,17 +44,18 @@ fn no_sprites(device: &dyn Device) -> Result<(), String> {
     device.out(0xBE, 0xD0, 0)
 }
 
-/// A pass on a frame that is one byte short (lent out of a longer one, since the published file writes past it). It stops neither:
-/// the published file goes on, and ours refuses each step by 9 and answers no interrupt and no display report.
-fn short_frame(size: usize) -> bool {
+/// A pass of visible steps on a frame of another length (lent out of a longer one, since the published file writes past a short one).
+/// It stops neither: the published file goes on, and ours refuses each step by this number and answers no interrupt and no display
+/// report.
+fn other_frame(lent: usize, number: u8) -> bool {
     let before = published::Vdp::new();
     let after = vdp::Vdp::new();
-    let mut frame = vec![0; size];
+    let mut frame = vec![0; lent + 1];
     let (mut moved, mut stayed) = (false, true);
     for _ in 0..261 {
-        before.step(&mut frame[..size - 1], published::RenderArea::VisibleOnly);
-        let tells = after.step(&mut frame[..size - 1], vdp::RenderArea::VisibleOnly);
-        stayed = stayed && format!("{:?}", tells) == "(NoInterrupt, NoDisplay)" && after.last_refusal() == 9;
+        before.step(&mut frame[..lent], published::RenderArea::VisibleOnly);
+        let tells = after.step(&mut frame[..lent], vdp::RenderArea::VisibleOnly);
+        stayed = stayed && format!("{:?}", tells) == "(NoInterrupt, NoDisplay)" && after.last_refusal() == number;
         stayed = stayed && after.input(0x7E, 0) == Ok(0);
         moved = moved || before.input(0x7E, 0) == Ok(0xFF);
     }
@@ -87,7 +88,8 @@ fn main() {
         same = same && format!("{:?}", told) == format!("{:?}", tells);
     }
     same = same && screens[0] == screens[1];
-    same = same && short_frame(size);
+    // one byte short; and the dock's own case, an effective frame
+    same = same && other_frame(size - 1, 9) && other_frame(229_376, 12);
     // the player keeps its devices so
     let (before, after) = (RcDevice::new(before), RcDevice::new(after));
     same = same && before.input(0xBE, 0) == after.input(0xBE, 0);

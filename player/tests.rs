@@ -211,18 +211,27 @@ mod tests {
     }
 
     #[test]
-    fn short_frames_do_not_stop() {
-        // R2.3: a whole pass on a frame that is one byte short: nothing is reported, drawn or moved
-        for (area, size) in [(RenderArea::VisibleOnly, VISIBLE), (RenderArea::EffectiveArea, EFFECTIVE)] {
+    fn other_frames_do_not_stop() {
+        // R2.3: a whole pass on a frame that is one byte short, or one too long, or the other area's: nothing is reported, drawn or moved
+        let (visible, effective) = (RenderArea::VisibleOnly, RenderArea::EffectiveArea);
+        for (area, size, lent, number) in [
+            (visible, VISIBLE, VISIBLE - 1, 9),
+            (visible, VISIBLE, VISIBLE + 1, 12),
+            (visible, VISIBLE, EFFECTIVE, 12),
+            (effective, EFFECTIVE, VISIBLE, 9),
+            (effective, EFFECTIVE, EFFECTIVE - 1, 9),
+            (effective, EFFECTIVE, EFFECTIVE + 1, 12),
+        ] {
             let (vdp, other) = (used(), used());
-            let mut frame = vec![7; size - 1];
+            let mut frame = vec![7; lent];
             for _ in 0..261 {
                 let answer = vdp.step(&mut frame, area);
                 assert!(matches!(answer, (VdpInt::NoInterrupt, DisplayRefresh::NoDisplay)));
-                assert_eq!(vdp.last_refusal(), 9);
+                assert_eq!(vdp.last_refusal(), number);
             }
             assert!(frame.iter().all(|byte| *byte == 7));
-            // the whole device beside a twin whose last call was refused by the same number
+            // the whole device beside a twin that was not stepped; the last call of both is refused by 9
+            vdp.dump_tileset(&mut []);
             other.dump_tileset(&mut []);
             assert_eq!(format!("{:?}", vdp), format!("{:?}", other));
             // and it goes on: the next line is the one after the 30

@@ -5,7 +5,7 @@
 //! - A refused port call is an error with a text; so are those at which the file before panicked (horizontal counter, register above
 //!   10, half a colour).
 //! - A refused `step` answers no interrupt and no display report and moves nothing; a refused `dump_tileset` leaves the sheet. That is
-//!   so where the buffer has a wrong length, for a step on every line, and not only on one that it draws. A frame is at least
+//!   so where the buffer has a wrong length, for a step on every line, and not only on one that it draws. A frame is exactly
 //!   160 x 144 (or 256 x 224) x 4 bytes, the tile sheet exactly 131,072.
 //! - A sprite at X 41 to 48 under the early clock no longer stops the player, and nothing is drawn past the right edge.
 
@@ -191,6 +191,7 @@ fn refusal_text(number: u8) -> &'static str {
         9 => "pixel buffer of a wrong length",
         10 => "malformed state block",
         11 => "unknown area",
+        12 => "frame too long",
         _ => "unknown refusal",
     }
 }
