@@ -45,7 +45,11 @@ static void device(void)
 static void make_new(void) { vdp_new(state, sizeof state - (next() % 8 == 0)); }
 static void make_out(void) { vdp_out(state, sizeof state, vram, sizeof vram - (next() % 8 == 0), (uint16_t)(0xBE + next() % 3), (uint8_t)next()); }
 static void make_input(void) { vdp_input(state, sizeof state, vram, sizeof vram - (next() % 8 == 0), (uint16_t)(next() % 2 ? 0xBE + next() % 2 : 0x7E + next() % 2)); }
-static void make_step(void) { vdp_step(state, sizeof state, vram, sizeof vram, pixels, sizeof pixels, (uint8_t)(next() % 3)); }
+static void make_step(void)
+{
+    uint8_t area = (uint8_t)(next() % 3);
+    vdp_step(state, sizeof state, vram, sizeof vram, pixels, area == VDP_VISIBLE ? VDP_VISIBLE_FRAME_SIZE : sizeof pixels, area);
+}
 static void make_row_step(void) { vdp_row_step(state, sizeof state, vram, sizeof vram, pixels, VDP_EFFECTIVE_ROW_SIZE, (uint8_t)(next() % 3)); }
 static void make_dump(void) { vdp_dump_tileset(state, sizeof state, vram, sizeof vram, pixels, VDP_TILESET_SIZE - (next() % 8 == 0)); }
 static void make_version(void) { vdp_version(); }
