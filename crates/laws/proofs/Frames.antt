@@ -1,4 +1,4 @@
--- Rows of a frame: a row that is put in is there, the others stay, and so does the length and all behind the frame.
+-- Rows of a frame: a row that is put in is there, the others stay, and so does the length.
 -- Assumes nothing.
 use mathlib.Core.Path.{_≡_, refl, sym, _∙_, ap, subst}
 use mathlib.Core.Logic.{_≢_}
@@ -71,7 +71,3 @@ module _
         go : (b : Bool) → ltb z y ≡ b → rowOf w z (withRow w y bytes frame) ≡ rowOf w z frame
         go true e = row-below z (ltb-true z y e)
         go false e = row-above z (omega (arith, ltb-false z y e))
-
-    -- bytes past the frame never change
-    pub row-past : drop (w * n) (withRow w y bytes frame) ≡ drop (w * n) frame
-    row-past = behind (w * n) (omega (arith, mul-le-mul-left w low))
