@@ -15,7 +15,7 @@ use Rattle.laws.proofs.Tests.{split, either}
 use Rattle.picture.specs.declared.RenderArea.{RenderArea}
 use Rattle.vdp.specs.declared.VdpState.{VdpState}
 use Rattle.vdp.specs.declared.Refusal.{Refusal}
-use Rattle.vdp.specs.declared.Refusal.the-variants.{Accepted, UnknownPort, HorizontalCounter, HighRegister, NothingChosen, PaletteRead, NoPaletteByte, OutsideMemory, VramLength, PixelLength, BlockMalformed, UnknownArea, FrameTooLong}
+use Rattle.vdp.specs.declared.Refusal.the-variants.{Accepted, UnknownPort, HorizontalCounter, HighRegister, NothingChosen, PaletteRead, NoPaletteByte, OutsideMemory, VramLength, PixelLength, BlockMalformed, UnknownArea, FrameTooLong, UnknownTile, CodesLength, HighCode}
 use Rattle.vdp.specs.Device.{unlatched}
 use Rattle.vdp.specs.Refusals.{refusalNumber, leftBehind, Line, under, whole}
 use Rattle.vdp.specs.Ports.{portWrite, portRead}
@@ -79,6 +79,9 @@ module _ (b : List ℕ) (bytes : (i : ℕ) → at b i < 256) where
   behind w BlockMalformed = block-back b w bytes
   behind w UnknownArea = block-back b w bytes
   behind w FrameTooLong = block-back b w bytes
+  behind w UnknownTile = block-back b w bytes
+  behind w CodesLength = block-back b w bytes
+  behind w HighCode = block-back b w bytes
 
   pub left-by : wellFormed b ≡ true → (r : Refusal) {n : ℕ} → n ≡ refusalNumber r → blockOf (leftBehind r (stateOf b)) ≡ blockLeft n b
   left-by w r e = behind w r ∙ ap (λ (n : ℕ). blockLeft n b) (sym e)

@@ -12,7 +12,7 @@ use lib.Dec.{eqb, leb}
 use lib.ListN.{length}
 use Rattle.laws.proofs.Tests.{split, both, clash}
 use Rattle.vdp.specs.declared.Refusal.{Refusal}
-use Rattle.vdp.specs.declared.Refusal.the-variants.{Accepted, UnknownPort, HorizontalCounter, HighRegister, NothingChosen, PaletteRead, NoPaletteByte, OutsideMemory, VramLength, PixelLength, BlockMalformed, UnknownArea, FrameTooLong}
+use Rattle.vdp.specs.declared.Refusal.the-variants.{Accepted, UnknownPort, HorizontalCounter, HighRegister, NothingChosen, PaletteRead, NoPaletteByte, OutsideMemory, VramLength, PixelLength, BlockMalformed, UnknownArea, FrameTooLong, UnknownTile, CodesLength, HighCode}
 use Rattle.vdp.specs.Refusals.{refusalNumber, Line, first, line, writeLines, readLines}
 use Rattle.vdp.specs.Ports.{portWrite, portRead}
 use Rattle.vdp.proofs.Exact.{write-exact, read-exact}
@@ -41,6 +41,9 @@ number-low PixelLength = omega arith
 number-low BlockMalformed = omega arith
 number-low UnknownArea = omega arith
 number-low FrameTooLong = omega arith
+number-low UnknownTile = omega arith
+number-low CodesLength = omega arith
+number-low HighCode = omega arith
 
 -- the refusal is the low byte of a word that has it there
 pub low-byte : (r : Refusal) (k : ℕ) → refusalIn (refusalNumber r + 256 * k) ≡ refusalNumber r

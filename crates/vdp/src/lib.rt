@@ -49,6 +49,9 @@ pub enum Refusal {
     BlockMalformed,
     UnknownArea,
     FrameTooLong,
+    UnknownTile,
+    CodesLength,
+    HighCode,
 }
 
 // The number of a refusal (R2.1).
@@ -70,6 +73,9 @@ pub fn refusal_number(refusal: Refusal) -> u8
         Refusal::BlockMalformed => 10,
         Refusal::UnknownArea => 11,
         Refusal::FrameTooLong => 12,
+        Refusal::UnknownTile => 13,
+        Refusal::CodesLength => 14,
+        Refusal::HighCode => 15,
     }
 }
 
