@@ -12,6 +12,7 @@ use Rattle.laws.specs.Bits.{bit, digit, number, any}
 use lib.Pow.{pow-pos}
 use Rattle.laws.proofs.Bits.{bit-number, bit-above, number-lt, number-snoc}
 use Rattle.laws.specs.Circle.{past}
+use Rattle.laws.proofs.Tests.{neither}
 
 or-swap : (a b c : Bool) → (a || (b || c)) ≡ (b || (a || c))
 or-swap true true c = refl
@@ -28,6 +29,16 @@ pub any-none : (n : ℕ) (f : ℕ → Bool) → ((k : ℕ) → k < n → f k ≡
 unfolding any
 any-none zero f e = refl
 any-none (suc n) f e = rw (e n (omega arith)) (any-none n f (λ k h. e k (omega arith)))
+
+pub any-false : (n : ℕ) (f : ℕ → Bool) → any n f ≡ false → (k : ℕ) → k < n → f k ≡ false
+unfolding any
+any-false zero f e k h = absurd (omega arith)
+any-false (suc n) f e k h =
+    let t = neither (f n) (any n f) e in
+    elim (decLt k n) [
+      | yes l ↦ any-false n f (t .1) k l
+      | no l ↦ let q : k ≡ n = omega arith in ap f q ∙ t .0
+    ]
 
 pub any-split : (x n : ℕ) (f : ℕ → Bool) → any (x + n) f ≡ (any x f || any n (λ j. f (x + j)))
 unfolding any

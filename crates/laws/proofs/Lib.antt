@@ -5,6 +5,7 @@ pub mod Tables
 pub mod Any
 pub mod Lists
 pub mod Parts
+pub mod Places
 pub mod Frames
 pub mod Bytes
 pub mod Paint

@@ -29,14 +29,15 @@ copy-step d at s from j hd hs p =
     let h : j < length (drop from s) = simp length-drop (omega arith) in
     fill-step d at (drop from s) j hd h refl (sym (getD-drop from s j 0)) p
 
--- an array of n that is stored whole is what was stored
+-- a buffer of n that is stored whole is what was stored, and so is an array of zeros
+pub filled-whole : (d s : List ℕ) (n : ℕ) {i : ℕ} → length d ≡ n → length s ≡ n → i ≡ n → paste d 0 s i ≡ s
+filled-whole d s n hd hs e =
+    let all : length d ≤ 0 + n = omega arith in
+    let most : length s ≤ n = omega arith in
+    ap (paste d 0 s) e ∙ ap (λ (x : List ℕ). take n s ++ x) (drop-of-length-le d all) ∙ append-nil (take n s) ∙ take-all n s most
+
 pub filled : (n : ℕ) (s : List ℕ) {i : ℕ} → length s ≡ n → i ≡ n → paste (replicate n 0) 0 s i ≡ s
-filled n s {i} h e =
-    let all : length (replicate {A = ℕ} n 0) ≤ 0 + n = omega (arith, length-replicate {A = ℕ} n 0) in
-    ap (paste (replicate n 0) 0 s) e
-    ∙ ap (λ (x : List ℕ). take n s ++ x) (drop-of-length-le (replicate {A = ℕ} n 0) all)
-    ∙ append-nil (take n s)
-    ∙ take-all n s (omega arith)
+filled n s h e = filled-whole (replicate n 0) s n (length-replicate n 0) h e
 
 -- ---- bytes written at a place
 pub written-whole : (l : List ℕ) (at : ℕ) (s : List ℕ) {i : ℕ} → i ≡ length s → paste l at s i ≡ written l at s
