@@ -3,7 +3,7 @@
  * The library keeps nothing of its own. The caller owns and lends
  *   - the state block: 219 bytes, the whole device but its video memory (layout below);
  *   - the video memory: exactly 16,384 bytes;
- *   - a frame, a row or a tile sheet that a call draws into.
+ *   - a frame, a row or a tile sheet that a call draws into; the codes of a tile.
  * A lent buffer is a pointer and a length in bytes. The buffers of one call must not overlap, and each must be
  * readable (and writable, where it is not const) over its whole length. A buffer of length 0 may have any pointer.
  *
@@ -56,6 +56,7 @@ extern "C" {
 #define VDP_VISIBLE_ROW_SIZE     640
 #define VDP_EFFECTIVE_ROW_SIZE   1024
 #define VDP_TILESET_SIZE         131072 /* 128 x 256 pixels of 4 bytes: 512 tiles, 16 across */
+#define VDP_TILE_CODES           64     /* the codes of a tile, 0 to 15, row by row */
 
 /* Sizes in pixels. A pixel is four bytes: red, green, blue, 255. */
 #define VDP_VISIBLE_WIDTH    160
@@ -64,6 +65,9 @@ extern "C" {
 #define VDP_EFFECTIVE_HEIGHT 224
 #define VDP_TILESET_WIDTH    128
 #define VDP_TILESET_HEIGHT   256
+
+/* Tiles in video memory, 32 bytes each. */
+#define VDP_TILES 512
 
 /* Steps from one line 0 to the next. */
 #define VDP_PASS_STEPS 261
@@ -91,6 +95,9 @@ extern "C" {
 #define VDP_REFUSED_BLOCK         10 /* state block malformed: unchanged */
 #define VDP_REFUSED_AREA          11 /* area number above 1: unchanged */
 #define VDP_REFUSED_FRAME_LONG    12 /* frame longer than its area's size: unchanged */
+#define VDP_REFUSED_TILE          13 /* tile number above 511: unchanged */
+#define VDP_REFUSED_CODES_LENGTH  14 /* codes not exactly VDP_TILE_CODES bytes: unchanged */
+#define VDP_REFUSED_CODE          15 /* a code above 15: unchanged */
 
 /* Display reports of a step. */
 #define VDP_NO_DISPLAY             0
@@ -139,6 +146,13 @@ uint32_t vdp_row_step(uint8_t *state, size_t state_len, const uint8_t *vram, siz
  * A sprite pixel of code 0 leaves the sheet's bytes. Refusals, in this order: 10, 8, 9. */
 uint32_t vdp_dump_tileset(const uint8_t *state, size_t state_len, const uint8_t *vram, size_t vram_len,
                           uint8_t *pixels, size_t pixels_len);
+
+/* Puts the tile of 64 codes, row by row, into video memory: its 32 bytes, and no other byte. No device is asked, and none changes: a byte that one
+ * has read ahead stays as it was. Refusals, in this order: 8, 13, 14, 15. */
+uint32_t vdp_write_tile(uint8_t *vram, size_t vram_len, uint16_t tile, const uint8_t *codes, size_t codes_len);
+
+/* Fills a buffer of 64 bytes with the codes of a tile. Refusals, in this order: 8, 13, 14. */
+uint32_t vdp_read_tile(const uint8_t *vram, size_t vram_len, uint16_t tile, uint8_t *codes, size_t codes_len);
 
 /* The number of the library's face: VDP_VERSION of the header that belongs to it. */
 uint32_t vdp_version(void);

@@ -192,6 +192,9 @@ fn refusal_text(number: u8) -> &'static str {
         10 => "malformed state block",
         11 => "unknown area",
         12 => "frame too long",
+        13 => "no such tile",
+        14 => "not the codes of one tile",
+        15 => "a code above 15",
         _ => "unknown refusal",
     }
 }

@@ -45,6 +45,9 @@ use Rattle.step.proofs.row_view
 use Rattle.sprites.proofs.render_sprites_line
 use Rattle.dump.proofs.dump_tileset as dump_rows
 use Rattle.step.proofs.dump_tileset
+use Rattle.tiles.proofs.write_tile
+use Rattle.tiles.proofs.read_tile
+use Rattle.tiles.proofs.sheet
 use Rattle.block.proofs.well_formed
 use Rattle.block.proofs.decode
 use Rattle.block.proofs.encode
@@ -61,6 +64,8 @@ use Rattle.face.proofs.vdp_step
 use Rattle.face.proofs.vdp_row_step
 use Rattle.face.proofs.vdp_dump_tileset
 use Rattle.face.proofs.vdp_version
+use Rattle.face.proofs.vdp_write_tile
+use Rattle.face.proofs.vdp_read_tile
 use Rattle.recording.proofs.record_at
 use Rattle.recording.proofs.trace
 use Rattle.recording.proofs.snapshot
@@ -231,6 +236,16 @@ row-view-once κs a q z z′ w w′ e f = (e ∙ sym f, refl)
 pub dump-rows-once : OneOutcome 3 dump_rows.Kinds.ps dump_rows.Kinds.r dump_rows.Reads.Asked dump_rows.Reads.Learnt
 dump-rows-once κs a q z z′ w w′ e f = (refl, λ i. ((e ∙ sym f) i, w .1))
 
+-- ---- tiles
+pub write-tile-once : OneOutcome 2 write_tile.Kinds.ps write_tile.Kinds.r write_tile.Reads.Asked write_tile.Reads.Learnt
+write-tile-once κs a q z z′ w w′ e f = (e .refusal ∙ sym (f .refusal), λ i. ((e .memory ∙ sym (f .memory)) i, w .1))
+
+pub read-tile-once : OneOutcome 2 read_tile.Kinds.ps read_tile.Kinds.r read_tile.Reads.Asked read_tile.Reads.Learnt
+read-tile-once κs a q z z′ w w′ e f = (e .refusal ∙ sym (f .refusal), λ i. (tt, (tt, ((e .buffer ∙ sym (f .buffer)) i, tt))))
+
+pub sheet-once : OneOutcome 2 sheet.Kinds.ps sheet.Kinds.r sheet.Reads.Asked sheet.Reads.Learnt
+sheet-once κs a q z z′ w w′ e f = (e .0 .count ∙ sym (f .0 .count), λ i. (tt, ((e .0 .bytes ∙ sym (f .0 .bytes)) i, tt)))
+
 -- ---- block
 pub well-formed-once : OneOutcome 1 well_formed.Kinds.ps well_formed.Kinds.r well_formed.Reads.Asked well_formed.Reads.Learnt
 well-formed-once κs a q z z′ w w′ e f = (e ∙ sym f, refl)
@@ -282,6 +297,12 @@ vdp-dump-tileset-once κs a q z z′ w w′ e f = (e .word ∙ sym (f .word), λ
 
 pub vdp-version-once : OneOutcome 0 vdp_version.Kinds.ps vdp_version.Kinds.r vdp_version.Reads.Asked vdp_version.Reads.Learnt
 vdp-version-once κs a q z z′ w w′ e f = (e ∙ sym f, refl)
+
+pub vdp-write-tile-once : OneOutcome 2 vdp_write_tile.Kinds.ps vdp_write_tile.Kinds.r vdp_write_tile.Reads.Asked vdp_write_tile.Reads.Learnt
+vdp-write-tile-once κs a q z z′ w w′ e f = (e .word ∙ sym (f .word), λ i. ((e .lent ∙ sym (f .lent)) i, w .1))
+
+pub vdp-read-tile-once : OneOutcome 2 vdp_read_tile.Kinds.ps vdp_read_tile.Kinds.r vdp_read_tile.Reads.Asked vdp_read_tile.Reads.Learnt
+vdp-read-tile-once κs a q z z′ w w′ e f = (e .word ∙ sym (f .word), λ i. (tt, (tt, ((e .lent ∙ sym (f .lent)) i, tt))))
 
 -- ---- recording
 pub record-at-once : OneOutcome 1 record_at.Kinds.ps record_at.Kinds.r record_at.Reads.Asked record_at.Reads.Learnt

@@ -4,3 +4,4 @@ pub mod Exact
 pub mod Behind
 pub mod Shapes
 pub mod Blocks
+pub mod Tiles

@@ -2,3 +2,4 @@
 pub mod Face
 pub mod Refused
 pub mod Version
+pub mod Tiles

@@ -8,6 +8,7 @@ ghost use Rattle.vdp.specs.declared.VdpState.{VdpState};
 ghost use Rattle.block.specs.Block.{blockSize, stateOf, blockOf, Sized};
 ghost use Rattle.step.specs.Step.{interruptNumber, reportNumber, coloursNow};
 ghost use Rattle.step.specs.Points.{cleaned, joined};
+ghost use Rattle.face.specs.Tiles.{writeTileCall, readTileCall};
 ghost use Rattle.face.specs.Face.{rowBits, stepWord, newCall, outCall, inputCall, stepCall, rowStepCall, dumpCall, Leaves};
 ghost use Rattle.face.specs.Version.{version};
 use step::DisplayRefresh;
@@ -209,4 +210,20 @@ pub extern "C" fn vdp_version() -> u32
     ensures { λ r. ⌜ r ≡ version ⌝ }
 {
     131072
+}
+
+// The tile of these 64 codes into video memory; no device is asked.
+#[no_mangle]
+pub extern "C" fn vdp_write_tile(vram: &mut [u8], tile: u16, codes: &[u8]) -> u32
+    ensures { λ r. ⌜ Leaves (writeTileCall (now (vram .entry)) tile (now (codes .entry))) r [] (now (vram .exit)) ⌝ }
+{
+    number(tiles::write_tile(vram, tile, codes))
+}
+
+// The 64 codes of a tile; video memory is only read.
+#[no_mangle]
+pub extern "C" fn vdp_read_tile(vram: &[u8], tile: u16, codes: &mut [u8]) -> u32
+    ensures { λ r. ⌜ Leaves (readTileCall (now (vram .entry)) tile (now (codes .entry))) r [] (now (codes .exit)) ⌝ }
+{
+    number(tiles::read_tile(vram, tile, codes))
 }
