@@ -7,13 +7,13 @@ CALLS ?= 1000000
 SEED ?= 1
 ROUNDS ?= 400
 PREFIX ?= /usr/local
-PROGRAMS := trace snapshot
+PROGRAMS := trace snapshot sheet
 BINS := $(PROGRAMS:%=build/bin/%)
 
 .PHONY: all build native install test compare memcheck damaged bench gears setup setup-rust prove clean help FORCE
 
-all: build ## build build/libvdp.a, build/bin/trace and build/bin/snapshot, and show the trace program at work
-	@echo "build/libvdp.a (header include/vdp.h), build/bin/trace and build/bin/snapshot are built."
+all: build ## build build/libvdp.a and the programs trace, snapshot and sheet in build/bin, and show the trace program at work
+	@echo "build/libvdp.a (header include/vdp.h), build/bin/trace, build/bin/snapshot and build/bin/sheet are built."
 	@echo "The trace of crates/trace/stdin (docs/TRACES.md says what its lines mean):"
 	@sh tools/cross.sh run build/bin/trace crates/trace/stdin
 
