@@ -2,6 +2,7 @@
 # build.sh WHAT..: builds programs of this folder into build/oracle/. WHAT is one or more of
 #   compare   build/oracle/compare, for x86-64, with build/libvdp.a and the published Rust (GEARS)
 #   traces    build/oracle/traces, for this machine; needs neither of the two
+#   tiles     build/oracle/tiles, for x86-64, with build/libvdp.a
 #   here      build/oracle/here/compare, for this machine, with HERE_LIB (an object or archive of the library for it, as build/native/libvdp.a);
 #             where HERE_LIB is not set, with a stand-in made of the model
 # GEARS names the folder that holds the published vdp.rs and io.rs (tools/gears.sh).
@@ -23,6 +24,11 @@ for what in "$@"; do
         mkdir -p $out/x86
         $RUSTC $flags --crate-type rlib --crate-name rules oracle/rules.rs -o $out/x86/librules.rlib
         $RUSTC $flags --extern rules=$out/x86/librules.rlib -L native=build -l static=vdp oracle/compare.rs -o $out/compare
+        ;;
+    tiles)
+        mkdir -p $out/x86
+        $RUSTC $flags --crate-type rlib --crate-name rules oracle/rules.rs -o $out/x86/librules.rlib
+        $RUSTC $flags --extern rules=$out/x86/librules.rlib -L native=build -l static=vdp oracle/tiles.rs -o $out/tiles
         ;;
     traces)
         mkdir -p $out/here

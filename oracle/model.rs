@@ -565,7 +565,7 @@ fn bit(byte: u8, k: u32) -> bool {
 }
 
 /// The code 0 to 15 of one pixel of the tile at this address (R5.3): a bit of each of four bytes, the leftmost pixel at bit 7.
-fn tile_code(video: &[u8], tile: usize, down: usize, across: usize) -> u8 {
+pub fn tile_code(video: &[u8], tile: usize, down: usize, across: usize) -> u8 {
     let mut code = 0;
     for plane in 0..4 {
         if video[tile + 4 * down + plane] >> (7 - across) & 1 == 1 {

@@ -5,3 +5,4 @@ pub mod model;
 pub mod random;
 pub mod recording;
 pub mod sessions;
+pub mod tile;

@@ -2,6 +2,7 @@
 //! and the proved library is not at hand (and, damaged on purpose, shows that the programs notice).
 
 use rules::model::{self, Notes};
+use rules::tile;
 
 /// The bytes that a caller lends.
 unsafe fn lent<'a>(at: *const u8, len: usize) -> &'a [u8] {
@@ -57,4 +58,14 @@ pub unsafe extern "C" fn vdp_dump_tileset(
     state: *const u8, state_len: usize, vram: *const u8, vram_len: usize, pixels: *mut u8, pixels_len: usize,
 ) -> u32 {
     model::vdp_dump_tileset(lent(state, state_len), lent(vram, vram_len), lent_mut(pixels, pixels_len))
+}
+
+#[no_mangle]
+pub unsafe extern "C" fn vdp_write_tile(vram: *mut u8, vram_len: usize, tile: u16, codes: *const u8, codes_len: usize) -> u32 {
+    tile::vdp_write_tile(lent_mut(vram, vram_len), tile, lent(codes, codes_len))
+}
+
+#[no_mangle]
+pub unsafe extern "C" fn vdp_read_tile(vram: *const u8, vram_len: usize, tile: u16, codes: *mut u8, codes_len: usize) -> u32 {
+    tile::vdp_read_tile(lent(vram, vram_len), tile, lent_mut(codes, codes_len))
 }
