@@ -1,4 +1,4 @@
-//! Tiles in and out, and sheets of tiles: the rules of document 02 (ii) a second time, pixel by pixel.
+//! Tiles in and out, and sheets of tiles: R14.1 to R14.5 a second time, pixel by pixel.
 
 use crate::model::{tile_code, VIDEO_SIZE};
 
