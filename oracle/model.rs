@@ -42,7 +42,7 @@ impl Area {
         self.row_size() * self.height()
     }
     /// The line that row 0 shows.
-    fn first_line(self) -> usize {
+    pub fn first_line(self) -> usize {
         match self {
             Area::Visible => 24,
             Area::Effective => 0,

@@ -6,3 +6,4 @@ pub mod random;
 pub mod recording;
 pub mod sessions;
 pub mod tile;
+pub mod turns;

@@ -1,0 +1,69 @@
+//! How many bytes of video memory a call has to fetch, counted from the rules (R11.12): two bytes of its entry and four of its line for each
+//! tile of the background that is in the row; the Y bytes down to the one that ends the list, or to the ninth sprite on the line; two bytes of
+//! the table and four of its line for each of the first eight. Each of them once; where each costs a turn of a bus, this is the least.
+
+use crate::call::{Call, Kind};
+use crate::model::{self, Area, Device, Notes};
+
+/// Does the call by the rules, and answers how many bytes of video memory it has to fetch.
+pub fn of_call(call: &Call, block: &mut [u8], video: &mut [u8]) -> usize {
+    let before = Device::decode(block);
+    let mut pixels = vec![0; call.pixels_len];
+    let mut notes = Notes::default();
+    let word = match call.kind {
+        Kind::New => model::vdp_new(block),
+        Kind::Out => model::vdp_out(block, video, call.port, call.value),
+        Kind::Input => model::vdp_input(block, video, call.port),
+        Kind::Step => model::vdp_step(block, video, &mut pixels, call.value, &mut notes),
+        Kind::RowStep => model::vdp_row_step(block, video, &mut pixels, call.value, &mut notes),
+        Kind::Dump => model::vdp_dump_tileset(block, video, &mut pixels),
+    };
+    let device = match before {
+        Some(device) if word % 256 == 0 => device,
+        _ => return 0,
+    };
+    match call.kind {
+        Kind::New => 0,
+        // the second byte of a command loads the read buffer, or does not; a data read does
+        Kind::Out => (call.port % 256 == 0xBF && device.command_latch.is_some() && call.value / 64 == 0) as usize,
+        Kind::Input => (call.port % 256 == 0xBE) as usize,
+        Kind::Step | Kind::RowStep => match Area::from_number(call.value) {
+            Some(area) if word >> 24 & 1 == 1 => of_row(&device, video, area, (word >> 16 & 0xFF) as usize),
+            _ => 0,
+        },
+        // 512 tiles of eight lines
+        Kind::Dump => 512 * 8 * 4,
+    }
+}
+
+/// Of one row.
+fn of_row(device: &Device, video: &[u8], area: Area, row: usize) -> usize {
+    of_background(device, area) + of_sprites(device, video, row + area.first_line())
+}
+
+/// A tile begins at the row's first column, and wherever the map's x is a multiple of eight (R5.1, R5.2).
+fn of_background(device: &Device, area: Area) -> usize {
+    let tiles = match area {
+        Area::Visible => (0..160).filter(|x| *x == 0 || (x + 304 - device.registers[8] as usize) % 8 == 0).count(),
+        Area::Effective => 32,
+    };
+    (2 + 4) * tiles
+}
+
+/// A sprite counts whole wherever it is on the line (R5.6 to R5.8), also where none of its pixels falls in the row.
+fn of_sprites(device: &Device, video: &[u8], line: usize) -> usize {
+    let table = (device.registers[5] & 0x7E) as usize * 128;
+    let height = if device.registers[1] & 2 == 0 { 8 } else { 16 };
+    let (mut looked, mut laid) = (0, 0);
+    for y in &video[table..table + 64] {
+        looked += 1;
+        let top = (*y as usize + 1) % 256;
+        if *y == 0xD0 || (laid == 8 && top <= line && line < top + height) {
+            break;
+        }
+        if top <= line && line < top + height {
+            laid += 1;
+        }
+    }
+    looked + (2 + 4) * laid
+}
