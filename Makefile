@@ -10,7 +10,7 @@ PREFIX ?= /usr/local
 PROGRAMS := trace snapshot sheet
 BINS := $(PROGRAMS:%=build/bin/%)
 
-.PHONY: all build native install test compare memcheck damaged bench gears setup setup-rust prove clean help FORCE
+.PHONY: all build native install test compare memcheck damaged bench bus gears setup setup-rust setup-bus prove clean help FORCE
 
 all: build ## build build/libvdp.a and the programs trace, snapshot and sheet in build/bin, and show the trace program at work
 	@echo "build/libvdp.a (header include/vdp.h), build/bin/trace, build/bin/snapshot and build/bin/sheet are built."
@@ -64,6 +64,9 @@ damaged: gears setup-rust native ## show that the comparison catches copies of t
 bench: gears setup-rust build ## time passes of 261 steps, ours and the published Rust's, and count their instructions: ROUNDS=400 SEED=1
 	@sh bench/run.sh $(ROUNDS) $(SEED)
 
+bus: gears setup-bus native ## count the bytes of video memory that a pass loads, ours and the published Rust's, and the least: SEED=1
+	@sh bench/bus.sh $(SEED)
+
 gears: # the published Rust is there
 	@sh tools/gears.sh
 
@@ -75,6 +78,9 @@ setup: ## install what this machine lacks to build (nothing where all is there)
 
 setup-rust: # what this machine lacks to test, to compare and to measure
 	@sh tools/setup.sh rust
+
+setup-bus: # and to count turns of the bus
+	@sh tools/setup.sh bus
 
 clean: ## remove what was built
 	rm -rf build target

@@ -66,3 +66,8 @@ pub fn read(vdp: &Vdp, block: &mut [u8]) {
 pub fn video_is(vdp: &Vdp, video: &[u8]) -> bool {
     vdp.state.borrow().vram == video
 }
+
+/// Where the device's video memory stands.
+pub fn video_at(vdp: &Vdp) -> *const u8 {
+    vdp.state.borrow().vram.as_ptr()
+}

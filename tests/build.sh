@@ -83,7 +83,7 @@ refused() {
     tell "$name" "$status"
 }
 rm -rf "$copy/build" "$copy/target"
-for target in compare bench damaged memcheck; do
+for target in compare bench bus damaged memcheck; do
     refused "make $target: the published Rust is looked for first" "gears: no vdp.rs and io.rs in /none: set GEARS" make --no-print-directory $target GEARS=/none
 done
 

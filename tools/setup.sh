@@ -1,8 +1,9 @@
 #!/bin/sh
-# setup.sh [rust]: makes this machine ready to build and to run what is built; with `rust` also to test, to compare and to measure.
+# setup.sh [rust | bus]: makes this machine ready to build and to run what is built; with `rust` also to test, to compare and to measure, with
+# `bus` also to count turns of the bus.
 # Does nothing, quickly, where all is there. Whatever is wrong is told in one line, before anything is built.
 # To build, rt is all that is needed on x86-64; on Arm (aarch64), where rt makes x86-64 code, also what runs x86-64 programs.
-# With `rust`: a Rust compiler and a C compiler, on Arm for x86-64 too. Debian and its kin; elsewhere install the packages that it names by hand.
+# With `rust`: a Rust compiler and a C compiler, on Arm for x86-64 too; with `bus` these and valgrind. Debian and its kin; elsewhere install the packages that it names by hand.
 set -eu
 cd "$(dirname "$0")/.."
 
@@ -10,9 +11,10 @@ say() { printf 'setup: %s\n' "$*"; }
 fail() { printf 'setup: error: %s\n' "$*" >&2; exit 1; }
 
 case ${1-} in
-'') rust=false ;;
-rust) rust=true ;;
-*) fail "unknown: $1 (setup.sh, or setup.sh rust)" ;;
+'') rust=false bus=false ;;
+rust) rust=true bus=false ;;
+bus) rust=true bus=true ;;
+*) fail "unknown: $1 (setup.sh, setup.sh rust, or setup.sh bus)" ;;
 esac
 
 # Tells whether the first of these names is a file: for a pattern, whether anything matches it.
@@ -34,6 +36,7 @@ missing() {
         command -v rustc >/dev/null || echo rustc
     fi
     command -v cc >/dev/null || { echo gcc; echo libc6-dev; }
+    ! $bus || command -v valgrind >/dev/null || echo valgrind
 }
 
 case $(uname -s)-$(uname -m) in
