@@ -32,7 +32,7 @@ tell "every rule that is cited is there" $?
 bare=
 for rule in $rules; do
     by=$(sed -nE "s/^\\*\\*$rule\\*\\* \(in ([^)]*)\).*/\1/p" docs/RULES.md)
-    grep -rqwF --include='*.antt' --include='*.md' "$rule" ${by:-crates/*/specs} || bare="$bare $rule${by:+ (in $by)}"
+    grep -rqwF --include='*.antt' --include='*.md' --include='*.sh' "$rule" ${by:-crates/*/specs} || bare="$bare $rule${by:+ (in $by)}"
 done
 [ -z "$bare" ] || printf 'cited by no definition, nor by the file that it names:%s\n' "$bare"
 [ -n "$rules" ] && [ -z "$bare" ]

@@ -1,0 +1,45 @@
+#!/usr/bin/env bash
+# bus.sh: R11.12: no call loads a byte of video memory that the rules do not need, or one of them twice, call by call: in the library as its user
+# gets it, and in its code with no optimisation, so that this is no gift of a compiler.
+set -u
+cd "$(dirname "$0")/.."
+unset MAKEFLAGS MAKELEVEL
+. tools/tell.sh
+if ! make --no-print-directory build native; then
+    echo '0 passed, 1 failed'
+    exit 1
+fi
+if ! said=$(sh tools/setup.sh bus 2>&1 >/dev/null); then
+    echo "SKIPPED: the turns of the bus: $said"
+    skipped=15
+    total
+    exit
+fi
+. bench/bus.sh
+bus_build
+tell "the programs that are watched" $?
+
+[ "$(bus_count optimised each dump 1)" = "32768 16384 1 1" ]
+tell "what watches counts every load, by its bytes" $?
+
+# least CODE WORKLOAD SEED: none of our calls takes more turns than the least, and some take any.
+least() {
+    local turns=0 least=0 calls=0 more=1
+    read -r turns least calls more < <(bus_count "$1" ours "$2" "$3")
+    [ "${more:-1}" -eq 0 ] && [ "${turns:-0}" -gt 0 ]
+    tell "$1, $2 $3: ${turns:-no} turns in ${calls:-no} calls, the least is ${least:-unknown}" $?
+}
+for workload in visible effective empty unscrolled ended ninth dump; do least optimised $workload 1; done
+for seed in 1 2 3; do least optimised any $seed; done
+for workload in ended any; do least plain $workload 1; done
+
+if has_gears; then
+    read -r turns least calls more < <(bus_count plain rust ended 1)
+    [ "${more:-0}" -eq 40 ]
+    tell "the Rust with no optimisation, which loads a byte for every pixel, is caught in each of its rows: ${turns:-no} turns, the least is ${least:-unknown}" $?
+else
+    echo "SKIPPED: the turns of the Rust: $no_gears"
+    skipped=1
+fi
+
+total
