@@ -1,6 +1,6 @@
 # bus.sh: how turns of the bus are counted, in one place. A turn is a byte of video memory that compiled code loads: valgrind's tool lackey tells
 # of every load and every store, and the program bus (bus.rs) where video memory stands, and between which stores each call is made.
-# Sourced, in the project's folder, it has bus_build and bus_count, for the test suite `bus`. Run as a command, bus.sh [SEED], it prints the
+# Sourced, in the project's folder, it has functions for the test suite `bus`. Run as a command, bus.sh [SEED], it prints the
 # table of `make bus`. Both need what `make native` makes, and valgrind.
 #
 # Two kinds of code are counted. `optimised`: on x86-64 build/libvdp.a as it is shipped, on any other machine, whose valgrind runs no x86-64 code,
@@ -10,18 +10,23 @@
 . tools/gears.sh
 bus=build/bus
 
-# bus_build: builds both programs; without the Rust in them where that is not at hand.
+# bus_program CODE LIBRARY WORDS..: builds the program CODE over a library; without the Rust in it where that is not at hand.
+bus_program() {
+    code=$1 over=$2
+    shift 2
+    ! has_gears || set -- "$@" --cfg gears
+    $RUSTC_HERE $flags "$@" --extern rules=$bus/librules.rlib -C "link-arg=$over" bench/bus.rs -o "$bus/$code"
+}
+
+# bus_build: builds the two programs.
 bus_build() {
+    flags="--edition 2021 -C overflow-checks=off -C debug-assertions=off"
     lib=build/native/libvdp.a
     [ "$(uname -m)" != x86_64 ] || lib=build/libvdp.a
     mkdir -p $bus
-    sh tools/native-module.sh build/native/vdp.ll $bus/plain.o -O0 || return
-    flags="--edition 2021 -C overflow-checks=off -C debug-assertions=off"
-    $RUSTC_HERE $flags -O --crate-type rlib --crate-name rules oracle/rules.rs -o $bus/librules.rlib || return
-    ! has_gears || flags="$flags --cfg gears"
-    flags="$flags --extern rules=$bus/librules.rlib"
-    $RUSTC_HERE $flags -O -C "link-arg=$lib" bench/bus.rs -o $bus/optimised || return
-    $RUSTC_HERE $flags -C "link-arg=$bus/plain.o" bench/bus.rs -o $bus/plain
+    $RUSTC_HERE $flags -O --crate-type rlib --crate-name rules oracle/rules.rs -o $bus/librules.rlib &&
+        bus_program optimised $lib -O &&
+        sh tools/native-module.sh build/native/vdp.ll $bus/plain.o -O0 && bus_program plain $bus/plain.o
 }
 
 # bus_count CODE SIDE WORKLOAD SEED: prints the turns of all calls, the least for all, the number of calls, and in how many of them there were

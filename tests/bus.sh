@@ -11,7 +11,7 @@ if ! make --no-print-directory build native; then
 fi
 if ! said=$(sh tools/setup.sh bus 2>&1 >/dev/null); then
     echo "SKIPPED: the turns of the bus: $said"
-    skipped=15
+    skipped=16
     total
     exit
 fi
@@ -32,6 +32,13 @@ least() {
 for workload in visible effective empty unscrolled ended ninth dump; do least optimised $workload 1; done
 for seed in 1 2 3; do least optimised any $seed; done
 for workload in ended any; do least plain $workload 1; done
+
+# A copy of the library whose look through the list loads each byte twice.
+sed -E '/^define .*"sprites::next_on"/,/^}/s/^ *%(r[0-9]+) = load i8, (ptr %r[0-9]+), align 1, !noundef !1$/%once.\1 = load volatile i8, \2\n%twice.\1 = load volatile i8, \2\n%\1 = and i8 %once.\1, %twice.\1/' build/native/vdp.ll >$bus/twice.ll
+sh tools/native-module.sh $bus/twice.ll $bus/twice.o && bus_program twice $bus/twice.o -O
+read -r turns least calls more < <(bus_count twice ours ended 1)
+[ "${more:-0}" -eq 40 ]
+tell "a copy of the library that loads each Y byte twice is caught in each of its rows: ${turns:-no} turns, the least is ${least:-unknown}" $?
 
 if has_gears; then
     read -r turns least calls more < <(bus_count plain rust ended 1)
