@@ -71,7 +71,7 @@ for edit in crates/*/must-fail/*.edit; do
     fi
     first=$(grep -m 1 ': error: ' "$log")
     case $first in
-    *'that can be named from here'* | *'has no field'* | *'expected type `tie.'* | '') unfit="$unfit $log" ;;
+    *'that can be named from here'* | *'is not in scope'* | *'has no field'* | *'expected type `tie.'* | '') unfit="$unfit $log" ;;
     esac
 done
 [ -z "$untried" ] || printf 'not tried:%s\n' "$untried"
