@@ -34,10 +34,10 @@ damage() {
     [ $status -eq 1 ] || failed=1
 }
 
-damage "the counter jumps at DB and not at DA" raster::Raster::advance 's/(icmp eq i8 %r[0-9]+), -38$/\1, -37/'
-damage "the list of sprites ends at D1 and not at D0" sprites::next_on 's/(icmp eq i8 %r[0-9]+), -48$/\1, -47/'
-damage "status bit 7 is set at C2 and not at C1" step::ended 's/(icmp eq i8 %r[0-9]+), -63$/\1, -62/'
-damage "the screen's end is reported at C2 and not at C1" step::report_of 's/(icmp ne i8 %r[0-9]+), -63$/\1, -62/'
+damage "the counter jumps at DB and not at DA" raster::Raster::advance 's/(icmp eq i8 %[ar][0-9]+), -38$/\1, -37/'
+damage "the list of sprites ends at D1 and not at D0" sprites::next_on 's/(icmp eq i8 %[ar][0-9]+), -48$/\1, -47/'
+damage "status bit 7 is set at C2 and not at C1" step::ended 's/(icmp eq i8 %[ar][0-9]+), -63$/\1, -62/'
+damage "the screen's end is reported at C2 and not at C1" step::report_of 's/(icmp ne i8 %[ar][0-9]+), -63$/\1, -62/'
 
 [ $failed -eq 0 ] && echo "damaged: every damaged copy was caught" || echo "damaged: FAILED"
 exit $failed

@@ -68,6 +68,7 @@ pub fn video_is(vdp: &Vdp, video: &[u8]) -> bool {
 }
 
 /// Where the device's video memory stands.
+#[allow(dead_code)] // for bench/bus.rs, which watches it
 pub fn video_at(vdp: &Vdp) -> *const u8 {
     vdp.state.borrow().vram.as_ptr()
 }
