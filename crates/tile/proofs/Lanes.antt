@@ -1,14 +1,14 @@
--- Lanes: a lane of the number that lanes make, sums of such numbers, and the two sweeps over all bytes.
+-- Lanes: a lane of the number that lanes make, the lanes in the other order, and the bits of a byte, reversed and cut.
 -- Assumes nothing.
-use mathlib.Core.Path.{_≡_, refl, sym, ap, ap₂, _∙_}
-use mathlib.Core.Bool.{Bool, true, false, not, _||_, _&&_}
-use mathlib.Core.List.{List}
+use mathlib.Core.Path.{_≡_, refl, sym, ap, _∙_}
+use mathlib.Core.Bool.{Bool, true, false, not, _||_}
 use Prim.Native.Nat.{ℕ, zero, suc, _+_, _-_, _*_, _/_, _%_, _^_, _<_, _≤_}
 use native.Mathlib.Nat.{not-suc-le-zero, mod-lt, mod-le, one-mul, div-one}
 use native.Mathlib.Omega.{arith}
 use lib.Bits.{bitAnd, bitOr}
 use lib.Dec.{eqb}
-use lib.Pow.{shr-shr, shr-le, shl-exact, pow-pos}
+use lib.Arith.{lt-one}
+use lib.Pow.{shr-shr, shr-le, shl-exact, pow-add, pow-pos}
 use Rattle.laws.specs.Bits.{bit, digit, number}
 use Rattle.laws.proofs.Bits.{bit-or, number-ext, number-bit, bit-shr, bit-mod}
 use Rattle.laws.proofs.Sweep.{same}
@@ -48,29 +48,24 @@ lane-lanes (suc n) f h (suc i) l =
     let e : (f 0 + 256 * lanes n (λ k. f (suc k))) / 256 ≡ lanes n (λ k. f (suc k)) = omega (arith, h 0) in
     lane-suc _ i ∙ ap (λ (x : ℕ). lane x i) e ∙ lane-lanes n (λ k. f (suc k)) (λ k. h (suc k)) i (omega arith)
 
--- ---- sums
-pub lanes-sum : (n : ℕ) (f g h k : ℕ → ℕ) → lanes n f + 2 * lanes n g + 4 * lanes n h + 8 * lanes n k ≡ lanes n (λ i. f i + 2 * g i + 4 * h i + 8 * k i)
+pub lane-lt : (w k : ℕ) → lane w k < 256
+unfolding lane
+lane-lt w k = omega arith
+
+-- a number of n lanes from its lanes
+pub lanes-is : (n w : ℕ) (f : ℕ → ℕ) → w < 2 ^ (8 * n) → ((k : ℕ) → k < n → lane w k ≡ f k) → w ≡ lanes n f
 unfolding lanes
-lanes-sum zero f g h k = refl
-lanes-sum (suc n) f g h k = omega (arith, lanes-sum n (λ i. f (suc i)) (λ i. g (suc i)) (λ i. h (suc i)) (λ i. k (suc i)))
+lanes-is zero w f h e = lt-one h
+lanes-is (suc n) w f h e =
+    let p : 2 ^ (8 * suc n) ≡ 2 ^ (8 * n) * 256 = let q : 8 * suc n ≡ 8 * n + 8 = omega arith in ap (λ (k : ℕ). 2 ^ k) q ∙ pow-add 2 (8 * n) 8 in
+    let l : w / 256 < 2 ^ (8 * n) = omega arith in
+    omega (arith, sym (lane-zero w) ∙ e 0 (omega arith), lanes-is n (w / 256) (λ k. f (suc k)) l (λ k q. sym (lane-suc w k) ∙ e (suc k) (omega arith)))
 
 digit-le : (b : Bool) → digit b ≤ 1
 digit-le true = omega arith
 digit-le false = omega arith
 
--- ---- the two sweeps
-spreads : ℕ → ℕ
-spreads b = bitAnd (bitOr (b * 0x0040201008040201) (b * 2 ^ 63 % 2 ^ 64)) 0x8080808080808080 / 2 ^ 7
-
-pub spread-is : (b : ℕ) → b < 256 → bitAnd (bitOr (b * 0x0040201008040201) (b * 2 ^ 63 % 2 ^ 64)) 0x8080808080808080 / 2 ^ 7 ≡ lanes 8 (λ k. digit (bit b (7 - k)))
-unfolding spreads lanes bit
-spread-is b h = same 256 spreads (λ b. lanes 8 (λ k. digit (bit b (7 - k)))) tt b h
-
-pub spread-le : (b : ℕ) → lanes 8 (λ k. digit (bit b (7 - k))) ≤ 0x0101010101010101
-unfolding lanes
-spread-le b =
-    omega (arith, digit-le (bit b 0), digit-le (bit b 1), digit-le (bit b 2), digit-le (bit b 3), digit-le (bit b 4), digit-le (bit b 5), digit-le (bit b 6), digit-le (bit b 7))
-
+-- ---- the bits of a byte in the other order, by a sweep over all bytes
 reverses : ℕ → ℕ
 reverses b =
     let x = bitOr (b * 16 % 256) (b / 16) in
@@ -86,15 +81,6 @@ reversed-is b x y h e q = rw (q, e) (same 256 reverses (λ b. number 8 (λ k. bi
 pub code-lt : (b0 b1 b2 b3 k : ℕ) → codeOf b0 b1 b2 b3 k < 16
 unfolding codeOf
 code-lt b0 b1 b2 b3 k = omega (arith, digit-le (bit b0 k), digit-le (bit b1 k), digit-le (bit b2 k), digit-le (bit b3 k))
-
-pub codes-are :
-    (b0 b1 b2 b3 : ℕ) {r0 r1 r2 r3 : ℕ} → r0 ≡ lanes 8 (λ k. digit (bit b0 (7 - k))) → r1 ≡ lanes 8 (λ k. digit (bit b1 (7 - k)))
-    → r2 ≡ lanes 8 (λ k. digit (bit b2 (7 - k))) → r3 ≡ lanes 8 (λ k. digit (bit b3 (7 - k)))
-    → r0 + 2 * r1 + 4 * r2 + 8 * r3 ≡ lanes 8 (λ k. codeOf b0 b1 b2 b3 (7 - k))
-unfolding codeOf
-codes-are b0 b1 b2 b3 e0 e1 e2 e3 =
-    rw (e0, e1, e2, e3)
-    (lanes-sum 8 (λ k. digit (bit b0 (7 - k))) (λ k. digit (bit b1 (7 - k))) (λ k. digit (bit b2 (7 - k))) (λ k. digit (bit b3 (7 - k))))
 
 pub lane-code : (b0 b1 b2 b3 w : ℕ) (g : ℕ → ℕ) → w ≡ lanes 8 (λ k. codeOf b0 b1 b2 b3 (7 - g k)) → (i : ℕ) → i < 8 → lane w i ≡ codeOf b0 b1 b2 b3 (7 - g i)
 lane-code b0 b1 b2 b3 w g e i h =
@@ -122,7 +108,7 @@ mirrored-is w f h e =
     rw (e0, e1, e2, e3, e4, e5, e6, e7) (omega arith)
 
 -- ---- which pixels are not of code 0
-some : (d0 d1 d2 d3 : Bool) → (((d0 || d1) || d2) || d3) ≡ not (eqb (digit d0 + 2 * digit d1 + 4 * digit d2 + 8 * digit d3) 0)
+some : (d0 d1 d2 d3 : Bool) → ((d0 || d2) || (d1 || d3)) ≡ not (eqb (digit d0 + 2 * digit d1 + 4 * digit d2 + 8 * digit d3) 0)
 some false false false false = refl
 some false false false true = refl
 some false false true false = refl
@@ -140,7 +126,7 @@ some true true false true = refl
 some true true true false = refl
 some true true true true = refl
 
-pub solid-bit : (b0 b1 b2 b3 k : ℕ) → bit (bitOr (bitOr (bitOr b0 b1) b2) b3) k ≡ not (eqb (codeOf b0 b1 b2 b3 k) 0)
+pub solid-bit : (b0 b1 b2 b3 k : ℕ) → bit (bitOr (bitOr b0 b2) (bitOr b1 b3)) k ≡ not (eqb (codeOf b0 b1 b2 b3 k) 0)
 unfolding codeOf
 solid-bit b0 b1 b2 b3 k = rw (bit-or, bit-or, bit-or) (some (bit b0 k) (bit b1 k) (bit b2 k) (bit b3 k))
 

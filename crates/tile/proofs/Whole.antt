@@ -1,27 +1,28 @@
 -- A whole line of a tile: its colours and its solid pixels from the lanes, and what a sprite's columns become, byte by byte.
 -- Assumes nothing.
 use mathlib.Core.Path.{_≡_, refl, sym, ap, ap₂, _∙_}
-use mathlib.Core.Bool.{Bool, true, false, not, _&&_}
+use mathlib.Core.Bool.{Bool, false, not, _&&_}
 use mathlib.Core.List.{List}
-use Prim.Native.Nat.{ℕ, zero, suc, _+_, _-_, _*_, _/_, _%_, _^_, _<_, _≤_}
-use native.Mathlib.Nat.{zero-add}
+use Prim.Native.Nat.{ℕ, zero, suc, _+_, _-_, _/_, _%_, _<_, _≤_}
 use native.Mathlib.Omega.{arith}
 use lib.Bits.{bitAnd, bitOr, and-le-l}
-use lib.Dec.{T, eqb, eqb→eq, ltb}
+use lib.Dec.{eqb, eqb→eq}
 use lib.ListN.{length, take, drop, length-take, length-drop}
 use lib.Seq.{getD-take, getD-drop}
 use borrow.Author.Tests.{lt-ltb}
-use Rattle.laws.specs.Bits.{bit, digit, number, byteOf}
+use Rattle.laws.specs.Bits.{bit, digit, byteOf}
 use Rattle.laws.specs.Lists.{at}
-use Rattle.laws.specs.Paint.{overlaid}
-use Rattle.laws.proofs.Bits.{bit-and, bit-number, byte-is}
+use Rattle.laws.specs.Paint.{overlaid, ofBytes}
+use Rattle.laws.proofs.Bits.{bit-and, byte-is}
+use Rattle.laws.proofs.Bytes.{byte-0, byte-1, byte-2, byte-3}
 use Rattle.laws.proofs.Sweep.{below}
 use Rattle.laws.proofs.Sweep as sweep
 use Rattle.picture.specs.Tile.{codeOf, codeAt, turned}
 use Rattle.picture.specs.Picture.{solid}
 use Rattle.tile.specs.Lanes.{lanes, lane}
 use Rattle.tile.specs.Line.{lineColour, lineSolid, lineMarked, lineDrawn, lineHeld}
-use Rattle.tile.proofs.Lanes.{lane-code, solid-bit}
+use Rattle.tile.proofs.Squares.{and-true, digit-same}
+use Rattle.tile.proofs.Lanes.{lane-zero, lane-code, solid-bit}
 
 -- ---- 16 of the colours
 pub half-length : (l : List ℕ) (p : ℕ) → p + 16 ≤ length l → length (take (p + 16 - p) (drop p l)) ≡ 16
@@ -30,21 +31,42 @@ half-length l p h = simp (length-take, length-drop) (omega arith)
 pub half-at : (l : List ℕ) (p k : ℕ) → k < 16 → at (take (p + 16 - p) (drop p l)) k ≡ at l (p + k)
 half-at l p k h = let q : k < p + 16 - p = omega arith in rw (getD-take, getD-drop)
 
--- ---- the background
-module _ (vram : List ℕ) (addr : ℕ) (flip : Bool) where
-  abbrev pub all : ℕ
-  all = bitOr (bitOr (bitOr (at vram addr) (at vram (addr + 1))) (at vram (addr + 2))) (at vram (addr + 3))
+-- ---- a line by the four bytes x that stand at addr
+abbrev pub all : ℕ → ℕ
+all x = bitOr (bitOr (lane x 0) (lane x 2)) (bitOr (lane x 1) (lane x 3))
 
-  pub line-colour : (colours : List ℕ) (palette start w : ℕ)
-      → w ≡ lanes 8 (λ k. codeOf (at vram addr) (at vram (addr + 1)) (at vram (addr + 2)) (at vram (addr + 3)) (7 - turned flip k))
+module _ (vram : List ℕ) (addr x : ℕ) (small : (k : ℕ) → at vram k < 256)
+    (e : x ≡ ofBytes (at vram addr) (at vram (addr + 1)) (at vram (addr + 2)) (at vram (addr + 3))) where
+  planes : (lane x 0 ≡ at vram addr) × (lane x 1 ≡ at vram (addr + 1)) × (lane x 2 ≡ at vram (addr + 2)) × (lane x 3 ≡ at vram (addr + 3))
+  unfolding lane
+  planes =
+      let h0 = small addr in
+      let h1 = small (addr + 1) in
+      let h2 = small (addr + 2) in
+      let h3 = small (addr + 3) in (
+        lane-zero x ∙ ap (λ (n : ℕ). n % 256) e ∙ byte-0 _ _ _ _ h0 h1 h2 h3,
+        ap (λ (n : ℕ). n / 256 % 256) e ∙ byte-1 _ _ _ _ h0 h1 h2 h3,
+        ap (λ (n : ℕ). n / 65536 % 256) e ∙ byte-2 _ _ _ _ h0 h1 h2 h3,
+        ap (λ (n : ℕ). n / 16777216 % 256) e ∙ byte-3 _ _ _ _ h0 h1 h2 h3,
+      )
+
+  line-code : (p : ℕ) → codeOf (lane x 0) (lane x 1) (lane x 2) (lane x 3) (7 - p) ≡ codeAt (at vram) addr p
+  unfolding codeAt
+  line-code p = rw (planes .0, planes .1, planes .2, planes .3)
+
+  pub lane-at : (flip : Bool) (w : ℕ) → w ≡ lanes 8 (λ k. codeOf (lane x 0) (lane x 1) (lane x 2) (lane x 3) (7 - turned flip k))
+      → (i : ℕ) → i < 8 → lane w i ≡ codeAt (at vram) addr (turned flip i)
+  lane-at flip w q i h = lane-code (lane x 0) (lane x 1) (lane x 2) (lane x 3) w (turned flip) q i h ∙ line-code (turned flip i)
+
+  pub line-colour : (flip : Bool) (colours : List ℕ) (palette start w : ℕ)
+      → w ≡ lanes 8 (λ k. codeOf (lane x 0) (lane x 1) (lane x 2) (lane x 3) (7 - turned flip k))
       → (i : ℕ) → start + i < 8 → at colours (palette + lane w (start + i)) ≡ lineColour colours palette vram addr flip start i
-  unfolding codeAt
-  line-colour colours palette start w e i h =
-      ap (λ (k : ℕ). at colours (palette + k)) (lane-code (at vram addr) (at vram (addr + 1)) (at vram (addr + 2)) (at vram (addr + 3)) w (turned flip) e (start + i) h)
+  line-colour flip colours palette start w q i h = ap (λ (k : ℕ). at colours (palette + k)) (lane-at flip w q (start + i) h)
 
-  pub line-solid : (start i : ℕ) → bit all (7 - turned flip (start + i)) ≡ lineSolid vram addr flip start i
-  unfolding codeAt
-  line-solid start i = solid-bit (at vram addr) (at vram (addr + 1)) (at vram (addr + 2)) (at vram (addr + 3)) (7 - turned flip (start + i))
+  pub line-solid : (flip : Bool) (start i : ℕ) → bit (all x) (7 - turned flip (start + i)) ≡ lineSolid vram addr flip start i
+  line-solid flip start i =
+      solid-bit (lane x 0) (lane x 1) (lane x 2) (lane x 3) (7 - turned flip (start + i))
+      ∙ ap (λ (n : ℕ). not (eqb n 0)) (line-code (turned flip (start + i)))
 
 -- ---- a sprite
 pub overlaid-cong : (row : List ℕ) (x n : ℕ) (s t : ℕ → Bool) (f g : ℕ → ℕ) → ((i : ℕ) → i < n → s i ≡ t i) → ((i : ℕ) → i < n → f i ≡ g i) → overlaid row x n s f ≡ overlaid row x n t g
@@ -52,12 +74,6 @@ unfolding overlaid
 overlaid-cong row x zero s t f g hs hf = refl
 overlaid-cong row x (suc n) s t f g hs hf =
     rw (overlaid-cong row x n s t f g (λ i l. hs i (omega arith)) (λ i l. hf i (omega arith)), hs n (omega arith), hf n (omega arith))
-
-digit-same : (a b : Bool) → digit a ≡ digit b → a ≡ b
-digit-same true true e = refl
-digit-same true false e = absurd (omega arith)
-digit-same false true e = absurd (omega arith)
-digit-same false false e = refl
 
 -- the bits of 255 - b are those that b lacks
 pub bit-lacks : (b j : ℕ) → b < 256 → j < 8 → bit (255 - b) j ≡ not (bit b j)
@@ -68,19 +84,11 @@ bit-lacks b j h l =
     (sweep.at 8 (λ j. eqb (digit (bit (255 - b) j)) (digit (not (bit b j))))
     (sweep.at 256 (λ b. below 8 (λ j. eqb (digit (bit (255 - b) j)) (digit (not (bit b j))))) tt b h) j l))
 
-and-true : (a : Bool) → (a && true) ≡ a
-and-true true = refl
-and-true false = refl
-
 module _ (vram : List ℕ) (addr held taken width x : ℕ) (bits : ℕ) (hh : held < 256) (ht : taken < 256) (hw : x + 8 ≤ width)
-    (e : bits ≡ number 8 (λ k. bit (all vram addr false) (7 - k))) (hb : bits < 256) where
+    (e : (k : ℕ) → k < 8 → bit bits k ≡ lineSolid vram addr false 0 k) (hb : bits < 256) where
   whole-solid : (k : ℕ) → k < 8 → bit bits k ≡ solid 0 8 (codeAt (at vram) addr) k
-  unfolding solid codeAt
-  whole-solid k h =
-      let q : 0 + k < 8 = omega arith in
-      ap (λ (n : ℕ). bit n k) e ∙ bit-number 8 (λ k. bit (all vram addr false) (7 - k)) k h
-      ∙ solid-bit (at vram addr) (at vram (addr + 1)) (at vram (addr + 2)) (at vram (addr + 3)) (7 - k)
-      ∙ rw (lt-ltb (0 + k) 8 q, zero-add)
+  unfolding solid
+  whole-solid k h = let q : 0 + k < 8 = omega arith in e k h ∙ rw (lt-ltb (0 + k) 8 q)
 
   whole-mark : (k : ℕ) → k < 8 → bit (bitAnd bits (255 - held)) k ≡ lineMarked vram addr 0 8 held k
   unfolding lineMarked

@@ -9,7 +9,7 @@ ghost use Rattle.laws.specs.Lists.{at};
 ghost use Rattle.laws.specs.Paint.{put, painted, putIf, overlaid, ofBytes};
 ghost use Rattle.picture.specs.Tile.{codeOf, codeAt, turned};
 ghost use Rattle.picture.specs.Picture.{solid};
-ghost use Rattle.tile.specs.Lanes.{lanes, lane};
+ghost use Rattle.tile.specs.Lanes.{lanes, lane, exchange};
 ghost use Rattle.tile.specs.Line.{lineColour, lineSolid, lineMarked, lineDrawn, lineHeld, spriteColour};
 
 // ---- tests and marks
@@ -76,19 +76,19 @@ fn pixel_set_if(shown: bool, row: &mut [u8], x: usize, c: u32)
     }
 }
 
-// The colour that stands at byte k of the row.
-fn colour_at(row: &[u8], k: usize) -> u32
-    requires { ⌜ k + 4 ≤ length (now row) ⌝ }
-    ensures { λ r. ⌜ r ≡ ofBytes (at (now (row .entry)) k) (at (now (row .entry)) (k + 1)) (at (now (row .entry)) (k + 2)) (at (now (row .entry)) (k + 3)) ⌝ }
+// The four bytes from byte k on as one number, the lowest first: the colour of a pixel, or the four bytes of a tile's line.
+fn four_at(bytes: &[u8], k: usize) -> u32
+    requires { ⌜ k + 4 ≤ length (now bytes) ⌝ }
+    ensures { λ r. ⌜ r ≡ ofBytes (at (now (bytes .entry)) k) (at (now (bytes .entry)) (k + 1)) (at (now (bytes .entry)) (k + 2)) (at (now (bytes .entry)) (k + 3)) ⌝ }
 {
-    let r = part(row[k]);
-    let g = part(row[k + 1]);
-    let b = part(row[k + 2]);
-    let a = part(row[k + 3]);
-    r + 256 * g + 65536 * b + 16777216 * a
+    let b0 = part(bytes[k]);
+    let b1 = part(bytes[k + 1]);
+    let b2 = part(bytes[k + 2]);
+    let b3 = part(bytes[k + 3]);
+    b0 + 256 * b1 + 65536 * b2 + 16777216 * b3
 }
 
-// A byte as a part of a colour.
+// A byte as a part of such a number.
 fn part(x: u8) -> u32
     ensures { λ r. ⌜ (r ≡ x) × (r < 256) ⌝ }
 {
@@ -102,32 +102,15 @@ fn chosen(on: bool, a: u32, b: u32) -> u32
     if on { a } else { b }
 }
 
-// Pixel x of the row, which is there, becomes colour c where `shown`; else it is stored again as it was, so that there is no branch.
-fn pixel_choose(shown: bool, row: &mut [u8], x: usize, c: u32)
-    requires { ⌜ x * 4 + 4 ≤ length (now row) ⌝ }
-    ensures { λ r. ⌜ now (row .exit) ≡ putIf shown (now (row .entry)) x c ⌝ }
-{
-    let k = x * 4;
-    let old = colour_at(row, k);
-    pixel_set_full(row, x, chosen(shown, c, old));
-}
-
 // ---- the eight codes of a line at once, a byte of one number to each
 
-// A byte as a number of eight.
-fn long(x: u8) -> u64
-    ensures { λ r. ⌜ (r ≡ x) × (r < 256) ⌝ }
+// The bits of x that are s places apart, exchanged where m has the lower of the two.
+fn exchanged(x: u64, s: usize, m: u64) -> u64
+    requires { ⌜ s < 64 ⌝ }
+    ensures { λ r. ⌜ r ≡ exchange x s m ⌝ }
 {
-    x as u64
-}
-
-// The bits of a byte, one to a lane, the highest first.
-fn spread(b: u8) -> u64
-    ensures { λ r. ⌜ r ≡ lanes 8 (λ k. digit (bit b (7 - k))) ⌝ }
-    ensures { λ r. ⌜ r ≤ 0x0101010101010101 ⌝ }
-{
-    let w = long(b);
-    ((w * 0x0040201008040201 | w << 63) & 0x8080808080808080) >> 7
+    let t = (x ^ x >> s) & m;
+    x ^ t ^ t << s
 }
 
 // The lanes in the other order.
@@ -144,12 +127,24 @@ fn mirrored(w: u64) -> u64
         + w % 256 * 0x0100000000000000
 }
 
-// The codes of a line with these four bytes, the leftmost pixel's in lane 0.
-fn codes_of(flip: bool, p0: u8, p1: u8, p2: u8, p3: u8) -> u64
-    ensures { λ r. ⌜ r ≡ lanes 8 (λ k. codeOf p0 p1 p2 p3 (7 - turned flip k)) ⌝ }
+// The codes of a line whose four bytes are the lanes of x, the leftmost pixel's in lane 0. The bits of x stand in rows of eight, a byte to a
+// row; with rows and columns exchanged, by squares of four, of two and of one, each lane is a code.
+fn codes_of(flip: bool, x: u32) -> u64
+    ensures { λ r. ⌜ r ≡ lanes 8 (λ k. codeOf (lane x 0) (lane x 1) (lane x 2) (lane x 3) (7 - turned flip k)) ⌝ }
 {
-    let w = spread(p0) + 2 * spread(p1) + 4 * spread(p2) + 8 * spread(p3);
-    if flip { mirrored(w) } else { w }
+    let long = x as u64;
+    let fours = (long | long << 28) & 0x0F0F0F0F0F0F0F0F;
+    let twos = exchanged(fours, 14, 0x0000CCCC0000CCCC);
+    let w = exchanged(twos, 7, 0x00AA00AA00AA00AA);
+    if flip { w } else { mirrored(w) }
+}
+
+// A bit for each pixel of that line, the leftmost's highest, which is set where the code is not 0.
+fn solid_of(x: u32) -> u8
+    ensures { λ r. ⌜ r ≡ bitOr (bitOr (lane x 0) (lane x 2)) (bitOr (lane x 1) (lane x 3)) ⌝ }
+{
+    let h = x | x >> 16;
+    ((h | h >> 8) % 256) as u8
 }
 
 // The bits of a byte in the other order.
@@ -261,12 +256,9 @@ pub fn character_line(
     ensures { λ r. ⌜ now (row .exit) ≡ painted (now (row .entry)) x n (lineColour (now (colours .entry)) palette (now (vram .entry)) addr flip start) ⌝ }
     ensures { λ r. ⌜ r ≡ number n (lineSolid (now (vram .entry)) addr flip start) ⌝ }
 {
-    let p0 = vram[addr];
-    let p1 = vram[addr + 1];
-    let p2 = vram[addr + 2];
-    let p3 = vram[addr + 3];
-    let codes = codes_of(flip, p0, p1, p2, p3);
-    let bits = faced(flip, p0 | p1 | p2 | p3);
+    let p = four_at(vram, addr);
+    let codes = codes_of(flip, p);
+    let bits = faced(flip, solid_of(p));
     paint_by(row, colours, palette, x, codes >> (8 * (start % 8)), n);
     cut(bits, start, n)
 }
@@ -285,12 +277,9 @@ pub fn character_whole(
     ensures { λ r. ⌜ now (row .exit) ≡ painted (now (row .entry)) x 8 (lineColour (now (colours .entry)) palette (now (vram .entry)) addr flip 0) ⌝ }
     ensures { λ r. ⌜ r ≡ number 8 (lineSolid (now (vram .entry)) addr flip 0) ⌝ }
 {
-    let p0 = vram[addr];
-    let p1 = vram[addr + 1];
-    let p2 = vram[addr + 2];
-    let p3 = vram[addr + 3];
-    paint_whole_by(row, colours, palette, x, codes_of(flip, p0, p1, p2, p3));
-    faced(flip, p0 | p1 | p2 | p3)
+    let p = four_at(vram, addr);
+    paint_whole_by(row, colours, palette, x, codes_of(flip, p));
+    faced(flip, solid_of(p))
 }
 
 // ---- a sprite
@@ -346,19 +335,53 @@ pub fn sprite_columns(
     }
 }
 
-// The colours that the lanes name where `drawn` has their bits, from pixel x of the row on.
-fn overlay(row: &mut [u8], colours: &[u32; 32], x: usize, codes: u64, drawn: u8)
-    requires { ⌜ (x < 65536) × ((x + 8) * 4 ≤ length (now row)) × ((k : ℕ) → k < 8 → lane codes k < 16) ⌝ }
-    ensures { λ r. ⌜ now (row .exit) ≡ overlaid (now (row .entry)) x 8 (bit drawn) (λ k. at (now (colours .entry)) (16 + lane codes k)) ⌝ }
+// The colours that the lanes name where `drawn` has their bits, from pixel x of the row on; the others are stored again as they were, so that
+// there is no branch. All are read before the first is stored, as in `paint_whole`.
+fn overlay(row: &mut [u8], colours: &[u32], x: usize, codes: u64, drawn: u8)
+    requires { ⌜ (x < 65536) × ((x + 8) * 4 ≤ length (now row)) × ((k : ℕ) → k < 8 → lane codes k < length (now colours)) ⌝ }
+    ensures { λ r. ⌜ now (row .exit) ≡ overlaid (now (row .entry)) x 8 (bit drawn) (λ k. at (now (colours .entry)) (lane codes k)) ⌝ }
 {
-    let mut w = codes;
-    let mut i: usize = 0;
-    while i < 8 {
-        let c = 16 + (w % 256) as usize;
-        pixel_choose(small::is_set(drawn, i), row, x + i, colours[c]);
-        w = w / 256;
-        i += 1;
-    }
+    let o0 = four_at(row, x * 4);
+    let o1 = four_at(row, x * 4 + 4);
+    let o2 = four_at(row, x * 4 + 8);
+    let o3 = four_at(row, x * 4 + 12);
+    let o4 = four_at(row, x * 4 + 16);
+    let o5 = four_at(row, x * 4 + 20);
+    let o6 = four_at(row, x * 4 + 24);
+    let o7 = four_at(row, x * 4 + 28);
+    let c0 = lane_colour(colours, codes, 0);
+    let c1 = lane_colour(colours, codes, 1);
+    let c2 = lane_colour(colours, codes, 2);
+    let c3 = lane_colour(colours, codes, 3);
+    let c4 = lane_colour(colours, codes, 4);
+    let c5 = lane_colour(colours, codes, 5);
+    let c6 = lane_colour(colours, codes, 6);
+    let c7 = lane_colour(colours, codes, 7);
+    let s0 = chosen(small::is_set(drawn, 0), c0, o0);
+    let s1 = chosen(small::is_set(drawn, 1), c1, o1);
+    let s2 = chosen(small::is_set(drawn, 2), c2, o2);
+    let s3 = chosen(small::is_set(drawn, 3), c3, o3);
+    let s4 = chosen(small::is_set(drawn, 4), c4, o4);
+    let s5 = chosen(small::is_set(drawn, 5), c5, o5);
+    let s6 = chosen(small::is_set(drawn, 6), c6, o6);
+    let s7 = chosen(small::is_set(drawn, 7), c7, o7);
+    pixel_set_full(row, x, s0);
+    pixel_set_full(row, x + 1, s1);
+    pixel_set_full(row, x + 2, s2);
+    pixel_set_full(row, x + 3, s3);
+    pixel_set_full(row, x + 4, s4);
+    pixel_set_full(row, x + 5, s5);
+    pixel_set_full(row, x + 6, s6);
+    pixel_set_full(row, x + 7, s7);
+}
+
+// The same by 16 of the colours, from colour `palette` on.
+fn overlay_by(row: &mut [u8], colours: &[u32], palette: usize, x: usize, codes: u64, drawn: u8)
+    requires { ⌜ (x < 65536) × ((x + 8) * 4 ≤ length (now row)) × (palette + 16 ≤ length (now colours)) × ((k : ℕ) → k < 8 → lane codes k < 16) ⌝ }
+    ensures { λ r. ⌜ now (row .exit) ≡ overlaid (now (row .entry)) x 8 (bit drawn) (λ k. at (now (colours .entry)) (palette + lane codes k)) ⌝ }
+{
+    let top = palette + 16;
+    overlay(row, &colours[palette..top], x, codes, drawn);
 }
 
 // The whole line at addr, all of it in the row: what it marks and draws are made as bytes first.
@@ -376,14 +399,11 @@ fn sprite_whole(
     ensures { λ r. ⌜ now (row .exit) ≡ overlaid (now (row .entry)) x 8 (lineDrawn (now (vram .entry)) addr 0 8 held taken width x) (spriteColour (now (colours .entry)) (now (vram .entry)) addr 0) ⌝ }
     ensures { λ r. ⌜ (r .marks ≡ byteOf (lineMarked (now (vram .entry)) addr 0 8 held)) × (r .drawn ≡ byteOf (lineDrawn (now (vram .entry)) addr 0 8 held taken width x)) × (r .held ≡ byteOf (lineHeld (now (vram .entry)) addr 0 8 held)) ⌝ }
 {
-    let p0 = vram[addr];
-    let p1 = vram[addr + 1];
-    let p2 = vram[addr + 2];
-    let p3 = vram[addr + 3];
-    let all = reversed(p0 | p1 | p2 | p3);
+    let p = four_at(vram, addr);
+    let all = reversed(solid_of(p));
     let marks = all & (255 - held);
     let drawn = marks & (255 - taken);
-    overlay(row, colours, x, codes_of(false, p0, p1, p2, p3), drawn);
+    overlay_by(row, colours, 16, x, codes_of(false, p), drawn);
     Columns {
         marks: marks,
         drawn: drawn,

@@ -1,93 +1,82 @@
 use borrow.Author.Needs.{needs}
 use native.Mathlib.Omega.{arith}
-use mathlib.Core.Path.{_≡_, refl, sym, ap, _∙_}
-use Prim.Native.Nat.{_+_, _-_, _*_, _<_}
+use mathlib.Core.Path.{_≡_, sym, ap, _∙_}
+use Prim.Native.Nat.{_+_, _-_, _<_}
 use native.Mathlib.Nat.{zero-add}
-use Rattle.laws.specs.Bits.{bit, number}
-use Rattle.laws.specs.Lists.{at}
-use Rattle.laws.proofs.Bits.{number-lt}
-use Rattle.picture.specs.Tile.{turned, codeAt}
 use mathlib.Core.Bool.{false}
+use Rattle.laws.specs.Bits.{bit}
+use Rattle.laws.specs.Lists.{at}
+use Rattle.laws.proofs.Bits.{number-lt, bit-number}
+use Rattle.picture.specs.Tile.{turned, codeAt}
+use Rattle.tile.specs.Line.{lineSolid}
 use Rattle.tile.proofs.Lanes.{lane-code, code-lt}
-use Rattle.tile.proofs.Whole.{all, overlaid-cong, whole-draw, marks-are, drawn-are, held-are}
+use Rattle.tile.proofs.Whole.{all, lane-at, line-solid, overlaid-cong, whole-draw, marks-are, drawn-are, held-are}
 use Rattle.tile.proofs.sprite_whole.Statement.{statement}
 use Rattle.tile.proofs.sprite_whole.Tie as tie
 use Rattle.tile.proofs.sprite_whole.Reads as reads
 use Rattle.tile.proofs.sprite_whole.Lts as lts
 use Rattle.tile.proofs.codes_of.Reads as codes-of-reads
-use Rattle.tile.proofs.overlay.Reads as overlay-reads
+use Rattle.tile.proofs.four_at.Reads as four-at-reads
+use Rattle.tile.proofs.overlay_by.Reads as overlay-by-reads
 use Rattle.tile.proofs.reversed.Reads as reversed-reads
+use Rattle.tile.proofs.solid_of.Reads as solid-of-reads
 
--- src/lib.rt:321:14
-shared-slice-read-p0 : tie.Need-shared-slice-read-p0
-shared-slice-read-p0 c = search needs
+-- src/lib.rt:402:9
+four-at-requires : tie.Need-four-at-requires
+four-at-requires c κs = search needs
 
--- src/lib.rt:322:19
-add-p1 : tie.Need-add-p1
-add-p1 c = search needs
+-- src/lib.rt:403:24
+solid-of-requires : tie.Need-solid-of-requires
+solid-of-requires c κs = search needs
 
--- src/lib.rt:322:14
-shared-slice-read-p1 : tie.Need-shared-slice-read-p1
-shared-slice-read-p1 c = search needs
-
--- src/lib.rt:323:19
-add-p2 : tie.Need-add-p2
-add-p2 c = search needs
-
--- src/lib.rt:323:14
-shared-slice-read-p2 : tie.Need-shared-slice-read-p2
-shared-slice-read-p2 c = search needs
-
--- src/lib.rt:324:19
-add-p3 : tie.Need-add-p3
-add-p3 c = search needs
-
--- src/lib.rt:324:14
-shared-slice-read-p3 : tie.Need-shared-slice-read-p3
-shared-slice-read-p3 c = search needs
-
--- src/lib.rt:325:9
+-- src/lib.rt:403:9
 reversed-requires : tie.Need-reversed-requires
 reversed-requires c κs = search needs
 
--- src/lib.rt:326:24
+-- src/lib.rt:404:24
 sub-marks : tie.Need-sub-marks
 sub-marks c = search needs
 
--- src/lib.rt:327:26
+-- src/lib.rt:405:26
 sub-drawn : tie.Need-sub-drawn
 sub-drawn c = search needs
 
--- src/lib.rt:328:30
+-- src/lib.rt:406:37
 codes-of-requires : tie.Need-codes-of-requires
 codes-of-requires c κs = search needs
 
--- src/lib.rt:328:5
-overlay-requires : tie.Need-overlay-requires
-overlay-requires c κs =
+-- src/lib.rt:406:5
+overlay-by-requires : tie.Need-overlay-by-requires
+overlay-by-requires c κs =
     let q = lane-code _ _ _ _ (c .codes-of .result) (turned false) (c .codes-of .ensures) in
-    (search needs, search needs, λ k h. rw (q k h) (code-lt _ _ _ _ _))
+    (search needs, search needs, search needs, λ k h. rw (q k h) (code-lt _ _ _ _ _))
 
--- src/lib.rt:307:1
+-- src/lib.rt:388:1
 same-length : tie.Need-same-length
 same-length c = search needs
 
--- src/lib.rt:307:1
+-- src/lib.rt:388:1
 returns : tie.Need-returns
-unfolding codeAt
 returns c =
-    let a = c .before .before .before .before .before .before .before .before .before .before .before .before .args in
+    let a = c .before .before .before .before .before .before .before .before .before .before .before .args in
     let v = a .vram .now in
-    let e = c .before .before .before .before .before .reversed .ensures in
-    let b = c .before .before .before .before .before .reversed .result in
-    let hb : b < 256 = rw e (number-lt 8 _) in
-    let hh = c .before .before .before .before .before .before .before .before .before .before .before .before .fits .held .fits in
-    let ht = c .before .before .before .before .before .before .before .before .before .before .before .before .fits .taken .fits in
-    let hw = c .before .before .before .before .before .before .before .before .before .before .before .before .pre .2 in
-    let q = lane-code _ _ _ _ (c .before .before .before .codes-of .result) (turned false) (c .before .before .before .codes-of .ensures) in (
-      c .before .before .overlay .ensures
+    let x = c .before .before .before .before .before .before .before .before .four-at .result in
+    let b = c .before .before .before .before .before .before .reversed .result in
+    let small : (k : _) → at v k < 256 = λ k. omega (arith, c .before .before .before .before .before .before .before .before .before .shared-slice-known .given k) in
+    let e : (k : _) → k < 8 → bit b k ≡ lineSolid v (a .addr) false 0 k =
+    λ k h.
+    ap (λ n. bit n k) (c .before .before .before .before .before .before .reversed .ensures)
+    ∙ bit-number 8 _ k h
+    ∙ ap (λ n. bit n (7 - k)) (c .before .before .before .before .before .before .before .solid-of .ensures)
+    ∙ ap (λ i. bit (all x) (7 - i)) (sym (zero-add k))
+    ∙ line-solid v (a .addr) x small (c .before .before .before .before .before .before .before .before .four-at .ensures) false 0 k in
+    let hb : b < 256 = rw (c .before .before .before .before .before .before .reversed .ensures) (number-lt 8 _) in
+    let hh = c .before .before .before .before .before .before .before .before .before .before .before .fits .held .fits in
+    let ht = c .before .before .before .before .before .before .before .before .before .before .before .fits .taken .fits in
+    let hw = c .before .before .before .before .before .before .before .before .before .before .before .pre .2 in (
+      c .before .before .overlay-by .ensures
           ∙ overlaid-cong _ _ 8 _ _ _ _ (λ k h. whole-draw v (a .addr) (a .held) (a .taken) (a .width) (a .x) b hh ht hw e hb k h)
-          (λ k h. ap (λ i. at (a .colours .now) (16 + i)) (q k h) ∙ ap (λ i. at (a .colours .now) (16 + codeAt (at v) (a .addr) i)) (sym (zero-add k))),
+          (λ k h. ap (λ i. at (a .colours .now) (16 + i)) (lane-at v (a .addr) x small (c .before .before .before .before .before .before .before .before .four-at .ensures) false (c .before .before .before .codes-of .result) (c .before .before .before .codes-of .ensures) k h) ∙ ap (λ i. at (a .colours .now) (16 + codeAt (at v) (a .addr) i)) (sym (zero-add k))),
       (
         marks-are v (a .addr) (a .held) (a .taken) (a .width) (a .x) b hh ht hw e hb,
         drawn-are v (a .addr) (a .held) (a .taken) (a .width) (a .x) b hh ht hw e hb,
@@ -99,17 +88,12 @@ pub sprite-whole-spec : {M : Type 1} → statement M
 sprite-whole-spec =
     tie.close
     (tie.spec
-    shared-slice-read-p0
-    add-p1
-    shared-slice-read-p1
-    add-p2
-    shared-slice-read-p2
-    add-p3
-    shared-slice-read-p3
+    four-at-requires
+    solid-of-requires
     reversed-requires
     sub-marks
     sub-drawn
     codes-of-requires
-    overlay-requires
+    overlay-by-requires
     same-length
     returns)
