@@ -35,6 +35,13 @@ struct Part {
     calls: Vec<Call>,
 }
 
+impl Part {
+    /// How many bytes of state a call is lent.
+    fn lent(&self, call: &Call) -> usize {
+        call.state_len.unwrap_or(self.block.len())
+    }
+}
+
 /// Where the sprites' Y bytes stand in the workloads of the benchmark.
 const SPRITES: usize = 0x3F00;
 /// The register of the scroll across.
@@ -81,7 +88,8 @@ fn workload_named(name: &str, seed: u64) -> Option<Vec<Part>> {
         // states made by hand where the rules meet, with a call of any kind but the dump on each
         "any" => (0..150)
             .map(|_| {
-                let (block, video) = sessions::made_by_hand(&mut random);
+                let shape = sessions::any_shape(&mut random);
+                let (block, video) = sessions::made_by_hand(&mut random, shape);
                 let mut call = sessions::any_call(&mut random);
                 while call.kind == Kind::Dump {
                     call = sessions::any_call(&mut random);
@@ -89,7 +97,7 @@ fn workload_named(name: &str, seed: u64) -> Option<Vec<Part>> {
                 if random.chance(1, 20) {
                     sessions::spoil(&mut random, &mut call);
                 }
-                Part { block: block.to_vec(), video, calls: vec![call] }
+                Part { block, video, calls: vec![call] }
             })
             .collect(),
         _ => return None,
@@ -98,20 +106,20 @@ fn workload_named(name: &str, seed: u64) -> Option<Vec<Part>> {
 
 const NEW_PART: u8 = 0;
 const CALL: u8 = 1;
-const KINDS: [Kind; 6] = [Kind::New, Kind::Out, Kind::Input, Kind::Step, Kind::RowStep, Kind::Dump];
+const KINDS: [Kind; 7] = [Kind::New, Kind::NewTable, Kind::Out, Kind::Input, Kind::Step, Kind::RowStep, Kind::Dump];
 
 /// The calls as bytes.
 fn write(parts: &[Part]) -> Vec<u8> {
     let mut bytes = Vec::new();
     for part in parts {
-        bytes.push(NEW_PART);
+        bytes.extend_from_slice(&[NEW_PART, part.block.len() as u8]);
         bytes.extend_from_slice(&part.block);
         bytes.extend_from_slice(&part.video);
         for call in &part.calls {
             let kind = KINDS.iter().position(|kind| *kind == call.kind).expect("a kind of call");
             bytes.extend_from_slice(&[CALL, kind as u8, call.value]);
             bytes.extend_from_slice(&call.port.to_le_bytes());
-            for length in [call.state_len, call.video_len, call.pixels_len] {
+            for length in [part.lent(call), call.video_len, call.pixels_len] {
                 bytes.extend_from_slice(&(length as u32).to_le_bytes());
             }
         }
@@ -135,16 +143,18 @@ struct Ours {
 
 impl Side for Ours {
     fn load(&mut self, block: &[u8], video: &[u8]) {
-        self.block[..BLOCK_SIZE].copy_from_slice(block);
+        self.block[..block.len()].copy_from_slice(block);
         self.video[..VIDEO_SIZE].copy_from_slice(video);
     }
     fn video_at(&self) -> *const u8 {
         self.video.as_ptr()
     }
     fn call(&mut self, call: &Call, pixels: &mut [u8]) {
-        let (block, video) = (&mut self.block[..call.state_len], &mut self.video[..call.video_len]);
+        let size = call.state_len.expect("a length that was written");
+        let (block, video) = (&mut self.block[..size], &mut self.video[..call.video_len]);
         match call.kind {
             Kind::New => face::vdp_new(block),
+            Kind::NewTable => face::vdp_new_table(block, call.value),
             Kind::Out => face::vdp_out(block, video, call.port, call.value),
             Kind::Input => face::vdp_input(block, video, call.port),
             Kind::Step => face::vdp_step(block, video, pixels, call.value),
@@ -226,15 +236,16 @@ fn run(side: &mut dyn Side, bytes: &[u8]) {
     while at < bytes.len() {
         let record = &bytes[at + 1..];
         if bytes[at] == NEW_PART {
-            side.load(&record[..BLOCK_SIZE], &record[BLOCK_SIZE..BLOCK_SIZE + VIDEO_SIZE]);
-            at += 1 + BLOCK_SIZE + VIDEO_SIZE;
+            let (block, video) = record[1..].split_at(record[0] as usize);
+            side.load(block, &video[..VIDEO_SIZE]);
+            at += 2 + block.len() + VIDEO_SIZE;
             continue;
         }
         let call = Call {
             kind: KINDS[record[0] as usize],
             value: record[1],
             port: u16::from_le_bytes([record[2], record[3]]),
-            state_len: word(at + 5),
+            state_len: Some(word(at + 5)),
             video_len: word(at + 9),
             pixels_len: word(at + 13),
             poke: None,
@@ -264,10 +275,11 @@ fn main() {
                 for call in &part.calls {
                     let mut block = part.block.clone();
                     let mut video = part.video.clone();
-                    block.resize(call.state_len, 0);
+                    block.resize(part.lent(call), 0);
                     video.resize(call.video_len, 0);
                     println!("{}", turns::of_call(call, &mut block, &mut video));
-                    part.block[..call.state_len.min(BLOCK_SIZE)].copy_from_slice(&block[..call.state_len.min(BLOCK_SIZE)]);
+                    let kept = block.len().min(part.block.len());
+                    part.block[..kept].copy_from_slice(&block[..kept]);
                     part.video[..call.video_len.min(VIDEO_SIZE)].copy_from_slice(&video[..call.video_len.min(VIDEO_SIZE)]);
                 }
             }

@@ -110,9 +110,7 @@ impl Engine for Rust {
         self.frame.clone()
     }
     fn state(&self) -> Vec<u8> {
-        let mut block = vec![0; BLOCK_SIZE];
-        gears::read(&self.vdp, &mut block);
-        block
+        gears::read(&self.vdp, BLOCK_SIZE)
     }
 }
 

@@ -1,7 +1,7 @@
 //! What is drawn: a device and its video memory, made from a seed. Tiles of which one in four is empty, names with all flags, scroll 5, and a
 //! sprite list as asked for; all else is the same for every list.
 
-use rules::model::{Device, BLOCK_SIZE, VIDEO_SIZE};
+use rules::model::{Device, Table, BLOCK_SIZE, VIDEO_SIZE};
 use rules::random::Random;
 
 /// Steps of a pass.
@@ -25,7 +25,8 @@ pub enum List {
 /// The state block and the video memory.
 pub fn make(list: List, seed: u64) -> (Vec<u8>, Vec<u8>) {
     let mut random = Random::new(seed);
-    let mut device = Device::fresh();
+    // the Rust's table
+    let mut device = Device::made(Table::Steps261);
     // display on, sprites 16 high; sprites have patterns of their own
     device.registers = [0, 0x42, 0x0E, 0xFF, 0xFF, 0x7E, 0x04, 0, 5, 5, 1];
     device.vertical_scroll = 5;
@@ -52,8 +53,7 @@ pub fn make(list: List, seed: u64) -> (Vec<u8>, Vec<u8>) {
         video[SPRITES + 0x80 + 2 * n + 1] = random.byte();
     }
     assert!(is_as_said(list, &video), "the sprite list is not what its name says");
-    let block: [u8; BLOCK_SIZE] = device.encode();
-    (block.to_vec(), video)
+    (device.encode(BLOCK_SIZE), video)
 }
 
 /// Whether the list is as long as it should be, with the right number on each line of either area, counted by the rule.

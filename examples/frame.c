@@ -130,7 +130,7 @@ static void draw_a_frame(void)
         out(VDP_PORT_DATA, (uint8_t)(48 + 16 * n));
         out(VDP_PORT_DATA, 2);
     }
-    for (unsigned n = 0; n < VDP_PASS_STEPS; n++) {
+    for (unsigned n = 0; n < VDP_OLD_PASS_STEPS; n++) {
         uint32_t answer = step();
         refused += vdp_refusal(answer) != VDP_OK;
         ends += vdp_report(answer) == VDP_SCREEN_DONE;
@@ -157,7 +157,7 @@ static void authors_question(void)
     framed_tile(1, 3, 3);
     set_colour(3, 15, 0, 0);
     memset(frame, 0, sizeof frame);
-    for (unsigned n = 0; n < VDP_PASS_STEPS; n++) {
+    for (unsigned n = 0; n < VDP_OLD_PASS_STEPS; n++) {
         step();
         uint32_t answer = vdp_input(state, sizeof state, vram, sizeof vram, VDP_PORT_LINE);
         if (vdp_refusal(answer) == VDP_OK && vdp_byte(answer) == 90) {
@@ -175,12 +175,46 @@ static void authors_question(void)
     check(old_rows == 67 && new_rows == 77, "rows 0 to 66 are old, rows 67 to 143 are new");
 }
 
+/* The lines that the counter reads in a pass of this many steps, from line 0 on: are they those of the table? */
+static int pass_is(unsigned steps, unsigned last_before_the_jump)
+{
+    unsigned expected = 0, right = 1;
+
+    for (unsigned n = 0; n < steps; n++) {
+        uint32_t answer = vdp_input(state, sizeof state, vram, sizeof vram, VDP_PORT_LINE);
+        right &= vdp_refusal(answer) == VDP_OK && vdp_byte(answer) == expected;
+        expected = n == last_before_the_jump ? 0xD5 : expected + 1;
+        step();
+    }
+    return right && vdp_byte(vdp_input(state, sizeof state, vram, sizeof vram, VDP_PORT_LINE)) == 0;
+}
+
+/* Both tables, and a block of the first version beside one of the second. */
+static void tables(void)
+{
+    uint8_t old[VDP_OLD_STATE_SIZE], kept[VDP_STATE_SIZE];
+
+    check(vdp_new_table(state, sizeof state, VDP_OLD_TABLE) == VDP_OK && pass_is(VDP_OLD_PASS_STEPS, 0xD9),
+          "table 0: 00 to D9, D5 to FF, 261 steps");
+    check(vdp_new_table(state, sizeof state, VDP_CHART_TABLE) == VDP_OK && pass_is(VDP_CHART_PASS_STEPS, 0xDA),
+          "table 1: 00 to DA, D5 to FF, 262 steps");
+    check(state[VDP_AT_TABLE] == VDP_CHART_TABLE && state[VDP_AT_MARK + 1] == 0x54, "and the block keeps its version and its table");
+    check(vdp_new_table(old, sizeof old, VDP_OLD_TABLE) == VDP_OK && old[VDP_AT_MARK + 1] == 0x53, "a block of the first version");
+    check(vdp_row_step(old, sizeof old, vram, sizeof vram, frame, sizeof frame, VDP_VISIBLE) == VDP_OK && old[VDP_AT_MARK + 1] == 0x53
+              && old[VDP_AT_COUNTER] == 1,
+          "steps on in its own version");
+    memcpy(kept, old, sizeof old);
+    check(vdp_new_table(old, sizeof old, VDP_CHART_TABLE) == VDP_REFUSED_BLOCK && memcmp(kept, old, sizeof old) == 0,
+          "table 1 in it is refused (10), and it stays");
+    check(vdp_new_table(state, sizeof state, 2) == VDP_REFUSED_BLOCK, "table 2 is refused (10)");
+}
+
 /* What is refused leaves all as it was. */
 static void refusals(void)
 {
     uint8_t kept[VDP_STATE_SIZE];
 
-    check(vdp_new(state, sizeof state - 1) == VDP_REFUSED_BLOCK, "a block that is too short is refused (10)");
+    check(vdp_new(state, sizeof state - 2) == VDP_REFUSED_BLOCK, "a block that is too short is refused (10)");
     vdp_new(state, sizeof state);
     memcpy(kept, state, sizeof state);
     check(vdp_step(state, sizeof state, vram, sizeof vram, frame, sizeof frame, 2) == VDP_REFUSED_AREA, "area 2 is refused (11)");
@@ -214,6 +248,7 @@ int main(int count, char **words)
     if (count > 1)
         check(write_picture(words[1]), "the frame is written as a picture");
     authors_question();
+    tables();
     refusals();
     printf("frame: %s\n", mistakes ? "mistakes were found" : "all as it should be");
     return mistakes ? 1 : 0;

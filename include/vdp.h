@@ -1,7 +1,7 @@
 /* vdp.h: the C face of libvdp, the video chip of the handheld.
  *
  * The library keeps nothing of its own. The caller owns and lends
- *   - the state block: 219 bytes, the whole device but its video memory (layout below);
+ *   - the state block: 220 bytes, or 219 of the first version: the whole device but its video memory (layout below);
  *   - the video memory: exactly 16,384 bytes;
  *   - a frame, a row or a tile sheet that a call draws into; the codes of a tile.
  * A lent buffer is a pointer and a length in bytes. The buffers of one call must not overlap, and each must be
@@ -40,7 +40,7 @@ extern "C" {
 
 /* The number of this face, 65536 * major + 256 * minor + small; vdp_version() gives that of the library at hand. Major goes
  * up where a program that was right may have to change, minor where calls are added, small where neither is so. */
-#define VDP_VERSION_MAJOR 2
+#define VDP_VERSION_MAJOR 3
 #define VDP_VERSION_MINOR 0
 #define VDP_VERSION_SMALL 0
 #define VDP_VERSION (65536 * VDP_VERSION_MAJOR + 256 * VDP_VERSION_MINOR + VDP_VERSION_SMALL)
@@ -49,7 +49,8 @@ extern "C" {
 #define VDP_STACK_NEED 4096
 
 /* Sizes in bytes. A row may be longer (the bytes past its size never change); all others are exact. */
-#define VDP_STATE_SIZE           219
+#define VDP_STATE_SIZE           220    /* a state block of the second version */
+#define VDP_OLD_STATE_SIZE       219    /* of the first, which holds a device of VDP_OLD_TABLE alone */
 #define VDP_VRAM_SIZE            16384
 #define VDP_VISIBLE_FRAME_SIZE   92160  /* 160 x 144 pixels of 4 bytes */
 #define VDP_EFFECTIVE_FRAME_SIZE 229376 /* 256 x 224 pixels of 4 bytes */
@@ -69,8 +70,14 @@ extern "C" {
 /* Tiles in video memory, 32 bytes each. */
 #define VDP_TILES 512
 
-/* Steps from one line 0 to the next. */
-#define VDP_PASS_STEPS 261
+/* Line tables, by which the counter goes: 00 to D9 and then D5 to FF, or, as the counter chart for 192 lines has it, 00 to DA and then D5 to FF. A
+ * device keeps the table that it is made with. */
+#define VDP_OLD_TABLE   0
+#define VDP_CHART_TABLE 1
+
+/* Steps from one line 0 to the next, by either. */
+#define VDP_OLD_PASS_STEPS   261
+#define VDP_CHART_PASS_STEPS 262
 
 /* Areas. */
 #define VDP_VISIBLE   0 /* the handheld's 160 x 144 window: row r is drawn by the step that sets the counter to r + 24 */
@@ -104,9 +111,10 @@ extern "C" {
 #define VDP_SCREEN_DONE            1 /* the screen's end, with the display on (register 1, bit 6) */
 #define VDP_SCREEN_DONE_NO_REFRESH 2 /* the screen's end, with the display off */
 
-/* The state block, by offset. A block is malformed (refusal 10) if its length or its mark is another, a flag is
- * above 1, chosen is above 2, or a latched byte is not 0 while its flag is 0. */
-#define VDP_AT_MARK            0  /* two bytes: 56 53 (hex) */
+/* The state block, by offset. Its length tells its version: 219 bytes are the first, which reads as VDP_OLD_TABLE, and 220 the second. A call
+ * writes a block back in the version that it was given. A block is malformed (refusal 10) if its length is another, its mark is not that of its
+ * length, a flag or the table is above 1, chosen is above 2, or a latched byte is not 0 while its flag is 0. */
+#define VDP_AT_MARK            0  /* two bytes (hex): 56 53 in the first version, 56 54 in the second */
 #define VDP_AT_STATUS          2  /* bit 7 screen end, bit 6 ninth sprite, bit 5 collision */
 #define VDP_AT_REGISTERS       3  /* 11 bytes, registers 0 to 10 */
 #define VDP_AT_COUNTER         14 /* the line counter */
@@ -123,8 +131,13 @@ extern "C" {
 #define VDP_AT_DIRTY           26 /* flag: the cached colours are to be rebuilt before the next row */
 #define VDP_AT_PALETTE         27 /* 64 bytes, two a colour */
 #define VDP_AT_COLOURS         91 /* 128 bytes, 32 cached colours of red, green, blue, 255 */
+#define VDP_AT_TABLE           219 /* the line table; the second version alone has it */
 
-/* Makes the block a fresh device. Refusal: 10 where the length is not VDP_STATE_SIZE (what it held does not matter). */
+/* Makes the block a fresh device that goes by this table: VDP_OLD_TABLE into VDP_STATE_SIZE or VDP_OLD_STATE_SIZE bytes, VDP_CHART_TABLE into
+ * VDP_STATE_SIZE. Refusal: 10 for anything else (what the block held does not matter). No other call changes a block's version or its table. */
+uint32_t vdp_new_table(uint8_t *state, size_t state_len, uint8_t table);
+
+/* The same with no table named: VDP_OLD_TABLE. */
 uint32_t vdp_new(uint8_t *state, size_t state_len);
 
 /* Writes a byte to a port. Refusals, in this order: 10, 8, 1, 3, 4, 7, 6. */

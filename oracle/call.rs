@@ -1,6 +1,6 @@
 //! A call on the device with all that it is given.
 
-use crate::model::{Area, BLOCK_SIZE, SHEET_SIZE, VIDEO_SIZE};
+use crate::model::{Area, SHEET_SIZE, VIDEO_SIZE};
 
 /// A lent part may be longer than it need be by this much.
 pub const EXTRA: usize = 2048;
@@ -11,6 +11,7 @@ pub const VERY_LONG: usize = 1_000_003;
 #[derive(Clone, Copy, PartialEq, Debug)]
 pub enum Kind {
     New,
+    NewTable,
     Out,
     Input,
     Step,
@@ -23,9 +24,10 @@ pub enum Kind {
 pub struct Call {
     pub kind: Kind,
     pub port: u16,
-    /// The byte to write, or the area.
+    /// The byte to write, the area or the table.
     pub value: u8,
-    pub state_len: usize,
+    /// The length of the state block; none is that of the block that stands there.
+    pub state_len: Option<usize>,
     pub video_len: usize,
     /// The length of the frame, row or sheet.
     pub pixels_len: usize,
@@ -36,7 +38,7 @@ pub struct Call {
 impl Call {
     /// A call with right lengths, and no pixels.
     pub fn plain(kind: Kind, port: u16, value: u8) -> Call {
-        Call { kind, port, value, state_len: BLOCK_SIZE, video_len: VIDEO_SIZE, pixels_len: 0, poke: None }
+        Call { kind, port, value, state_len: None, video_len: VIDEO_SIZE, pixels_len: 0, poke: None }
     }
     pub fn out(port: u16, value: u8) -> Call {
         Call::plain(Kind::Out, port, value)
@@ -57,6 +59,7 @@ impl Call {
     pub fn name(&self) -> &'static str {
         match (self.kind, self.value) {
             (Kind::New, _) => "new",
+            (Kind::NewTable, _) => "new with a table",
             (Kind::Out, _) => "port writes",
             (Kind::Input, _) => "port reads",
             (Kind::Step, 0) => "visible steps",

@@ -2,7 +2,7 @@
 //!
 //!   compare CALLS SEED [OURS]    random sessions from fresh devices, and states made by hand
 //!   compare rows SEED [OURS]     rows made to meet every rule of the picture, through the row step
-//!   compare refusals SEED [OURS] every length near a right one, every area, every way to damage a block
+//!   compare refusals SEED [OURS] every length near a right one, every area, every table, every way to damage a block
 //!   compare vectors COUNT SEED   writes the list of the Rust's answers that `replay` holds (see VECTORS.md)
 //!
 //! Our side is the linked library; with --model it is the model; with --tight it is the library, each buffer lent as memory of its
@@ -22,6 +22,7 @@ mod world;
 
 use rules::call::Call;
 use rules::random::Random;
+use rules::sessions::Shape;
 use std::collections::BTreeMap;
 use std::time::{Duration, Instant};
 use world::{Met, Ours, World};
@@ -35,7 +36,8 @@ pub struct Counts {
     /// By number, 0 where the call was accepted.
     refusals: [u64; 13],
     rows: [u64; 2],
-    departures: BTreeMap<&'static str, u64>,
+    /// Departures from the Rust, and what was met of tables and versions, by name.
+    met: BTreeMap<&'static str, u64>,
     told: Option<Instant>,
 }
 
@@ -48,8 +50,8 @@ impl Counts {
         if met.word >> 24 == 1 {
             self.rows[call.value as usize] += 1;
         }
-        if let Some(name) = met.departure {
-            *self.departures.entry(name).or_insert(0) += 1;
+        for name in met.departure.iter().chain(&met.tables) {
+            *self.met.entry(name).or_insert(0) += 1;
         }
     }
 
@@ -75,9 +77,12 @@ impl Counts {
         for (number, count) in self.refusals.iter().enumerate() {
             println!("{:>10}  answered {}", count, number);
         }
+        for name in world::TABLES {
+            println!("{:>10}  {}", self.met.get(name).unwrap_or(&0), name);
+        }
         println!("{:>10}  calls also beside the Rust", self.beside_rust);
         for name in world::DEPARTURES {
-            println!("{:>10}  departure: {}", self.departures.get(name).unwrap_or(&0), name);
+            println!("{:>10}  departure: {}", self.met.get(name).unwrap_or(&0), name);
         }
     }
 
@@ -89,8 +94,8 @@ impl Counts {
                 unmet.push(format!("answer {}", number));
             }
         }
-        for name in world::DEPARTURES {
-            if !self.departures.contains_key(name) {
+        for name in world::DEPARTURES.iter().chain(&world::TABLES) {
+            if !self.met.contains_key(name) {
                 unmet.push(name.to_string());
             }
         }
@@ -98,7 +103,7 @@ impl Counts {
     }
 }
 
-/// A run of this many calls or more must meet every refusal and every departure.
+/// A run of this many calls or more must meet every refusal, every departure, and all that there is of tables and versions.
 const LONG_RUN: u64 = 100_000;
 
 /// Random sessions; answers the number of differences (it stops at the first).
@@ -111,7 +116,8 @@ fn sessions(calls: u64, seed: u64, side: Ours) -> u64 {
         counts.progress(calls);
         let left = calls - counts.calls;
         difference = if random.chance(1, 800) {
-            fresh_session(&mut world, &mut counts, left.min(3000), random.word())
+            let shape = rules::sessions::any_shape(&mut random);
+            fresh_session(&mut world, &mut counts, left.min(3000), shape, random.word())
         } else {
             hand_session(&mut world, &mut counts, left, &mut random)
         };
@@ -135,9 +141,9 @@ fn sessions(calls: u64, seed: u64, side: Ours) -> u64 {
 /// Where a session began, the calls up to the one that differed, and how it differed.
 type Difference = (shrink::Start, Vec<Call>, String);
 
-/// A long session from a fresh device, all through its ports.
-fn fresh_session(world: &mut World, counts: &mut Counts, calls: u64, seed: u64) -> Option<Difference> {
-    let start = shrink::Start::fresh();
+/// A long session from a fresh device of this shape, all through its ports.
+fn fresh_session(world: &mut World, counts: &mut Counts, calls: u64, shape: Shape, seed: u64) -> Option<Difference> {
+    let start = shrink::Start::fresh(shape);
     world.start(&start.block, &start.video);
     let mut session = rules::sessions::Session::new(seed);
     let mut done = Vec::new();
@@ -154,7 +160,8 @@ fn fresh_session(world: &mut World, counts: &mut Counts, calls: u64, seed: u64) 
 
 /// A few calls from a state made by hand.
 fn hand_session(world: &mut World, counts: &mut Counts, left: u64, random: &mut Random) -> Option<Difference> {
-    let (block, video) = rules::sessions::made_by_hand(random);
+    let shape = rules::sessions::any_shape(random);
+    let (block, video) = rules::sessions::made_by_hand(random, shape);
     world.start(&block, &video);
     let mut done = Vec::new();
     for _ in 0..left.min(1 + random.below(6) as u64) {
@@ -165,7 +172,7 @@ fn hand_session(world: &mut World, counts: &mut Counts, left: u64, random: &mut 
         done.push(call.clone());
         match world.call(&call) {
             Ok(met) => counts.add(&call, &met),
-            Err(text) => return Some((shrink::Start { block: block.to_vec(), video }, done, text)),
+            Err(text) => return Some((shrink::Start { block, video }, done, text)),
         }
     }
     None

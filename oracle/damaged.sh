@@ -34,7 +34,10 @@ damage() {
     [ $status -eq 1 ] || failed=1
 }
 
-damage "the counter jumps at DB and not at DA" raster::Raster::advance 's/(icmp eq i8 %[ar][0-9]+), -38$/\1, -37/'
+damage "table 0: the counter jumps at DB and not at DA" raster::jump_line 's/store i8 -38,/store i8 -37,/'
+damage "table 1: the counter jumps at DC and not at DB" raster::jump_line 's/store i8 -37,/store i8 -36,/'
+damage "the second version's mark is 56 55 and not 56 54" block::mark_of 's/store i8 84,/store i8 85,/'
+damage "a block of the first version has table 1 and not 0" block::table_byte 's/store i8 0,/store i8 1,/'
 damage "the list of sprites ends at D1 and not at D0" sprites::next_on 's/(icmp eq i8 %[ar][0-9]+), -48$/\1, -47/'
 damage "status bit 7 is set at C2 and not at C1" step::ended 's/(icmp eq i8 %[ar][0-9]+), -63$/\1, -62/'
 damage "the screen's end is reported at C2 and not at C1" step::report_of 's/(icmp ne i8 %[ar][0-9]+), -63$/\1, -62/'

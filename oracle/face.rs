@@ -3,6 +3,7 @@
 mod raw {
     extern "C" {
         pub fn vdp_new(state: *mut u8, state_len: usize) -> u32;
+        pub fn vdp_new_table(state: *mut u8, state_len: usize, table: u8) -> u32;
         pub fn vdp_out(state: *mut u8, state_len: usize, vram: *mut u8, vram_len: usize, port: u16, value: u8) -> u32;
         pub fn vdp_input(state: *mut u8, state_len: usize, vram: *const u8, vram_len: usize, port: u16) -> u32;
         pub fn vdp_step(
@@ -21,6 +22,10 @@ mod raw {
 
 pub fn vdp_new(state: &mut [u8]) -> u32 {
     unsafe { raw::vdp_new(state.as_mut_ptr(), state.len()) }
+}
+
+pub fn vdp_new_table(state: &mut [u8], table: u8) -> u32 {
+    unsafe { raw::vdp_new_table(state.as_mut_ptr(), state.len(), table) }
 }
 
 pub fn vdp_out(state: &mut [u8], vram: &mut [u8], port: u16, value: u8) -> u32 {

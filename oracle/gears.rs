@@ -33,11 +33,12 @@ pub fn load(vdp: &Vdp, block: &[u8], video: &[u8]) {
     to.vram.copy_from_slice(video);
 }
 
-/// Writes the state of the device as a block.
-pub fn read(vdp: &Vdp, block: &mut [u8]) {
+/// The state of the device as a block of 219 or of 220 bytes; the Rust's table is 0.
+pub fn read(vdp: &Vdp, size: usize) -> Vec<u8> {
     let from = vdp.state.borrow();
+    let mut block = vec![0; size];
     block[0] = 0x56;
-    block[1] = 0x53;
+    block[1] = if size == 219 { 0x53 } else { 0x54 };
     block[2] = from.status;
     block[3..14].copy_from_slice(&from.reg);
     block[14] = from.v_counter;
@@ -60,6 +61,7 @@ pub fn read(vdp: &Vdp, block: &mut [u8]) {
     for (i, colour) in from.color_cache.iter().enumerate() {
         block[91 + 4 * i..95 + 4 * i].copy_from_slice(&colour.to_le_bytes());
     }
+    block
 }
 
 /// Whether the device's video memory holds these bytes.

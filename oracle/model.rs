@@ -2,7 +2,9 @@
 //! pixel, with no thought of speed. Total: every call ends, for any bytes and lengths. It says what the library must do
 //! where the published Rust panics or departs; where they agree, the comparison holds all three beside each other.
 
-pub const BLOCK_SIZE: usize = 219;
+/// Bytes of a state block in its first version, which knows table 0 alone, and in its second (R7.5).
+pub const OLD_SIZE: usize = 219;
+pub const BLOCK_SIZE: usize = 220;
 pub const VIDEO_SIZE: usize = 16_384;
 pub const SHEET_SIZE: usize = 131_072;
 
@@ -60,6 +62,33 @@ impl Area {
     }
 }
 
+/// The line tables: 0 has 261 steps to a pass, 1 has 262.
+#[derive(Clone, Copy, PartialEq, Debug)]
+pub enum Table {
+    Steps261,
+    Steps262,
+}
+
+/// The table of a device that is made with none named.
+pub const DEFAULT_TABLE: Table = Table::Steps261;
+
+impl Table {
+    pub fn from_number(n: u8) -> Option<Table> {
+        match n {
+            0 => Some(Table::Steps261),
+            1 => Some(Table::Steps262),
+            _ => None,
+        }
+    }
+    /// The value that the counter does not take the first time that it would since it was 0 (R4.1).
+    fn jump_line(self) -> u8 {
+        match self {
+            Table::Steps261 => 0xDA,
+            Table::Steps262 => 0xDB,
+        }
+    }
+}
+
 #[derive(Clone, Copy, PartialEq, Debug)]
 pub enum Chosen {
     Nothing,
@@ -70,6 +99,7 @@ pub enum Chosen {
 /// The device but its video memory.
 #[derive(Clone, Debug)]
 pub struct Device {
+    pub table: Table,
     pub status: u8,
     pub registers: [u8; 11],
     pub counter: u8,
@@ -110,8 +140,10 @@ pub struct Notes {
 }
 
 impl Device {
-    pub fn fresh() -> Device {
+    /// A fresh device of this table.
+    pub fn made(table: Table) -> Device {
         Device {
+            table,
             status: 0,
             registers: [0, 0, 0xFF, 0xFF, 0xFF, 0xFF, 0xFF, 0, 0, 0, 1],
             counter: 0,
@@ -259,7 +291,7 @@ impl Device {
             self.jumped = false;
             self.line_count = if self.registers[10] == 0 { 0 } else { self.registers[10] - 1 };
         }
-        if self.counter == 0xDA && !self.jumped {
+        if self.counter == self.table.jump_line() && !self.jumped {
             self.jumped = true;
             self.counter = 0xD5;
         }
@@ -487,11 +519,11 @@ impl Device {
         0
     }
 
-    /// The state block of this device (R7.5).
-    pub fn encode(&self) -> [u8; BLOCK_SIZE] {
-        let mut block = [0; BLOCK_SIZE];
+    /// The state block of this device, in the version that has this size (R7.5).
+    pub fn encode(&self, size: usize) -> Vec<u8> {
+        let mut block = vec![0; size];
         block[0] = 0x56;
-        block[1] = 0x53;
+        block[1] = if size == OLD_SIZE { 0x53 } else { 0x54 };
         block[2] = self.status;
         block[3..14].copy_from_slice(&self.registers);
         block[14] = self.counter;
@@ -515,6 +547,9 @@ impl Device {
         for i in 0..32 {
             block[91 + 4 * i..95 + 4 * i].copy_from_slice(&self.cache[i]);
         }
+        if size == BLOCK_SIZE {
+            block[219] = self.table as u8;
+        }
         block
     }
 
@@ -523,7 +558,7 @@ impl Device {
         if !well_formed(block) {
             return None;
         }
-        let mut device = Device::fresh();
+        let mut device = Device::made(table_in(block)?);
         device.status = block[2];
         device.registers.copy_from_slice(&block[3..14]);
         device.counter = block[14];
@@ -585,10 +620,19 @@ pub fn colours(palette: &[u8; 64]) -> [[u8; 4]; 32] {
     all
 }
 
+/// The table of a block, by its length, mark and last byte; none where they do not fit each other.
+fn table_in(block: &[u8]) -> Option<Table> {
+    match (block.len(), block.get(1)) {
+        (OLD_SIZE, Some(0x53)) => Some(Table::Steps261),
+        (BLOCK_SIZE, Some(0x54)) => Table::from_number(block[219]),
+        _ => None,
+    }
+}
+
+/// R7.6.
 pub fn well_formed(block: &[u8]) -> bool {
-    block.len() == BLOCK_SIZE
+    table_in(block).is_some()
         && block[0] == 0x56
-        && block[1] == 0x53
         && block[15] <= 1
         && block[20] <= 2
         && block[21] <= 1
@@ -620,13 +664,20 @@ fn step_word(answer: Result<Stepped, u32>) -> u32 {
     }
 }
 
-// The calls of the C face, over the block.
+// The calls of the C face, over the block; each writes a block back in the version that it was given.
 
 pub fn vdp_new(state: &mut [u8]) -> u32 {
-    if state.len() != BLOCK_SIZE {
-        return 10;
-    }
-    state.copy_from_slice(&Device::fresh().encode());
+    vdp_new_table(state, DEFAULT_TABLE as u8)
+}
+
+pub fn vdp_new_table(state: &mut [u8], table: u8) -> u32 {
+    let size = state.len();
+    let table = match (table, size) {
+        (0, OLD_SIZE) | (0, BLOCK_SIZE) => Table::Steps261,
+        (1, BLOCK_SIZE) => Table::Steps262,
+        _ => return 10,
+    };
+    state.copy_from_slice(&Device::made(table).encode(size));
     0
 }
 
@@ -636,7 +687,7 @@ pub fn vdp_out(state: &mut [u8], video: &mut [u8], port: u16, value: u8) -> u32 
         Some(device) => device,
     };
     let refusal = device.write_port(video, port, value);
-    state.copy_from_slice(&device.encode());
+    state.copy_from_slice(&device.encode(state.len()));
     refusal
 }
 
@@ -646,7 +697,7 @@ pub fn vdp_input(state: &mut [u8], video: &[u8], port: u16) -> u32 {
         Some(device) => device,
     };
     let (refusal, byte) = device.read_port(video, port);
-    state.copy_from_slice(&device.encode());
+    state.copy_from_slice(&device.encode(state.len()));
     refusal | (byte as u32) << 8
 }
 
@@ -661,7 +712,7 @@ fn stepped(state: &mut [u8], area: u8, step: impl FnOnce(&mut Device, Area) -> R
         Some(area) => area,
     };
     let answer = step(&mut device, area);
-    state.copy_from_slice(&device.encode());
+    state.copy_from_slice(&device.encode(state.len()));
     step_word(answer)
 }
 

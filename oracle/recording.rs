@@ -1,6 +1,6 @@
 //! What the programs `trace` and `snapshot` write for an input (R7.8 to R7.13), by the model.
 
-use crate::model::{Area, Device, Notes, VIDEO_SIZE};
+use crate::model::{Area, Device, Notes, Table, VIDEO_SIZE};
 
 /// The longest input that the programs read.
 pub const LIMIT: usize = 65_535;
@@ -34,8 +34,8 @@ struct Run {
 }
 
 impl Run {
-    fn new() -> Run {
-        Run { device: Device::fresh(), video: vec![0; VIDEO_SIZE], row: [0; 1024], text: String::new(), records: 0 }
+    fn new(table: Table) -> Run {
+        Run { device: Device::made(table), video: vec![0; VIDEO_SIZE], row: [0; 1024], text: String::new(), records: 0 }
     }
 
     /// One record; a visible step draws in the frame where there is one.
@@ -80,12 +80,12 @@ impl Run {
     }
 }
 
-/// The text that `trace` prints.
-pub fn trace_text(input: &[u8]) -> Vec<u8> {
+/// The text that `trace` prints, on a device of this table.
+pub fn trace_text(table: Table, input: &[u8]) -> Vec<u8> {
     if input.len() > LIMIT {
         return b"long\n".to_vec();
     }
-    let mut run = Run::new();
+    let mut run = Run::new(table);
     let last = match run.all(input, None) {
         Some(at) => format!("bad {}\n", at),
         None => format!("end {}\n", run.records),
@@ -95,12 +95,12 @@ pub fn trace_text(input: &[u8]) -> Vec<u8> {
 }
 
 /// The bytes that `snapshot` writes: a PPM picture of the visible frame, or the one line of a bad or long input.
-pub fn snapshot_bytes(input: &[u8]) -> Vec<u8> {
+pub fn snapshot_bytes(table: Table, input: &[u8]) -> Vec<u8> {
     if input.len() > LIMIT {
         return b"long\n".to_vec();
     }
     let mut frame = vec![0; Area::Visible.frame_size()];
-    if let Some(at) = Run::new().all(input, Some(&mut frame)) {
+    if let Some(at) = Run::new(table).all(input, Some(&mut frame)) {
         return format!("bad {}\n", at).into_bytes();
     }
     let mut bytes = b"P6\n160 144\n255\n".to_vec();

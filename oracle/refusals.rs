@@ -1,17 +1,20 @@
-//! Every length near a right one, every area, every value of each byte that a block can be malformed by, and all of these at once in
-//! each order: refused or accepted as the model says, with every byte in place.
+//! Every length near a right one, every area, every table, every value of each byte that a block can be malformed by, and all of these at once
+//! in each order, on blocks of both versions and both tables: refused or accepted as the model says, with every byte in place.
 
 use crate::shrink::{self, Start};
 use crate::world::{Ours, World};
 use crate::Counts;
 use rules::call::{Call, Kind, VERY_LONG};
-use rules::model::{Area, BLOCK_SIZE, SHEET_SIZE, VIDEO_SIZE};
+use rules::model::{Area, BLOCK_SIZE, OLD_SIZE, SHEET_SIZE, VIDEO_SIZE};
 use rules::random::Random;
-use rules::sessions::made_by_hand;
+use rules::sessions::{made_by_hand, SHAPES};
+
+/// Lengths of the state below this are tried.
+const STATE_LENGTHS: usize = 280;
 
 /// One call of each kind, with right lengths.
 fn right_calls() -> Vec<Call> {
-    let mut calls = vec![Call::plain(Kind::New, 0, 0), Call::dump()];
+    let mut calls = vec![Call::plain(Kind::New, 0, 0), Call::plain(Kind::NewTable, 0, 0), Call::plain(Kind::NewTable, 0, 1), Call::dump()];
     for port in [0x7E, 0x7F, 0xBE, 0xBF, 0x00] {
         calls.push(Call::input(port));
         calls.push(Call::out(port, 0x8B));
@@ -28,15 +31,21 @@ fn spoiled_calls() -> Vec<Call> {
     let mut calls = Vec::new();
     for right in right_calls() {
         let steps = matches!(right.kind, Kind::Step | Kind::RowStep);
-        for state_len in 0..BLOCK_SIZE + 60 {
-            calls.push(Call { state_len, ..right.clone() });
+        for state_len in 0..STATE_LENGTHS {
+            calls.push(Call { state_len: Some(state_len), ..right.clone() });
         }
         for video_len in (0..40).chain(VIDEO_SIZE - 40..VIDEO_SIZE + 40) {
             calls.push(Call { video_len, ..right.clone() });
         }
-        for at in [0, 1, 15, 20, 21, 22, 23, 24, 26] {
+        // in the length of the block, and for what tells the version and the table in that of either version
+        for at in [0, 1, 15, 20, 21, 22, 23, 24, 26, 219] {
             for byte in 0..=255 {
                 calls.push(Call { poke: Some((at, byte)), ..right.clone() });
+                if at == 1 || at == 219 {
+                    for size in [OLD_SIZE, BLOCK_SIZE] {
+                        calls.push(Call { state_len: Some(size), poke: Some((at, byte)), ..right.clone() });
+                    }
+                }
             }
         }
         let lengths = match right.kind {
@@ -64,7 +73,7 @@ fn spoiled_calls() -> Vec<Call> {
             }
         }
         // several at once: the order of the refusals
-        for several in 0..32 {
+        for several in 0..64 {
             let mut call = right.clone();
             if several & 1 != 0 {
                 call.poke = Some((15, 2));
@@ -82,36 +91,51 @@ fn spoiled_calls() -> Vec<Call> {
             if several & 16 != 0 && call.kind == Kind::Step {
                 call.pixels_len = VERY_LONG;
             }
+            if several & 32 != 0 {
+                // of a block of the first version this is no byte
+                call.poke = Some((219, 2));
+            }
             calls.push(call);
+        }
+    }
+    for table in 0..=255 {
+        for state_len in 0..STATE_LENGTHS {
+            calls.push(Call { state_len: Some(state_len), ..Call::plain(Kind::NewTable, 0, table) });
         }
     }
     calls
 }
 
-/// Makes each call from a state of its own; answers the number of differences (it stops at the first).
+/// Makes each call from a state made by hand of each shape; answers the number of differences (it stops at the first).
 pub fn run(seed: u64, side: Ours) -> u64 {
     let mut random = Random::new(seed);
     let mut world = World::new(side, seed);
     let mut counts = Counts::default();
     let calls = spoiled_calls();
-    let (mut block, mut video) = made_by_hand(&mut random);
-    for (n, call) in calls.iter().enumerate() {
-        if n % 16 == 0 {
-            let made = made_by_hand(&mut random);
-            block = made.0;
-            video = made.1;
-        }
-        world.start(&block, &video);
-        match world.call(call) {
-            Ok(met) => counts.add(call, &met),
-            Err(text) => {
-                println!("difference: {}", text);
-                shrink::report(side, Start { block: block.to_vec(), video }, vec![call.clone()]);
-                println!("compare: refusals, seed {}, 1 difference", seed);
-                return 1;
+    for some in calls.chunks(64) {
+        for shape in SHAPES {
+            let (block, video) = made_by_hand(&mut random, shape);
+            let mut moved = true;
+            for call in some {
+                if moved {
+                    world.start(&block, &video);
+                }
+                match world.call(call) {
+                    Ok(met) => {
+                        counts.add(call, &met);
+                        // a refusal from 8 on has left all as it was
+                        moved = met.word % 256 < 8 || call.poke.is_some();
+                    }
+                    Err(text) => {
+                        println!("difference: {}", text);
+                        shrink::report(side, Start { block, video }, vec![call.clone()]);
+                        println!("compare: refusals, seed {}, 1 difference", seed);
+                        return 1;
+                    }
+                }
+                counts.progress((SHAPES.len() * calls.len()) as u64);
             }
         }
-        counts.progress(calls.len() as u64);
     }
     counts.print();
     println!("compare: {} calls with lengths, areas and blocks of every kind, seed {}, 0 differences", counts.calls, seed);

@@ -1,8 +1,10 @@
 //! Rows made to meet every rule of the picture: each X with and without the early clock, both heights, both pattern bases,
-//! every scroll modulo 8, with sprites that overlap and priority tiles under them.
+//! every scroll modulo 8, with sprites that overlap and priority tiles under them; each in one of the block's versions with table 0,
+//! and every fourth also with table 1.
 
-use rules::model::{self, Area, Device, BLOCK_SIZE, VIDEO_SIZE};
+use rules::model::{self, Area, Device, VIDEO_SIZE};
 use rules::random::Random;
+use rules::sessions::{Shape, SHAPES};
 use crate::shrink::{self, Start};
 use rules::call::Call;
 use crate::world::{Ours, World};
@@ -13,24 +15,28 @@ pub fn run(seed: u64, side: Ours) -> u64 {
     let mut random = Random::new(seed);
     let mut world = World::new(side, seed);
     let mut counts = Counts::default();
-    let total = 2 * 256 * 2 * 2 * 2 * 8;
+    let total = 2 * 256 * 2 * 2 * 2 * 8 / 4 * 5;
     for area in [Area::Visible, Area::Effective] {
         for x in 0..=255u8 {
-            for shape in 0..64 {
+            for shape in 0..64u8 {
                 let (early, tall, high, scroll) = (shape & 1, shape >> 1 & 1, shape >> 2 & 1, shape >> 3);
-                let (block, video) = scene(&mut random, area, x, [early, tall, high, scroll]);
-                world.start(&block, &video);
-                let call = Call::row_step(area, 0);
-                match world.call(&call) {
-                    Ok(met) => counts.add(&call, &met),
-                    Err(text) => {
-                        println!("difference: {}", text);
-                        shrink::report(side, Start { block: block.to_vec(), video }, vec![call]);
-                        println!("compare: rows, seed {}, 1 difference", seed);
-                        return 1;
+                let one = &SHAPES[random.below(2)..][..1];
+                let other = if x.wrapping_add(shape) % 4 == 0 { &SHAPES[2..] } else { &[] };
+                for kind in one.iter().chain(other) {
+                    let (block, video) = scene(&mut random, *kind, area, x, [early, tall, high, scroll]);
+                    world.start(&block, &video);
+                    let call = Call::row_step(area, 0);
+                    match world.call(&call) {
+                        Ok(met) => counts.add(&call, &met),
+                        Err(text) => {
+                            println!("difference: {}", text);
+                            shrink::report(side, Start { block, video }, vec![call]);
+                            println!("compare: rows, seed {}, 1 difference", seed);
+                            return 1;
+                        }
                     }
+                    counts.progress(total);
                 }
-                counts.progress(total);
             }
         }
     }
@@ -40,8 +46,8 @@ pub fn run(seed: u64, side: Ours) -> u64 {
 }
 
 /// A device about to draw a row with a first sprite at X and others that touch it.
-fn scene(random: &mut Random, area: Area, x: u8, [early, tall, high, scroll]: [u8; 4]) -> ([u8; BLOCK_SIZE], Vec<u8>) {
-    let mut device = Device::fresh();
+fn scene(random: &mut Random, (size, table): Shape, area: Area, x: u8, [early, tall, high, scroll]: [u8; 4]) -> (Vec<u8>, Vec<u8>) {
+    let mut device = Device::made(table);
     let line = match area {
         Area::Visible => 24 + random.below(144),
         Area::Effective => random.below(224),
@@ -73,18 +79,18 @@ fn scene(random: &mut Random, area: Area, x: u8, [early, tall, high, scroll]: [u
         video[names + 2 * entry + 1] = video[names + 2 * entry + 1] & 0x0F | priority & random.byte();
     }
     // the sprites: on the line from the top or the bottom on, a few pixels from the first, or anywhere
-    let table = (device.registers[5] & 0x7E) as usize * 128;
+    let sprites = (device.registers[5] & 0x7E) as usize * 128;
     let height = if tall == 1 { 16 } else { 8 };
     let on_line = 1 + random.below(10);
     for n in 0..64 {
         let down = if n < on_line { random.below(height) as u8 } else { height as u8 + 1 };
-        video[table + n] = line.wrapping_sub(1 + down);
+        video[sprites + n] = line.wrapping_sub(1 + down);
         let near = x.wrapping_add(random.below(17) as u8).wrapping_sub(8);
-        video[table + 128 + 2 * n] = match n {
+        video[sprites + 128 + 2 * n] = match n {
             0 => x,
             _ if random.chance(2, 3) => near,
             _ => random.byte(),
         };
     }
-    (device.encode(), video)
+    (device.encode(size), video)
 }

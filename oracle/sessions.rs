@@ -1,13 +1,14 @@
 //! What the comparison asks: states made by hand where the rules meet, and calls, right ones and spoiled ones.
 
-use crate::model::{self, Area, BLOCK_SIZE, SHEET_SIZE, VIDEO_SIZE};
+use crate::model::{self, Area, Table, BLOCK_SIZE, OLD_SIZE, SHEET_SIZE, VIDEO_SIZE};
 use crate::random::Random;
 use crate::call::{Call, Kind, EXTRA, VERY_LONG};
 use std::collections::VecDeque;
 
 /// Counters just before and at the places where a step does something else.
-const COUNTERS: [u8; 24] = [
-    0xFE, 0xFF, 0x00, 0x01, 0x16, 0x17, 0x18, 0x19, 0xA5, 0xA6, 0xA7, 0xA8, 0xBE, 0xBF, 0xC0, 0xC1, 0xC2, 0xD4, 0xD5, 0xD8, 0xD9, 0xDA, 0xDE, 0xDF,
+const COUNTERS: [u8; 26] = [
+    0xFE, 0xFF, 0x00, 0x01, 0x16, 0x17, 0x18, 0x19, 0xA5, 0xA6, 0xA7, 0xA8, 0xBE, 0xBF, 0xC0, 0xC1, 0xC2, 0xD4, 0xD5, 0xD8, 0xD9, 0xDA, 0xDB, 0xDC,
+    0xDE, 0xDF,
 ];
 /// X bytes at the edges of both areas, with and without the early clock.
 const EDGES: [u8; 8] = [0, 8, 40, 48, 56, 200, 208, 248];
@@ -43,9 +44,19 @@ fn any_register(random: &mut Random, number: usize) -> u8 {
     }
 }
 
-/// A block and video memory with any value in every field.
-pub fn made_by_hand(random: &mut Random) -> ([u8; BLOCK_SIZE], Vec<u8>) {
-    let mut device = model::Device::fresh();
+/// The size of a block and the table of its device.
+pub type Shape = (usize, Table);
+
+/// What a block can be: its first version, or its second with either table.
+pub const SHAPES: [Shape; 3] = [(OLD_SIZE, Table::Steps261), (BLOCK_SIZE, Table::Steps261), (BLOCK_SIZE, Table::Steps262)];
+
+pub fn any_shape(random: &mut Random) -> Shape {
+    SHAPES[random.below(SHAPES.len())]
+}
+
+/// A block of this shape and video memory with any value in every field.
+pub fn made_by_hand(random: &mut Random, (size, table): Shape) -> (Vec<u8>, Vec<u8>) {
+    let mut device = model::Device::made(table);
     device.status = if random.chance(1, 2) { 0 } else { random.byte() };
     for number in 0..11 {
         device.registers[number] = any_register(random, number);
@@ -82,7 +93,7 @@ pub fn made_by_hand(random: &mut Random) -> ([u8; BLOCK_SIZE], Vec<u8>) {
         }
     }
     let video = any_video(random, &device);
-    (device.encode(), video)
+    (device.encode(size), video)
 }
 
 /// Video memory for a device: tiles, names, and sprites about the line of the next step.
@@ -166,6 +177,29 @@ fn any_area(random: &mut Random) -> Area {
 
 /// A call to follow a state made by hand.
 pub fn any_call(random: &mut Random) -> Call {
+    if random.chance(1, 50) {
+        any_new(random)
+    } else {
+        usual_call(random)
+    }
+}
+
+/// A device made anew, with no table named or with any, in the length that stands there or in that of either version.
+fn any_new(random: &mut Random) -> Call {
+    let table = match random.below(8) {
+        0..=2 => 0,
+        3..=5 => 1,
+        6 => 2,
+        _ => random.byte(),
+    };
+    let kind = if random.chance(1, 4) { Kind::New } else { Kind::NewTable };
+    let state_len = [None, Some(OLD_SIZE), Some(BLOCK_SIZE)][random.below(3)];
+    Call { state_len, ..Call::plain(kind, 0, table) }
+}
+
+/// A port call, a step or a dump. (A session is made of these too, and the list of VECTORS.md of one session: which random numbers are
+/// taken for them stays as it is.)
+fn usual_call(random: &mut Random) -> Call {
     let high = if random.chance(1, 2) { 0 } else { (random.byte() as u16) << 8 };
     match random.below(100) {
         0..=23 => {
@@ -198,8 +232,7 @@ pub fn any_call(random: &mut Random) -> Call {
             };
             Call::input(high | port as u16)
         }
-        86..=98 => Call::dump(),
-        _ => Call::plain(Kind::New, 0, 0),
+        _ => Call::dump(),
     }
 }
 
@@ -207,7 +240,7 @@ pub fn any_call(random: &mut Random) -> Call {
 pub fn spoil(random: &mut Random, call: &mut Call) {
     loop {
         match random.below(5) {
-            0 => call.state_len = *[0, 1, 218, 220, random.below(280)].get(random.below(5)).unwrap_or(&0),
+            0 => call.state_len = [0, 1, 218, 219, 220, 221, random.below(280)].get(random.below(7)).copied(),
             1 => call.video_len = *[0, 1, 16383, 16385, random.below(16500)].get(random.below(5)).unwrap_or(&0),
             2 => {
                 let right = call.pixels_len;
@@ -232,9 +265,13 @@ pub fn spoil(random: &mut Random, call: &mut Call) {
                 let at = if random.chance(1, 8) {
                     random.below(BLOCK_SIZE)
                 } else {
-                    [0, 1, 15, 20, 21, 22, 23, 24, 26][random.below(9)]
+                    [0, 1, 15, 20, 21, 22, 23, 24, 26, 219][random.below(10)]
                 };
-                let byte = if random.chance(1, 2) { random.below(4) as u8 } else { random.byte() };
+                let byte = if random.chance(1, 2) {
+                    random.below(4) as u8 + if at == 1 { 0x52 } else { 0 }
+                } else {
+                    random.byte()
+                };
                 call.poke = Some((at, byte));
             }
         }
@@ -246,13 +283,15 @@ pub fn spoil(random: &mut Random, call: &mut Call) {
 
 /// The calls of a long session from a fresh device, made a few at a time.
 pub struct Session {
-    pub random: Random,
+    random: Random,
+    /// What devices are made anew by, apart from all else.
+    anew: Random,
     queue: VecDeque<Call>,
 }
 
 impl Session {
     pub fn new(seed: u64) -> Session {
-        Session { random: Random::new(seed), queue: VecDeque::new() }
+        Session { random: Random::new(seed), anew: Random::new(!seed), queue: VecDeque::new() }
     }
 
     /// The next call, given the state that it will meet.
@@ -346,7 +385,7 @@ impl Session {
             }
             16..=18 => {
                 for _ in 0..1 + self.random.below(6) {
-                    let call = any_call(&mut self.random);
+                    let call = usual_call(&mut self.random);
                     if matches!(call.kind, Kind::Out | Kind::Input) {
                         self.queue.push_back(call);
                     }
@@ -374,7 +413,7 @@ impl Session {
             32 => self.queue.push_back(Call::dump()),
             _ => {
                 if self.random.chance(1, 10) {
-                    self.queue.push_back(Call::plain(Kind::New, 0, 0));
+                    self.queue.push_back(any_new(&mut self.anew));
                 }
             }
         }

@@ -1,7 +1,8 @@
 //! From a session that differs to the smallest input that still does.
 
-use rules::model::{Device, BLOCK_SIZE, VIDEO_SIZE};
+use rules::model::{Device, Table, VIDEO_SIZE};
 use rules::call::{Call, Kind};
+use rules::sessions::Shape;
 use crate::world::{Ours, World};
 
 /// The state that a session starts from.
@@ -12,8 +13,9 @@ pub struct Start {
 }
 
 impl Start {
-    pub fn fresh() -> Start {
-        Start { block: Device::fresh().encode().to_vec(), video: vec![0; VIDEO_SIZE] }
+    /// A fresh device of this shape.
+    pub fn fresh((size, table): Shape) -> Start {
+        Start { block: Device::made(table).encode(size), video: vec![0; VIDEO_SIZE] }
     }
 }
 
@@ -74,17 +76,15 @@ pub fn report(side: Ours, start: Start, calls: Vec<Call>) {
         run /= 4;
     }
     // Bytes of the block to those of a fresh one, else to 0.
-    let fresh = Start::fresh();
+    let fresh = Start::fresh((start.block.len(), Table::Steps261));
     // Twice, since a latch's flag can go only after its byte.
-    for at in (0..BLOCK_SIZE).chain(0..BLOCK_SIZE) {
+    for at in (0..fresh.block.len()).chain(0..fresh.block.len()) {
         for byte in [fresh.block[at], 0] {
-            if start.block[at] != byte {
-                let mut simpler = start.clone();
-                simpler.block[at] = byte;
-                if differs(side, &simpler, &calls).is_some() {
-                    start = simpler;
-                    break;
-                }
+            let mut simpler = start.clone();
+            simpler.block[at] = byte;
+            if start.block[at] == byte || differs(side, &simpler, &calls).is_some() {
+                start = simpler;
+                break;
             }
         }
     }
@@ -105,9 +105,9 @@ pub fn report(side: Ours, start: Start, calls: Vec<Call>) {
 }
 
 fn print(start: &Start, calls: &[Call]) {
-    let fresh = Start::fresh();
-    println!("smallest input found; a fresh state block, but for");
-    for at in 0..BLOCK_SIZE {
+    let fresh = Start::fresh((start.block.len(), Table::Steps261));
+    println!("smallest input found; a fresh state block of {} bytes and table 0, but for", fresh.block.len());
+    for at in 0..fresh.block.len() {
         if start.block[at] != fresh.block[at] {
             println!("  block byte {} = {:02X}{}", at, start.block[at], field(at));
         }
@@ -122,6 +122,7 @@ fn print(start: &Start, calls: &[Call]) {
     for call in calls {
         let what = match call.kind {
             Kind::New => "new".to_string(),
+            Kind::NewTable => format!("new with table {}", call.value),
             Kind::Out => format!("write port {:04X} value {:02X}", call.port, call.value),
             Kind::Input => format!("read port {:04X}", call.port),
             Kind::Step => format!("step, area {}, frame of {} bytes", call.value, call.pixels_len),
@@ -129,8 +130,8 @@ fn print(start: &Start, calls: &[Call]) {
             Kind::Dump => format!("dump, sheet of {} bytes", call.pixels_len),
         };
         println!("  {}", what);
-        if call.state_len != BLOCK_SIZE {
-            println!("    with a state block of {} bytes", call.state_len);
+        if let Some(size) = call.state_len {
+            println!("    with a state block of {} bytes", size);
         }
         if call.video_len != VIDEO_SIZE {
             println!("    with {} bytes of video memory", call.video_len);
@@ -158,6 +159,7 @@ fn field(at: usize) -> String {
         25 => "vertical scroll",
         26 => "dirty",
         27..=90 => return format!(" (palette byte {})", at - 27),
+        219 => "table",
         _ => return format!(" (cached colour {}, byte {})", (at - 91) / 4, (at - 91) % 4),
     };
     format!(" ({})", name)

@@ -28,6 +28,11 @@ pub unsafe extern "C" fn vdp_new(state: *mut u8, state_len: usize) -> u32 {
 }
 
 #[no_mangle]
+pub unsafe extern "C" fn vdp_new_table(state: *mut u8, state_len: usize, table: u8) -> u32 {
+    model::vdp_new_table(lent_mut(state, state_len), table)
+}
+
+#[no_mangle]
 pub unsafe extern "C" fn vdp_out(state: *mut u8, state_len: usize, vram: *mut u8, vram_len: usize, port: u16, value: u8) -> u32 {
     model::vdp_out(lent_mut(state, state_len), lent_mut(vram, vram_len), port, value)
 }

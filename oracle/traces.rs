@@ -6,10 +6,11 @@
 //!   traces text < TRACE              the text that the model gives for one trace
 //!   traces picture < TRACE           the picture that the model gives for one trace
 //!
-//! PROGRAM is started by the words of the variable RUN, if it is set (an emulator). Exit status 1 on any difference, 2 on bad usage.
+//! PROGRAM is started by the words of the variable RUN, if it is set (an emulator). A last word --table=0 or --table=1 names the table of the
+//! device; without it, it is that of a device made with none named. Exit status 1 on any difference, 2 on bad usage.
 
 use rules::call::Kind;
-use rules::model;
+use rules::model::{self, Table};
 use rules::random::Random;
 use rules::recording::{snapshot_bytes, trace_text, Record, LIMIT};
 use rules::sessions::Session;
@@ -23,13 +24,13 @@ const EXAMPLE: &[u8] = b"PW\xBF\x00PW\xBF\x40PW\xBE\xABPW\xBF\x00PW\xBF\x00PR\xB
 const EXAMPLE_TEXT: &[u8] = b"w 0\nw 0\nw 0\nw 0\nw 0\nr 0 AB\ns 0 01 0 0\nr 2 00\nend 8\n";
 
 /// A random trace with no bad record, of about this many records.
-fn whole(random: &mut Random, records: usize) -> Vec<u8> {
+fn whole(random: &mut Random, table: Table, records: usize) -> Vec<u8> {
     let mut session = Session::new(random.word());
-    let mut device = model::Device::fresh();
+    let mut device = model::Device::made(table);
     let mut video = vec![0; model::VIDEO_SIZE];
     let mut bytes = Vec::new();
     for _ in 0..records {
-        let call = session.next(&device.encode());
+        let call = session.next(&device.encode(model::BLOCK_SIZE));
         match call.kind {
             Kind::Out => {
                 device.write_port(&mut video, call.port, call.value);
@@ -45,15 +46,15 @@ fn whole(random: &mut Random, records: usize) -> Vec<u8> {
                     bytes.extend_from_slice(&[b'L', b'S', call.value]);
                 }
             }
-            Kind::New | Kind::Dump => {}
+            Kind::New | Kind::NewTable | Kind::Dump => {}
         }
     }
     bytes
 }
 
 /// A trace of exactly this many bytes, none of them bad; no trace has 1, 2 or 5 bytes.
-fn of_length(random: &mut Random, length: usize) -> Vec<u8> {
-    let mut bytes = whole(random, length / 3);
+fn of_length(random: &mut Random, table: Table, length: usize) -> Vec<u8> {
+    let mut bytes = whole(random, table, length / 3);
     let mut end = 0;
     while let Some((_, n)) = Record::first(&bytes[end..]) {
         if end + n + 6 > length {
@@ -74,13 +75,13 @@ fn of_length(random: &mut Random, length: usize) -> Vec<u8> {
 }
 
 /// The traces that are always tried: none, the example, each kind of bad record at several offsets, the longest, too long ones.
-fn fixed(random: &mut Random) -> Vec<Vec<u8>> {
+fn fixed(random: &mut Random, table: Table) -> Vec<Vec<u8>> {
     let mut all = vec![Vec::new(), EXAMPLE.to_vec()];
     for tail in [
         &b"P"[..], b"PW", b"PW\xBF", b"PR", b"L", b"LS", b"LS\x02", b"LS\xFF", b"XX", b"Pw\xBF\x00", b"LR\x00", b"PS\x00", b"\x00", b"\n", b"LS\x02PR\x7E",
     ] {
         for records in [0, 1, 2, 50] {
-            let mut trace = whole(random, records);
+            let mut trace = whole(random, table, records);
             trace.extend_from_slice(tail);
             all.push(trace);
         }
@@ -90,7 +91,7 @@ fn fixed(random: &mut Random) -> Vec<Vec<u8>> {
     all.push(b"LS\x01".repeat(LIMIT / 3));
     all.push(b"PR\x7F".repeat(LIMIT / 3));
     for length in [LIMIT - 1, LIMIT, LIMIT + 1, LIMIT + 2, LIMIT + 5000] {
-        all.push(of_length(random, length));
+        all.push(of_length(random, table, length));
     }
     all.push(vec![b'?'; LIMIT]);
     all.push(vec![0; LIMIT + 1]);
@@ -131,13 +132,13 @@ fn split() -> Vec<u8> {
 }
 
 /// A random trace: whole, damaged, cut or long.
-fn any(random: &mut Random) -> Vec<u8> {
+fn any(random: &mut Random, table: Table) -> Vec<u8> {
     let records = match random.below(20) {
         0 => 4000 + random.below(16_000),
         1..=5 => random.below(2000),
         _ => random.below(300),
     };
-    let mut trace = whole(random, records);
+    let mut trace = whole(random, table, records);
     match random.below(10) {
         0..=4 => {}
         5 | 6 if !trace.is_empty() => {
@@ -170,19 +171,22 @@ fn run(program: &str, input: &Path) -> (Vec<u8>, bool) {
     }
 }
 
+/// What is to be written for a trace.
+type Expected = fn(Table, &[u8]) -> Vec<u8>;
+
 /// Runs the program on every trace; answers the number of differences.
-fn compare(what: &str, expected: fn(&[u8]) -> Vec<u8>, count: usize, seed: u64, program: &str) -> u64 {
+fn compare(what: &str, expected: Expected, table: Table, count: usize, seed: u64, program: &str) -> u64 {
     let mut random = Random::new(seed);
     let folder = Folder::new();
     let file = folder.0.join("trace");
     let mut differences = 0;
-    let fixed = fixed(&mut random);
+    let fixed = fixed(&mut random, table);
     let total = fixed.len() + count;
     let mut lines = [0; 3];
     for n in 0..total {
-        let trace = if n < fixed.len() { fixed[n].clone() } else { any(&mut random) };
-        let wanted = expected(&trace);
-        let text = trace_text(&trace);
+        let trace = if n < fixed.len() { fixed[n].clone() } else { any(&mut random, table) };
+        let wanted = expected(table, &trace);
+        let text = trace_text(table, &trace);
         let last = text.split(|byte| *byte == b'\n').rev().nth(1).unwrap_or(b"");
         lines[[b"end", b"bad", b"lon"].iter().position(|word| last.starts_with(&word[..])).expect("a last line")] += 1;
         fs::write(&file, &trace).expect("the trace is written");
@@ -230,47 +234,56 @@ impl Drop for Folder {
 }
 
 /// Writes the traces and what is expected of them.
-fn write(count: usize, seed: u64, folder: &str) -> u64 {
+fn write(table: Table, count: usize, seed: u64, folder: &str) -> u64 {
     let mut random = Random::new(seed);
     let folder = Path::new(folder);
     fs::create_dir_all(folder).expect("the folder is made");
-    let fixed = fixed(&mut random);
+    let fixed = fixed(&mut random, table);
     for n in 0..fixed.len() + count {
-        let trace = if n < fixed.len() { fixed[n].clone() } else { any(&mut random) };
+        let trace = if n < fixed.len() { fixed[n].clone() } else { any(&mut random, table) };
         fs::write(folder.join(format!("{:05}.trace", n)), &trace).expect("the trace is written");
-        fs::write(folder.join(format!("{:05}.text", n)), trace_text(&trace)).expect("the text is written");
-        fs::write(folder.join(format!("{:05}.ppm", n)), snapshot_bytes(&trace)).expect("the picture is written");
+        fs::write(folder.join(format!("{:05}.text", n)), trace_text(table, &trace)).expect("the text is written");
+        fs::write(folder.join(format!("{:05}.ppm", n)), snapshot_bytes(table, &trace)).expect("the picture is written");
     }
     0
 }
 
 /// Prints what is expected of the trace at standard input.
-fn print(expected: fn(&[u8]) -> Vec<u8>) -> u64 {
+fn print(expected: Expected, table: Table) -> u64 {
     let mut input = Vec::new();
     std::io::stdin().read_to_end(&mut input).expect("the trace is read");
-    std::io::stdout().write_all(&expected(&input)).expect("the answer is written");
+    std::io::stdout().write_all(&expected(table, &input)).expect("the answer is written");
     0
 }
 
 fn usage() -> ! {
-    eprintln!("usage: traces trace|snapshot N SEED PROGRAM | traces write N SEED FOLDER | traces text|picture < TRACE");
+    eprintln!("usage: traces trace|snapshot N SEED PROGRAM | traces write N SEED FOLDER | traces text|picture < TRACE; each with a last word --table=0 or --table=1");
     std::process::exit(2)
 }
 
 fn main() {
-    if trace_text(EXAMPLE) != EXAMPLE_TEXT {
+    if [Table::Steps261, Table::Steps262].iter().any(|table| trace_text(*table, EXAMPLE) != EXAMPLE_TEXT) {
         eprintln!("traces: the model does not print the worked trace");
         std::process::exit(1);
     }
-    let words: Vec<String> = std::env::args().skip(1).collect();
+    let mut words: Vec<String> = std::env::args().skip(1).collect();
+    let table = match words.last().map(|word| word.as_str()) {
+        Some("--table=0") => Some(Table::Steps261),
+        Some("--table=1") => Some(Table::Steps262),
+        _ => None,
+    };
+    if table.is_some() {
+        words.pop();
+    }
+    let table = table.unwrap_or(model::DEFAULT_TABLE);
     let words: Vec<&str> = words.iter().map(|word| word.as_str()).collect();
     let number = |word: &str| word.parse::<u64>().unwrap_or_else(|_| usage());
     let differences = match words[..] {
-        ["trace", n, seed, program] => compare("trace", trace_text, number(n) as usize, number(seed), program),
-        ["snapshot", n, seed, program] => compare("snapshot", snapshot_bytes, number(n) as usize, number(seed), program),
-        ["write", n, seed, folder] => write(number(n) as usize, number(seed), folder),
-        ["text"] => print(trace_text),
-        ["picture"] => print(snapshot_bytes),
+        ["trace", n, seed, program] => compare("trace", trace_text, table, number(n) as usize, number(seed), program),
+        ["snapshot", n, seed, program] => compare("snapshot", snapshot_bytes, table, number(n) as usize, number(seed), program),
+        ["write", n, seed, folder] => write(table, number(n) as usize, number(seed), folder),
+        ["text"] => print(trace_text, table),
+        ["picture"] => print(snapshot_bytes, table),
         _ => usage(),
     };
     std::process::exit(if differences == 0 { 0 } else { 1 });

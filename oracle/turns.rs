@@ -12,6 +12,7 @@ pub fn of_call(call: &Call, block: &mut [u8], video: &mut [u8]) -> usize {
     let mut notes = Notes::default();
     let word = match call.kind {
         Kind::New => model::vdp_new(block),
+        Kind::NewTable => model::vdp_new_table(block, call.value),
         Kind::Out => model::vdp_out(block, video, call.port, call.value),
         Kind::Input => model::vdp_input(block, video, call.port),
         Kind::Step => model::vdp_step(block, video, &mut pixels, call.value, &mut notes),
@@ -23,7 +24,7 @@ pub fn of_call(call: &Call, block: &mut [u8], video: &mut [u8]) -> usize {
         _ => return 0,
     };
     match call.kind {
-        Kind::New => 0,
+        Kind::New | Kind::NewTable => 0,
         // the second byte of a command loads the read buffer, or does not; a data read does
         Kind::Out => (call.port % 256 == 0xBF && device.command_latch.is_some() && call.value / 64 == 0) as usize,
         Kind::Input => (call.port % 256 == 0xBE) as usize,

@@ -2,7 +2,7 @@
 //! call (W, R, S), port or area, value, 0, answer word (4), checksum of the block (4), checksum of the drawn row (4). VECTORS.md says it in full.
 
 use crate::gears::{self, Vdp};
-use rules::model::{self, Area, Notes, BLOCK_SIZE, VIDEO_SIZE};
+use rules::model::{self, Area, Notes, Table, OLD_SIZE, VIDEO_SIZE};
 use rules::sessions::Session;
 use rules::call::{Call, Kind};
 use crate::world;
@@ -27,7 +27,7 @@ pub fn write(count: u64, seed: u64) -> u64 {
     let mut recorder = Recorder {
         rust: Vdp::new(),
         frame: vec![0; Area::Effective.frame_size() + 64],
-        block: model::Device::fresh().encode().to_vec(),
+        block: model::Device::made(Table::Steps261).encode(OLD_SIZE),
         video: vec![0; VIDEO_SIZE],
         list: Vec::new(),
     };
@@ -88,9 +88,8 @@ impl Recorder {
             Kind::Out | Kind::Input => (world::rust_port_word(&self.rust, call, false), 0),
             _ => self.step(call.value),
         };
-        let mut block = [0; BLOCK_SIZE];
-        gears::read(&self.rust, &mut block);
-        if word != Ok(model_word) || block[..] != self.block[..] {
+        let block = gears::read(&self.rust, OLD_SIZE);
+        if word != Ok(model_word) || block != self.block {
             eprintln!("compare: the model differs from the Rust at record {}: {:?}", self.list.len() / 16, call);
             return false;
         }

@@ -5,7 +5,7 @@ use rules::call::{Call, Kind, EXTRA, VERY_LONG};
 use crate::face;
 use crate::gears::{self, DisplayRefresh, RenderArea, Vdp, VdpInt};
 use crate::io::Device;
-use rules::model::{self, Area, Notes, BLOCK_SIZE, SHEET_SIZE, VIDEO_SIZE};
+use rules::model::{self, Area, Notes, Table, BLOCK_SIZE, OLD_SIZE, SHEET_SIZE, VIDEO_SIZE};
 use rules::random::Random;
 use std::cell::Cell;
 use std::panic::{catch_unwind, AssertUnwindSafe};
@@ -93,9 +93,6 @@ impl Memory {
             sheet: Buffer::new(SHEET_SIZE + 128, random),
         }
     }
-    fn block(&self) -> &[u8] {
-        self.state.part(BLOCK_SIZE)
-    }
 }
 
 /// Which side is held beside the Rust and the model.
@@ -107,41 +104,44 @@ pub enum Ours {
     Model,
 }
 
-fn perform_model(m: &mut Memory, c: &Call, notes: &mut Notes) -> u32 {
+/// The call on the model, lent this many bytes of state.
+fn perform_model(m: &mut Memory, c: &Call, size: usize, notes: &mut Notes) -> u32 {
     let n = c.pixels_len;
     match c.kind {
-        Kind::New => model::vdp_new(m.state.part_mut(c.state_len)),
-        Kind::Out => model::vdp_out(m.state.part_mut(c.state_len), m.video.part_mut(c.video_len), c.port, c.value),
-        Kind::Input => model::vdp_input(m.state.part_mut(c.state_len), m.video.part(c.video_len), c.port),
+        Kind::New => model::vdp_new(m.state.part_mut(size)),
+        Kind::NewTable => model::vdp_new_table(m.state.part_mut(size), c.value),
+        Kind::Out => model::vdp_out(m.state.part_mut(size), m.video.part_mut(c.video_len), c.port, c.value),
+        Kind::Input => model::vdp_input(m.state.part_mut(size), m.video.part(c.video_len), c.port),
         Kind::Step => {
             let frame = m.frames.of_mut(c);
-            model::vdp_step(m.state.part_mut(c.state_len), m.video.part(c.video_len), frame.part_mut(n), c.value, notes)
+            model::vdp_step(m.state.part_mut(size), m.video.part(c.video_len), frame.part_mut(n), c.value, notes)
         }
         Kind::RowStep => {
-            model::vdp_row_step(m.state.part_mut(c.state_len), m.video.part(c.video_len), m.row.part_mut(n), c.value, notes)
+            model::vdp_row_step(m.state.part_mut(size), m.video.part(c.video_len), m.row.part_mut(n), c.value, notes)
         }
-        Kind::Dump => model::vdp_dump_tileset(m.state.part(c.state_len), m.video.part(c.video_len), m.sheet.part_mut(n)),
+        Kind::Dump => model::vdp_dump_tileset(m.state.part(size), m.video.part(c.video_len), m.sheet.part_mut(n)),
     }
 }
 
-fn perform_library(m: &mut Memory, c: &Call) -> u32 {
+fn perform_library(m: &mut Memory, c: &Call, size: usize) -> u32 {
     let n = c.pixels_len;
     match c.kind {
-        Kind::New => face::vdp_new(m.state.part_mut(c.state_len)),
-        Kind::Out => face::vdp_out(m.state.part_mut(c.state_len), m.video.part_mut(c.video_len), c.port, c.value),
-        Kind::Input => face::vdp_input(m.state.part_mut(c.state_len), m.video.part(c.video_len), c.port),
+        Kind::New => face::vdp_new(m.state.part_mut(size)),
+        Kind::NewTable => face::vdp_new_table(m.state.part_mut(size), c.value),
+        Kind::Out => face::vdp_out(m.state.part_mut(size), m.video.part_mut(c.video_len), c.port, c.value),
+        Kind::Input => face::vdp_input(m.state.part_mut(size), m.video.part(c.video_len), c.port),
         Kind::Step => {
             let frame = m.frames.of_mut(c);
-            face::vdp_step(m.state.part_mut(c.state_len), m.video.part(c.video_len), frame.part_mut(n), c.value)
+            face::vdp_step(m.state.part_mut(size), m.video.part(c.video_len), frame.part_mut(n), c.value)
         }
-        Kind::RowStep => face::vdp_row_step(m.state.part_mut(c.state_len), m.video.part(c.video_len), m.row.part_mut(n), c.value),
-        Kind::Dump => face::vdp_dump_tileset(m.state.part(c.state_len), m.video.part(c.video_len), m.sheet.part_mut(n)),
+        Kind::RowStep => face::vdp_row_step(m.state.part_mut(size), m.video.part(c.video_len), m.row.part_mut(n), c.value),
+        Kind::Dump => face::vdp_dump_tileset(m.state.part(size), m.video.part(c.video_len), m.sheet.part_mut(n)),
     }
 }
 
 /// The same with each lent part copied to memory of its own length and back.
-fn perform_tight(m: &mut Memory, c: &Call) -> u32 {
-    let mut state = m.state.part(c.state_len).to_vec();
+fn perform_tight(m: &mut Memory, c: &Call, size: usize) -> u32 {
+    let mut state = m.state.part(size).to_vec();
     let mut video = m.video.part(c.video_len).to_vec();
     let buffer = match c.kind {
         Kind::Step => m.frames.of_mut(c),
@@ -151,6 +151,7 @@ fn perform_tight(m: &mut Memory, c: &Call) -> u32 {
     let mut pixels = buffer.part(c.pixels_len).to_vec();
     let word = match c.kind {
         Kind::New => face::vdp_new(&mut state),
+        Kind::NewTable => face::vdp_new_table(&mut state, c.value),
         Kind::Out => face::vdp_out(&mut state, &mut video, c.port, c.value),
         Kind::Input => face::vdp_input(&mut state, &video, c.port),
         Kind::Step => face::vdp_step(&mut state, &video, &mut pixels, c.value),
@@ -158,7 +159,7 @@ fn perform_tight(m: &mut Memory, c: &Call) -> u32 {
         Kind::Dump => face::vdp_dump_tileset(&state, &video, &mut pixels),
     };
     buffer.part_mut(c.pixels_len).copy_from_slice(&pixels);
-    m.state.part_mut(c.state_len).copy_from_slice(&state);
+    m.state.part_mut(size).copy_from_slice(&state);
     m.video.part_mut(c.video_len).copy_from_slice(&video);
     word
 }
@@ -217,6 +218,8 @@ pub struct Met {
     /// The call was also held beside the Rust.
     pub beside_rust: bool,
     pub departure: Option<&'static str>,
+    /// What there was of tables and of the block's versions.
+    pub tables: Vec<&'static str>,
 }
 
 pub const EARLY_CLOCK: &str = "early clock, X 41 to 48 (Rust asserts)";
@@ -227,8 +230,55 @@ pub const ADDRESS_VIDEO: &str = "video address 16384 (Rust panics at an index)";
 pub const ADDRESS_PALETTE: &str = "palette address 64 (Rust accepts the write)";
 pub const DEPARTURES: [&str; 6] = [EARLY_CLOCK, PAST_EDGE, SHORT, LONG, ADDRESS_VIDEO, ADDRESS_PALETTE];
 
+pub const ROW: [&str; 2] = ["rows drawn, table 0", "rows drawn, table 1"];
+pub const JUMP: [&str; 2] = ["jumps of the counter, table 0", "jumps of the counter, table 1"];
+pub const MADE_OLD: &str = "new with a table: 0 in 219 bytes";
+pub const MADE: [&str; 2] = ["new with a table: 0 in 220 bytes", "new with a table: 1 in 220 bytes"];
+pub const NOT_MADE: &str = "new with a table: refused";
+pub const BAD_TABLE: &str = "refused for the table's byte alone";
+pub const OTHER_MARK: &str = "refused for the mark of the other version alone";
+pub const TABLES: [&str; 10] =
+    [ROW[0], ROW[1], JUMP[0], JUMP[1], MADE_OLD, MADE[0], MADE[1], NOT_MADE, BAD_TABLE, OTHER_MARK];
+
+/// What a call has met of tables and versions, on the bytes of state that it was lent.
+fn of_tables(c: &Call, word: u32, before: &Option<model::Device>, after: &Option<model::Device>, lent: &[u8]) -> Vec<&'static str> {
+    let mut met = Vec::new();
+    match (before, after) {
+        _ if c.kind == Kind::NewTable => met.push(match after {
+            Some(_) if word == 0 && lent.len() == OLD_SIZE => MADE_OLD,
+            Some(device) if word == 0 => MADE[device.table as usize],
+            _ => NOT_MADE,
+        }),
+        (Some(before), Some(after)) if matches!(c.kind, Kind::Step | Kind::RowStep) => {
+            if word >> 24 == 1 {
+                met.push(ROW[after.table as usize]);
+            }
+            if after.jumped && !before.jumped {
+                met.push(JUMP[after.table as usize]);
+            }
+        }
+        (None, None) if matches!(lent.len(), OLD_SIZE | BLOCK_SIZE) => {
+            let with = |at: usize, byte: u8| {
+                let mut other = lent.to_vec();
+                other[at] = byte;
+                other
+            };
+            if lent.len() == BLOCK_SIZE && model::well_formed(&with(219, 0)) {
+                met.push(BAD_TABLE);
+            }
+            if matches!(lent[1], 0x53 | 0x54) && model::well_formed(&with(1, 0x53 + 0x54 - lent[1])) {
+                met.push(OTHER_MARK);
+            }
+        }
+        _ => {}
+    }
+    met
+}
+
 pub struct World {
     side: Ours,
+    /// Bytes of the block that stands at the start of the lent state.
+    size: usize,
     ours: Memory,
     model: Memory,
     rust: Vdp,
@@ -245,28 +295,30 @@ impl World {
         let memory = Memory::new(&mut random);
         let mut world = World {
             side,
+            size: 0,
             ours: memory.clone(),
             model: memory.clone(),
             rust: Vdp::new(),
             rust_frames: memory,
             rust_scratch: vec![0; Area::Effective.frame_size() + 64],
         };
-        let fresh = model::Device::fresh().encode();
+        let fresh = model::Device::made(Table::Steps261).encode(BLOCK_SIZE);
         world.start(&fresh, &[0; VIDEO_SIZE]);
         world
     }
 
     /// Puts all three into this state.
     pub fn start(&mut self, block: &[u8], video: &[u8]) {
+        self.size = block.len();
         for memory in [&mut self.ours, &mut self.model] {
-            memory.state.part_mut(BLOCK_SIZE).copy_from_slice(block);
+            memory.state.part_mut(block.len()).copy_from_slice(block);
             memory.video.part_mut(VIDEO_SIZE).copy_from_slice(video);
         }
         gears::load(&self.rust, block, video);
     }
 
     pub fn block(&self) -> &[u8] {
-        self.model.block()
+        self.model.state.part(self.size)
     }
     pub fn video(&self) -> &[u8] {
         self.model.video.part(VIDEO_SIZE)
@@ -274,31 +326,36 @@ impl World {
 
     /// Loads the Rust with the model's state: after a departure, or a byte set by hand.
     fn reload(&mut self) {
-        gears::load(&self.rust, self.model.block(), self.model.video.part(VIDEO_SIZE));
+        gears::load(&self.rust, self.block(), self.video());
+    }
+
+    /// Sets a byte of the state on both sides.
+    fn set(&mut self, at: usize, byte: u8) {
+        for memory in [&mut self.ours, &mut self.model] {
+            memory.state.part_mut(BLOCK_SIZE)[at] = byte;
+        }
     }
 
     /// Makes the call on all sides; `Err` tells how they differ.
     pub fn call(&mut self, c: &Call) -> Result<Met, String> {
-        let mut undo = None;
+        let size = c.state_len.unwrap_or(self.size);
+        let undo = c.poke.map(|(at, _)| (at, self.model.state.part(BLOCK_SIZE)[at]));
         if let Some((at, byte)) = c.poke {
-            let old = self.model.block()[at];
-            self.model.state.part_mut(BLOCK_SIZE)[at] = byte;
-            self.ours.state.part_mut(BLOCK_SIZE)[at] = byte;
-            if model::well_formed(self.model.block()) {
-                self.reload();
-            } else {
-                undo = Some((at, old));
-            }
+            self.set(at, byte);
         }
-        let before = model::Device::decode(self.model.block());
+        let before = model::Device::decode(self.model.state.part(size));
+        if before.is_some() && (undo.is_some() || size != self.size) {
+            self.size = size;
+            self.reload();
+        }
 
         let mut notes = Notes::default();
-        let word = perform_model(&mut self.model, c, &mut notes);
+        let word = perform_model(&mut self.model, c, size, &mut notes);
         let mut our_notes = Notes::default();
         let our_word = match self.side {
-            Ours::Library => perform_library(&mut self.ours, c),
-            Ours::Tight => perform_tight(&mut self.ours, c),
-            Ours::Model => perform_model(&mut self.ours, c, &mut our_notes),
+            Ours::Library => perform_library(&mut self.ours, c, size),
+            Ours::Tight => perform_tight(&mut self.ours, c, size),
+            Ours::Model => perform_model(&mut self.ours, c, size, &mut our_notes),
         };
 
         if our_word != word {
@@ -313,39 +370,62 @@ impl World {
             _ => {}
         }
 
-        let mut met = Met { word, ..Met::default() };
+        let after = model::Device::decode(self.model.state.part(size));
+        let tables = of_tables(c, word, &before, &after, self.model.state.part(size));
+        let mut met = Met { word, tables, ..Met::default() };
         if word % 256 == 9 {
             met.departure = Some(SHORT);
         }
         if word % 256 == 12 {
             met.departure = Some(LONG);
         }
-        // Refusals 8 to 12 have no counterpart in the Rust: what it has can be neither damaged nor of another length.
-        if word % 256 < 8 {
-            if let Some(before) = &before {
-                met.beside_rust = true;
-                met.departure = self.beside_rust(c, before, word, &notes)?;
-            } else if c.kind == Kind::New {
-                met.beside_rust = true;
-                self.beside_new()?;
+        match (&after, undo) {
+            (Some(device), _) => {
+                // What was lent is the block that stands there now.
+                self.size = size;
+                // Refusals 8 to 12 have no counterpart in the Rust: what it has can be neither damaged nor of another length.
+                if word % 256 < 8 && device.table == Table::Steps261 {
+                    met.beside_rust = true;
+                    met.departure = match &before {
+                        Some(before) => self.beside_rust(c, before, word, &notes)?,
+                        None => self.beside_new()?,
+                    };
+                } else if word % 256 == 0 {
+                    // Nor has table 1: the Rust's frames take what was drawn from the model's.
+                    self.lay(c, word);
+                }
             }
-        }
-        if let Some((at, byte)) = undo {
-            if c.kind != Kind::New || word != 0 {
-                self.model.state.part_mut(BLOCK_SIZE)[at] = byte;
-                self.ours.state.part_mut(BLOCK_SIZE)[at] = byte;
-            }
+            // Refused as malformed: the byte that was set by hand goes back.
+            (None, Some((at, byte))) => self.set(at, byte),
+            (None, None) => {}
         }
         Ok(met)
     }
 
+    /// Puts what the model drew into what the Rust draws in: the row of a frame step, or the sheet.
+    fn lay(&mut self, c: &Call, word: u32) {
+        match (c.kind, Area::from_number(c.value)) {
+            (Kind::Step, Some(area)) if word >> 24 == 1 => {
+                let row = (word >> 16 & 0xFF) as usize * area.row_size();
+                let good = &self.model.frames.of(c).part(c.pixels_len)[row..row + area.row_size()];
+                let frame = self.rust_frames.frames.of_mut(c).part_mut(c.pixels_len);
+                frame[row..row + area.row_size()].copy_from_slice(good);
+            }
+            (Kind::Dump, _) => self.rust_frames.sheet.bytes.copy_from_slice(&self.model.sheet.bytes),
+            _ => {}
+        }
+    }
+
+    /// The block that stands there beside that of a device of the Rust, which has table 0.
+    fn same_block(&self, rust: &Vdp) -> Result<(), String> {
+        same("state block", "Rust", self.ours.state.part(self.size), &gears::read(rust, self.size), 0)
+    }
+
     /// A fresh device of the Rust beside ours, then put in the place of the one before.
-    fn beside_new(&mut self) -> Result<(), String> {
-        let mut block = [0; BLOCK_SIZE];
-        gears::read(&Vdp::default(), &mut block);
-        same("state block", "Rust", self.ours.block(), &block, 0)?;
+    fn beside_new(&mut self) -> Result<Option<&'static str>, String> {
+        self.same_block(&Vdp::default())?;
         self.reload();
-        Ok(())
+        Ok(None)
     }
 
     /// The same call on the Rust; answers the departure that was met, if any.
@@ -354,10 +434,7 @@ impl World {
         let at_16384 = before.chosen == model::Chosen::Video && before.address == 16384;
         let mut rust_word = 0;
         match c.kind {
-            Kind::New => {
-                self.beside_new()?;
-                return Ok(None);
-            }
+            Kind::New | Kind::NewTable => return self.beside_new(),
             Kind::Out | Kind::Input => {
                 rust_word = rust_port_word(&self.rust, c, at_16384)?;
                 let data = c.port % 256 == 0xBE;
@@ -366,13 +443,12 @@ impl World {
                 }
                 if data && c.kind == Kind::Out && before.chosen == model::Chosen::Palette && before.address == 64 {
                     // The Rust latches the byte and goes on to address 1; nothing else of the state may differ.
-                    let mut block = [0; BLOCK_SIZE];
-                    gears::read(&self.rust, &mut block);
                     let mut expected = before.clone();
                     expected.command_latch = None;
                     expected.palette_latch = Some(c.value);
                     expected.address = 1;
-                    same("state block after the accepted write at 64", "Rust", &expected.encode(), &block, 0)?;
+                    let (expected, block) = (expected.encode(self.size), gears::read(&self.rust, self.size));
+                    same("state block after the accepted write at 64", "Rust", &expected, &block, 0)?;
                     self.reload();
                     return Ok(Some(ADDRESS_PALETTE));
                 }
@@ -401,11 +477,8 @@ impl World {
                         }
                         // The Rust has no answer: go on from the model's state and frame.
                         self.reload();
+                        self.lay(c, word);
                         if c.kind == Kind::Step {
-                            let row = (word >> 16 & 0xFF) as usize * area.row_size();
-                            let good = &self.model.frames.of(c).part(c.pixels_len)[row..row + area.row_size()];
-                            let frame = self.rust_frames.frames.of_mut(c).part_mut(c.pixels_len);
-                            frame[row..row + area.row_size()].copy_from_slice(good);
                             same("frame", "Rust", &self.ours.frames.of(c).bytes, &self.rust_frames.frames.of(c).bytes, GUARD)?;
                         }
                         return Ok(Some(EARLY_CLOCK));
@@ -442,9 +515,7 @@ impl World {
         if rust_word != word {
             return Err(format!("answer: ours {:08X}, Rust {:08X}", word, rust_word));
         }
-        let mut block = [0; BLOCK_SIZE];
-        gears::read(&self.rust, &mut block);
-        same("state block", "Rust", self.ours.block(), &block, 0)?;
+        self.same_block(&self.rust)?;
         if !gears::video_is(&self.rust, self.ours.video.part(VIDEO_SIZE)) {
             return Err("video memory differs from the Rust's".to_string());
         }
@@ -468,8 +539,7 @@ pub fn rust_port_word(rust: &Vdp, c: &Call, at_16384: bool) -> Result<u32, Strin
 
 /// What a step of the Rust gave as an answer word; it tells no row, so that follows from its counter.
 pub fn rust_step_word(rust: &Vdp, answer: &(VdpInt, DisplayRefresh), area: Area) -> u32 {
-    let mut block = [0; BLOCK_SIZE];
-    gears::read(rust, &mut block);
+    let counter = gears::read(rust, BLOCK_SIZE)[14];
     let interrupt = match answer.0 {
         VdpInt::NoInterrupt => 0,
         VdpInt::InterruptGenerated => 1,
@@ -479,7 +549,7 @@ pub fn rust_step_word(rust: &Vdp, answer: &(VdpInt, DisplayRefresh), area: Area)
         DisplayRefresh::ScreenDone => 1,
         DisplayRefresh::ScreenDoneNoRefresh => 2,
     };
-    let row = area.row_at(block[14]).map_or(0, |row| 1 << 24 | (row as u32) << 16);
+    let row = area.row_at(counter).map_or(0, |row| 1 << 24 | (row as u32) << 16);
     interrupt << 8 | report << 9 | row
 }
 

@@ -134,6 +134,22 @@ mod tests {
     }
 
     #[test]
+    fn a_device_goes_by_the_table_that_it_is_made_with() {
+        for (table, last, pass) in [(0, 0xD9u32, 261), (1, 0xDA, 262)] {
+            let vdp = Vdp::with_table(table).expect("a table");
+            let lines: Vec<u32> = (0..=last).chain(0xD5..=0xFF).chain(0..1).collect();
+            assert_eq!(lines.len(), pass + 1);
+            for line in lines {
+                assert_eq!(vdp.input(LINE, 0), Ok(line as u8));
+                steps(&vdp, 1);
+            }
+        }
+        for table in 2..=255 {
+            assert!(Vdp::with_table(table).is_none());
+        }
+    }
+
+    #[test]
     fn a_colour_is_drawn() {
         // P4: colour 3, here as the background of every row, is AA 55 33 FF
         let vdp = Vdp::new();

@@ -15,13 +15,14 @@ use std::cell::{Cell, RefCell};
 pub const GG_VISIBLE_PIXEL_HEIGHT: usize = 144;
 pub const GG_VISIBLE_PIXEL_WIDTH: usize = 160;
 
-const BLOCK_SIZE: usize = 219;
+const BLOCK_SIZE: usize = 220;
 const VRAM_SIZE: usize = 16 * 1024;
 
 // A slice is a pointer and a length. The answer has the refusal in its low byte.
 #[link(name = "vdp")]
 extern "C" {
     fn vdp_new(state: *mut u8, state_len: usize) -> u32;
+    fn vdp_new_table(state: *mut u8, state_len: usize, table: u8) -> u32;
     fn vdp_out(state: *mut u8, state_len: usize, vram: *mut u8, vram_len: usize, port: u16, value: u8) -> u32;
     fn vdp_input(state: *mut u8, state_len: usize, vram: *const u8, vram_len: usize, port: u16) -> u32;
     fn vdp_step(
@@ -81,6 +82,17 @@ impl Vdp {
         // Sound: the block is live, and as long as we say.
         let answer = unsafe { vdp_new(lent.block.as_mut_ptr(), lent.block.len()) };
         Vdp { lent: RefCell::new(lent), refused: Cell::new(refusal(answer)) }
+    }
+
+    /// A device that goes by this line table: 0, whose pass has 261 steps, or 1, the chart's, of 262; there is no other.
+    pub fn with_table(table: u8) -> Option<Self> {
+        let mut lent = Lent { block: [0; BLOCK_SIZE], vram: vec![0; VRAM_SIZE] };
+        // Sound: the block is live, and as long as we say.
+        let answer = unsafe { vdp_new_table(lent.block.as_mut_ptr(), lent.block.len(), table) };
+        match refusal(answer) {
+            0 => Some(Vdp { lent: RefCell::new(lent), refused: Cell::new(0) }),
+            _ => None,
+        }
     }
 
     /// The number by which the last call was refused; 0 where it was accepted.

@@ -2,7 +2,7 @@
 -- Assumes nothing.
 use mathlib.Core.Path.{_≡_, sym, ap, _∙_}
 use mathlib.Core.List.{List}
-use Prim.Native.Nat.{ℕ, _+_, _*_, _/_, _%_, _<_}
+use Prim.Native.Nat.{ℕ, _+_, _*_, _/_, _%_, _≤_, _<_}
 use native.Mathlib.Omega.{arith}
 use lib.ListN.{length, set, replicate}
 use lib.Seq.{paste}
@@ -26,7 +26,7 @@ colour-byte cs i j hi hj =
 
 -- four stores are one turn
 pub colour-step :
-    (d : List ℕ) (cs : List ℕ) (i : ℕ) {d′ : List ℕ} → i < 32 → length d ≡ 219 → d′ ≡ paste d 91 (colourBytes cs) (4 * i)
+    (d : List ℕ) (cs : List ℕ) (i : ℕ) {d′ : List ℕ} → i < 32 → 219 ≤ length d → d′ ≡ paste d 91 (colourBytes cs) (4 * i)
     → set
     (set
     (set (set d′ (91 + 4 * i) (at cs i % 256)) (91 + 4 * i + 1) (at cs i / 256 % 256))

@@ -2,28 +2,31 @@
 -- Assumes nothing.
 use mathlib.Core.Path.{_≡_, refl, sym, ap, _∙_}
 use mathlib.Core.Bool.{Bool, true, false, _&&_}
-use mathlib.Core.List.{List, _++_}
+use mathlib.Core.List.{List, [], _∷_, _++_}
 use Prim.Native.Nat.{ℕ, zero, suc, _+_, _*_, _/_, _%_, _<_, _≤_}
 use native.Mathlib.Omega.{arith}
 use borrow.Author.Tests.{eq-eqb, ne-eqb, eqb-true, leb-true}
 use lib.Dec.{eqb, leb}
-use lib.ListN.{length, take, drop, length-append, length-drop}
-use lib.Seq.{take-at, drop-at, drop-drop, getD-drop}
+use lib.ListN.{length, take, drop, length-append, length-take, length-drop, drop-of-length-le, List·getD-append}
+use lib.Seq.{take-at, drop-at, drop-drop, getD-take, getD-drop}
 use Rattle.laws.specs.Lists.{at}
 use Rattle.laws.specs.Paint.{byteOfColour, ofBytes}
 use Rattle.laws.specs.Table.{tableFrom}
 use Rattle.laws.proofs.Bytes.{byte-0, byte-1, byte-2, byte-3, of-bytes}
 use Rattle.laws.proofs.Parts.{part-table, parted, at-past}
 use Rattle.laws.proofs.Tables.{is-table, getD-table}
-use Rattle.laws.proofs.Tests.{both}
+use Rattle.laws.proofs.Tests.{both, either, split}
+use Rattle.raster.specs.declared.LineTable.{LineTable}
+use Rattle.raster.specs.declared.LineTable.the-variants.{Steps261, Steps262}
+use Rattle.raster.specs.Raster.{lineTableNumber, lineTableFrom}
 use Rattle.vdp.specs.declared.VdpState.{VdpState}
 use Rattle.vdp.specs.declared.WriteDest.{WriteDest}
 use Rattle.vdp.specs.declared.WriteDest.the-variants.{None, Vram, Cram}
 use Rattle.vdp.specs.declared.Latch.{Latch}
 use Rattle.vdp.specs.declared.Latch.the-variants.{Empty, Held}
-use Rattle.block.specs.Block.{flagOf, flagFrom, chosenOf, chosenFrom, latchFlag, latchByte, latchFrom, head, small, colourAt, colourBytes, coloursAt, blockOf, stateOf, marked, flagged, latchFits, wellFormed, decoded, Shape}
+use Rattle.block.specs.Block.{sized, markOf, fits, last, flagOf, flagFrom, chosenOf, chosenFrom, latchFlag, latchByte, latchFrom, head, small, colourAt, colourBytes, coloursAt, blockOf, stateOf, marked, flagged, latchFits, wellFormed, decoded, Shape}
 use Rattle.block.proofs.Copies.{length-colourBytes, colour-byte}
-use Rattle.block.proofs.Whole.{length-small, long}
+use Rattle.block.proofs.Whole.{length-small, last-old, last-new, length-last, fits-sized, length-of, long}
 
 -- ---- the small fields
 flag-back : (t : Bool) → flagFrom (flagOf t) ≡ t
@@ -56,74 +59,96 @@ byte-ok : (l : Latch) → latchFits (latchFlag l) (latchByte l) ≡ true
 byte-ok Empty = refl
 byte-ok (Held b) = refl
 
+number-ok : (t : LineTable) → leb (lineTableNumber t) 1 ≡ true
+number-ok Steps261 = refl
+number-ok Steps262 = refl
+
 address-back : (a : ℕ) → a % 256 + 256 * (a / 256) ≡ a
 address-back a = omega arith
 
 -- ---- a device is read back
-module _ (s : VdpState) (g : Shape s) where
+module _ (n : ℕ) (s : VdpState) (g : Shape s) where
   rest : List ℕ
-  rest = s .cram ++ colourBytes (s .«color_cache»)
+  rest = s .cram ++ (colourBytes (s .«color_cache») ++ last n s)
 
-  front : length (head s ++ s .reg) ≡ 14
+  front : length (head n s ++ s .reg) ≡ 14
   unfolding head
   front = ap (λ (n : ℕ). suc (suc (suc n))) (g .registers)
 
-  field : (k : ℕ) → at (blockOf s) (14 + k) ≡ at (small s ++ rest) k
+  field : (k : ℕ) → at (blockOf n s) (14 + k) ≡ at (small s ++ rest) k
   unfolding blockOf head rest
-  field k = at-past (head s ++ s .reg) (small s ++ rest) 14 k front
+  field k = at-past (head n s ++ s .reg) (small s ++ rest) 14 k front
 
-  after : drop 27 (blockOf s) ≡ rest
+  after : drop 27 (blockOf n s) ≡ rest
   unfolding blockOf head small rest
-  after = sym (drop-drop 13 14 (blockOf s)) ∙ ap (drop 13) (drop-at (head s ++ s .reg) (small s ++ rest) 14 front)
+  after = sym (drop-drop 13 14 (blockOf n s)) ∙ ap (drop 13) (drop-at (head n s ++ s .reg) (small s ++ rest) 14 front)
 
-  cached : (k : ℕ) → at (blockOf s) (91 + k) ≡ at (colourBytes (s .«color_cache»)) k
+  behind : (k : ℕ) → at (blockOf n s) (91 + k) ≡ at (colourBytes (s .«color_cache») ++ last n s) k
   unfolding rest
-  cached k =
+  behind k =
       let e : 91 + k ≡ 27 + (64 + k) = omega arith in
-      ap (at (blockOf s)) e
-      ∙ sym (getD-drop 27 (blockOf s) (64 + k) 0)
+      ap (at (blockOf n s)) e
+      ∙ sym (getD-drop 27 (blockOf n s) (64 + k) 0)
       ∙ ap (λ (l : List ℕ). at l (64 + k)) after
-      ∙ at-past (s .cram) (colourBytes (s .«color_cache»)) 64 k (g .palette)
+      ∙ at-past (s .cram) (colourBytes (s .«color_cache») ++ last n s) 64 k (g .palette)
 
-  one-byte : (i j : ℕ) → i < 32 → j < 4 → at (blockOf s) (91 + 4 * i + j) ≡ byteOfColour (at (s .«color_cache») i) j
+  cached : (k : ℕ) → k < 128 → at (blockOf n s) (91 + k) ≡ at (colourBytes (s .«color_cache»)) k
+  cached k h =
+      behind k ∙ List·getD-append (colourBytes (s .«color_cache»)) (last n s) 0 k (rw (length-colourBytes (s .«color_cache»)) h)
+
+  table-byte : at (blockOf n s) 219 ≡ at (last n s) 0
+  table-byte = behind 128 ∙ at-past (colourBytes (s .«color_cache»)) (last n s) 128 0 (length-colourBytes (s .«color_cache»))
+
+  one-byte : (i j : ℕ) → i < 32 → j < 4 → at (blockOf n s) (91 + 4 * i + j) ≡ byteOfColour (at (s .«color_cache») i) j
   one-byte i j hi hj =
       let e : 91 + 4 * i + j ≡ 91 + (4 * i + j) = omega arith in
-      ap (at (blockOf s)) e ∙ cached (4 * i + j) ∙ sym (colour-byte (s .«color_cache») i j hi hj)
+      ap (at (blockOf n s)) e ∙ cached (4 * i + j) (omega arith) ∙ sym (colour-byte (s .«color_cache») i j hi hj)
 
-  one-colour : (i : ℕ) → i < 32 → at (s .«color_cache») i ≡ colourAt (blockOf s) (91 + 4 * i)
+  one-colour : (i : ℕ) → i < 32 → at (s .«color_cache») i ≡ colourAt (blockOf n s) (91 + 4 * i)
   unfolding colourAt
   one-colour i hi =
       let z : 91 + 4 * i ≡ 91 + 4 * i + 0 = omega arith in
-      let k : List ℕ = blockOf s in
+      let k : List ℕ = blockOf n s in
       sym
       (ap (λ (n : ℕ). ofBytes (at k n) (at k (91 + 4 * i + 1)) (at k (91 + 4 * i + 2)) (at k (91 + 4 * i + 3))) z
       ∙ rw (one-byte i 0 hi (omega arith), one-byte i 1 hi (omega arith), one-byte i 2 hi (omega arith), one-byte i 3 hi (omega arith))
       (of-bytes (at (s .«color_cache») i) (g .colour i)))
 
-  colours-back : coloursAt (blockOf s) ≡ s .«color_cache»
+  colours-back : coloursAt (blockOf n s) ≡ s .«color_cache»
   unfolding coloursAt
-  colours-back = sym (is-table (s .«color_cache») 32 (λ i. colourAt (blockOf s) (91 + 4 * i)) (g .cache) one-colour)
+  colours-back = sym (is-table (s .«color_cache») 32 (λ i. colourAt (blockOf n s) (91 + 4 * i)) (g .cache) one-colour)
 
-  registers-back : take 11 (drop 3 (blockOf s)) ≡ s .reg
+  registers-back : take 11 (drop 3 (blockOf n s)) ≡ s .reg
   unfolding blockOf head
-  registers-back = take-at (s .reg) (small s ++ (s .cram ++ colourBytes (s .«color_cache»))) 11 (g .registers)
+  registers-back = take-at (s .reg) (small s ++ (s .cram ++ (colourBytes (s .«color_cache») ++ last n s))) 11 (g .registers)
 
-  palette-back : take 64 (drop 27 (blockOf s)) ≡ s .cram
+  palette-back : take 64 (drop 27 (blockOf n s)) ≡ s .cram
   unfolding rest
-  palette-back = ap (take 64) after ∙ take-at (s .cram) (colourBytes (s .«color_cache»)) 64 (g .palette)
+  palette-back = ap (take 64) after ∙ take-at (s .cram) (colourBytes (s .«color_cache») ++ last n s) 64 (g .palette)
 
   -- what each byte from 14 to 26 is
-  byte : (k : ℕ) {x : ℕ} → at (small s ++ rest) k ≡ x → at (blockOf s) (14 + k) ≡ x
+  byte : (k : ℕ) {x : ℕ} → at (small s ++ rest) k ≡ x → at (blockOf n s) (14 + k) ≡ x
   byte k e = field k ∙ e
 
-  status-back : at (blockOf s) 2 ≡ s .status
+  status-back : at (blockOf n s) 2 ≡ s .status
   unfolding blockOf head
   status-back = refl
 
-  pub state-back : stateOf (blockOf s) ≡ s
+  module _ (room : fits (s .raster .table) n ≡ true) where
+    table-of : (t : LineTable) → s .raster .table ≡ t → fits t n ≡ true → lineTableFrom (at (last n s) 0) ≡ t
+    table-of Steps261 e h =
+        split (eqb n 219)
+        (λ o. rw (last-old n s (eqb-true n 219 o)))
+        (λ o. rw (last-new n s (eqb-true n 220 (rw o at h)), e))
+    table-of Steps262 e h = rw (last-new n s (eqb-true n 220 h), e)
+
+    table-back : lineTableFrom (at (blockOf n s) 219) ≡ s .raster .table
+    table-back = ap lineTableFrom table-byte ∙ table-of (s .raster .table) refl room
+
+  pub state-back : fits (s .raster .table) n ≡ true → stateOf (blockOf n s) ≡ s
   unfolding stateOf small
-  state-back =
-      let k : List ℕ = blockOf s in
+  state-back room =
+      let k : List ℕ = blockOf n s in
       λ i. record {
         status = status-back i;
         reg = registers-back i;
@@ -133,6 +158,7 @@ module _ (s : VdpState) (g : Shape s) where
               «v_counter_jumped» = (ap flagFrom (byte 1 refl) ∙ flag-back (s .raster .«v_counter_jumped»)) i;
               «line_interrupt_counter» = byte 2 refl i;
               «vertical_scroll» = byte 11 refl i;
+              table = table-back room i;
             };
         addr = (ap (λ (x : ℕ). x + 256 * at k 18) (byte 3 refl) ∙ ap (λ (x : ℕ). s .addr % 256 + 256 * x) (byte 4 refl) ∙ address-back (s .addr)) i;
         «vram_buffer» = byte 5 refl i;
@@ -144,24 +170,30 @@ module _ (s : VdpState) (g : Shape s) where
         «color_cache» = colours-back i;
       }
 
-  pub length-block : length (blockOf s) ≡ 219
+  pub length-block : sized n ≡ true → length (blockOf n s) ≡ n
   unfolding blockOf head
-  length-block = simp length-append (omega (arith, g .registers, g .palette, length-small s, length-colourBytes (s .«color_cache»)))
+  length-block h = simp length-append (omega (arith, g .registers, g .palette, length-small s, length-colourBytes (s .«color_cache»), length-last n s h))
 
-  mark-back : (at (blockOf s) 0 ≡ 0x56) × (at (blockOf s) 1 ≡ 0x53)
+  mark-back : (at (blockOf n s) 0 ≡ 0x56) × (at (blockOf n s) 1 ≡ markOf n)
   unfolding blockOf head
   mark-back = (refl, refl)
 
-  pub good-block : wellFormed (blockOf s) ≡ true
+  -- byte 219 is a table's number, or is not there
+  table-ok : leb (at (blockOf n s) 219) 1 ≡ true
+  unfolding last
+  table-ok = rw table-byte (either (λ (l : List ℕ). leb (at l 0) 1 ≡ true) (eqb n 219) (λ _. refl) (λ _. number-ok (s .raster .table)))
+
+  pub good-block : fits (s .raster .table) n ≡ true → wellFormed (blockOf n s) ≡ true
   unfolding wellFormed small
-  good-block =
-      rw (eq-eqb (length (blockOf s)) 219 length-block, mark-back .0, mark-back .1, byte 1 refl, byte 6 refl, byte 7 refl, byte 8 refl, byte 9 refl, byte 10 refl, byte 12 refl)
+  good-block room =
+      let h : sized n ≡ true = fits-sized (s .raster .table) n room in
+      rw (length-block h, h, mark-back .0, mark-back .1, eq-eqb (markOf n) (markOf n) refl, byte 1 refl, byte 6 refl, byte 7 refl, byte 8 refl, byte 9 refl, byte 10 refl, byte 12 refl, table-ok)
       (rw (flag-ok (s .raster .«v_counter_jumped»), chosen-ok (s .dest), latch-ok (s .«cmd_byte1»), latch-ok (s .«cram_byte1»), flag-ok (s .«cram_dirty»), byte-ok (s .«cmd_byte1»), byte-ok (s .«cram_byte1»)))
 
   -- decode after encode
-  pub decoded-back : decoded (blockOf s) ≡ record { good = true; vdp = s }
+  pub decoded-back : fits (s .raster .table) n ≡ true → decoded (blockOf n s) ≡ record { good = true; vdp = s }
   unfolding decoded
-  decoded-back = rw (good-block, state-back)
+  decoded-back room = rw (good-block room, state-back room)
 
 -- ---- a well-formed block is the block of its device
 flag-in : (x : ℕ) → x ≤ 1 → flagOf (flagFrom x) ≡ x
@@ -174,6 +206,16 @@ chosen-in zero h = refl
 chosen-in (suc zero) h = refl
 chosen-in (suc (suc zero)) h = refl
 chosen-in (suc (suc (suc x))) h = absurd (omega arith)
+
+number-in : (x : ℕ) → x ≤ 1 → lineTableNumber (lineTableFrom x) ≡ x
+number-in zero h = refl
+number-in (suc zero) h = refl
+number-in (suc (suc x)) h = absurd (omega arith)
+
+one-left : (l : List ℕ) → length l ≡ 1 → l ≡ at l 0 ∷ []
+one-left [] h = absurd (omega arith)
+one-left (x ∷ []) h = refl
+one-left (x ∷ y ∷ l) h = absurd (omega arith)
 
 latch-flag-in : (f y : ℕ) → f ≤ 1 → latchFlag (latchFrom f y) ≡ f
 latch-flag-in zero y h = refl
@@ -188,12 +230,13 @@ module _ (b : List ℕ) (w : wellFormed b ≡ true) (bytes : (i : ℕ) → at b 
   -- what well formed says, part by part
   record Said : Type 0 where
     mark-0 : at b 0 ≡ 0x56
-    mark-1 : at b 1 ≡ 0x53
+    mark-1 : at b 1 ≡ markOf (length b)
     flag-15 : at b 15 ≤ 1
     chosen-20 : at b 20 ≤ 2
     flag-21 : at b 21 ≤ 1
     flag-23 : at b 23 ≤ 1
     flag-26 : at b 26 ≤ 1
+    table-219 : at b 219 ≤ 1
     command : latchFits (at b 21) (at b 22) ≡ true
     palette : latchFits (at b 23) (at b 24) ≡ true
 
@@ -202,32 +245,35 @@ module _ (b : List ℕ) (w : wellFormed b ≡ true) (bytes : (i : ℕ) → at b 
   said =
       let c = latchFits (at b 21) (at b 22) in
       let p = latchFits (at b 23) (at b 24) in
-      let all = both (eqb (length b) 219) (marked b && flagged b && c && p) w .1 in
+      let all = both (sized (length b)) (marked b && flagged b && c && p) w .1 in
       let three = both (marked b && flagged b && c) p all in
       let two = both (marked b && flagged b) c (three .0) in
       let one = both (marked b) (flagged b) (two .0) in
-      let mark = both (eqb (at b 0) 0x56) (eqb (at b 1) 0x53) (one .0) in
+      let mark = both (eqb (at b 0) 0x56) (eqb (at b 1) (markOf (length b))) (one .0) in
       let t15 = leb (at b 15) 1 in
       let t20 = leb (at b 20) 2 in
       let t21 = leb (at b 21) 1 in
       let t23 = leb (at b 23) 1 in
-      let f26 = both (t15 && t20 && t21 && t23) (leb (at b 26) 1) (one .1) in
+      let t26 = leb (at b 26) 1 in
+      let f219 = both (t15 && t20 && t21 && t23 && t26) (leb (at b 219) 1) (one .1) in
+      let f26 = both (t15 && t20 && t21 && t23) t26 (f219 .0) in
       let f23 = both (t15 && t20 && t21) t23 (f26 .0) in
       let f21 = both (t15 && t20) t21 (f23 .0) in
       let f20 = both t15 t20 (f21 .0) in
       record {
         mark-0 = eqb-true (at b 0) 0x56 (mark .0);
-        mark-1 = eqb-true (at b 1) 0x53 (mark .1);
+        mark-1 = eqb-true (at b 1) (markOf (length b)) (mark .1);
         flag-15 = leb-true (at b 15) 1 (f20 .0);
         chosen-20 = leb-true (at b 20) 2 (f20 .1);
         flag-21 = leb-true (at b 21) 1 (f21 .1);
         flag-23 = leb-true (at b 23) 1 (f23 .1);
         flag-26 = leb-true (at b 26) 1 (f26 .1);
+        table-219 = leb-true (at b 219) 1 (f219 .1);
         command = two .1;
         palette = three .1;
       }
 
-  head-in : head (stateOf b) ≡ take 3 (drop 0 b)
+  head-in : head (length b) (stateOf b) ≡ take 3 (drop 0 b)
   unfolding head stateOf tableFrom
   head-in = rw (← said .mark-0, ← said .mark-1) (part-table 3 0 b (omega (arith, long b w)))
 
@@ -247,25 +293,41 @@ module _ (b : List ℕ) (w : wellFormed b ≡ true) (bytes : (i : ℕ) → at b 
   four i (suc (suc (suc zero))) h = byte-3 (at b i) (at b (i + 1)) (at b (i + 2)) (at b (i + 3)) (bytes i) (bytes (i + 1)) (bytes (i + 2)) (bytes (i + 3))
   four i (suc (suc (suc (suc r)))) h = absurd (omega arith)
 
-  colours-in : colourBytes (coloursAt b) ≡ drop 91 b
+  colours-in : colourBytes (coloursAt b) ≡ take 128 (drop 91 b)
   unfolding colourBytes coloursAt
   colours-in =
       sym
-      (is-table (drop 91 b) 128 (λ k. byteOfColour (at (coloursAt b) (k / 4)) (k % 4)) (simp length-drop (omega (arith, long b w)))
+      (is-table (take 128 (drop 91 b)) 128 (λ k. byteOfColour (at (coloursAt b) (k / 4)) (k % 4)) (simp (length-take, length-drop) (omega (arith, long b w)))
       (λ k h.
       let q : k / 4 < 32 = omega arith in
       let r : k % 4 < 4 = omega arith in
       let e : 91 + k ≡ 91 + 4 * (k / 4) + k % 4 = omega arith in
-      getD-drop 91 b k 0 ∙ ap (at b) e ∙ sym (four (91 + 4 * (k / 4)) (k % 4) r) ∙ ap (λ (c : ℕ). byteOfColour c (k % 4)) (sym (getD-table 32 (λ i. colourAt b (91 + 4 * i)) (k / 4) q))))
+      getD-take 128 (drop 91 b) k 0 h ∙ getD-drop 91 b k 0 ∙ ap (at b) e ∙ sym (four (91 + 4 * (k / 4)) (k % 4) r) ∙ ap (λ (c : ℕ). byteOfColour c (k % 4)) (sym (getD-table 32 (λ i. colourAt b (91 + 4 * i)) (k / 4) q))))
+
+  last-in : last (length b) (stateOf b) ≡ drop 219 b
+  unfolding stateOf
+  last-in =
+      split (eqb (length b) 219)
+      (λ t.
+      let e : length b ≡ 219 = eqb-true (length b) 219 t in
+      let h : length b ≤ 219 = omega arith in
+      last-old (length b) (stateOf b) e ∙ sym (drop-of-length-le b h))
+      (λ t.
+      let e : length b ≡ 220 = eqb-true (length b) 220 (rw t at (length-of b w)) in
+      last-new (length b) (stateOf b) e
+      ∙ rw (number-in (at b 219) (said .table-219))
+      (sym (one-left (drop 219 b) (simp length-drop (omega arith)) ∙ rw (getD-drop 219 b 0 0))))
 
   -- encode after decode
-  pub block-back : blockOf (stateOf b) ≡ b
+  pub block-back : blockOf (length b) (stateOf b) ≡ b
   unfolding blockOf stateOf
   block-back =
-      rw (head-in, small-in, colours-in)
+      rw (head-in, small-in, colours-in, last-in)
       (sym
       (parted 3 0 b
       ∙ ap (λ (x : List ℕ). take 3 b ++ x)
       (parted 11 3 b
       ∙ ap (λ (x : List ℕ). take 11 (drop 3 b) ++ x)
-      (parted 13 14 b ∙ ap (λ (x : List ℕ). take 13 (drop 14 b) ++ x) (parted 64 27 b)))))
+      (parted 13 14 b
+      ∙ ap (λ (x : List ℕ). take 13 (drop 14 b) ++ x)
+      (parted 64 27 b ∙ ap (λ (x : List ℕ). take 64 (drop 27 b) ++ x) (parted 128 91 b))))))

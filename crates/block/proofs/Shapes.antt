@@ -1,16 +1,20 @@
--- A fresh device has the shape that the block asks, and every port call keeps it.
+-- A fresh device of either table has the shape that the block asks, so has that of a well-formed block, and every port call keeps it.
 -- Assumes nothing.
-use Prim.Native.Nat.{ℕ, zero, suc, _+_, _-_, _%_, _/_, _<_}
+use Prim.Native.Nat.{ℕ, zero, suc, _+_, _-_, _*_, _%_, _/_, _≤_, _<_}
 use mathlib.Core.Path.{_≡_, refl}
 use mathlib.Core.List.{List}
-use mathlib.Core.Bool.{Bool}
+use mathlib.Core.Bool.{Bool, true}
+use native.Mathlib.Decide.{decLt}
 use native.Mathlib.Omega.{arith}
 use lib.Dec.{ltb, eqb}
-use lib.ListN.{set, length-set, replicate}
+use lib.ListN.{length, take, drop, set, length-set, length-take, length-drop, replicate, List·getD-eq-default}
+use lib.Seq.{getD-take, getD-drop}
 use Rattle.laws.specs.Lists.{at}
 use Rattle.laws.proofs.Parts.{set-below}
+use Rattle.laws.proofs.Tables.{getD-table}
 use Rattle.laws.proofs.Tests.{either}
 use Rattle.raster.specs.declared.Raster.{Raster}
+use Rattle.raster.specs.declared.LineTable.{LineTable}
 use Rattle.vdp.specs.declared.VdpState.{VdpState}
 use Rattle.vdp.specs.declared.Written.{Written}
 use Rattle.vdp.specs.declared.ReadBack.{ReadBack}
@@ -18,18 +22,20 @@ use Rattle.vdp.specs.declared.WriteDest.{WriteDest}
 use Rattle.vdp.specs.declared.WriteDest.the-variants.{None, Vram, Cram}
 use Rattle.vdp.specs.declared.Latch.{Latch}
 use Rattle.vdp.specs.declared.Latch.the-variants.{Empty, Held}
-use Rattle.vdp.specs.Device.{device, fresh, unlatched, withReg, withPaletteByte, withAddr}
+use Rattle.vdp.specs.Device.{device, made, unlatched, withReg, withPaletteByte, withAddr}
 use Rattle.vdp.specs.Refusals.{whole, isPort}
 use Rattle.vdp.specs.Ports.{After, secondByte, commandBy, oddPalette, paletteWrite, dataBy, readBy, portWrite, portRead}
-use Rattle.block.specs.Block.{latchByte, Shape}
+use Rattle.block.specs.Block.{latchByte, latchFrom, colourAt, coloursAt, wellFormed, stateOf, Shape}
+use Rattle.block.proofs.Copies.{length-coloursAt}
+use Rattle.block.proofs.Whole.{long}
 
 zeros : (n i : ℕ) → at (replicate n 0) i ≡ 0
 zeros zero i = refl
 zeros (suc n) zero = refl
 zeros (suc n) (suc i) = zeros n i
 
-pub fresh-shape : Shape fresh
-fresh-shape =
+pub made-shape : (t : LineTable) → Shape (made t)
+made-shape t =
     record {
       registers = refl;
       palette = refl;
@@ -38,6 +44,42 @@ fresh-shape =
       latched = omega arith;
       colour = λ i. rw (zeros 32 i) (omega arith);
     }
+
+-- and so has the device of a well-formed block
+module _ (b : List ℕ) (w : wellFormed b ≡ true) (bytes : (i : ℕ) → at b i < 256) where
+  part-byte : (n k i : ℕ) → at (take n (drop k b)) i < 256
+  part-byte n k i =
+      elim (decLt i n) [
+        | yes l ↦ rw (getD-take n (drop k b) i 0 l, getD-drop k b i 0) (bytes (k + i))
+        | no l ↦
+            let h : length (take n (drop k b)) ≤ i = simp length-take (omega arith) in
+            rw (List·getD-eq-default (take n (drop k b)) 0 h) (omega arith)
+      ]
+
+  latch-low : (f x : ℕ) → x < 256 → latchByte (latchFrom f x) < 256
+  latch-low f x h = either (λ (l : Latch). latchByte l < 256) (eqb f 0) (λ _. omega arith) (λ _. h)
+
+  colour-low : (i : ℕ) → at (coloursAt b) i < 4294967296
+  unfolding coloursAt colourAt
+  colour-low i =
+      elim (decLt i 32) [
+        | yes l ↦ rw (getD-table 32 (λ k. colourAt b (91 + 4 * k)) i l) (omega (arith, bytes (91 + 4 * i), bytes (91 + 4 * i + 1), bytes (91 + 4 * i + 2), bytes (91 + 4 * i + 3)))
+        | no l ↦
+            let h : length (coloursAt b) ≤ i = omega (arith, length-coloursAt b) in
+            rw (List·getD-eq-default (coloursAt b) 0 h) (omega arith)
+      ]
+
+  pub state-shape : Shape (stateOf b)
+  unfolding stateOf
+  state-shape =
+      record {
+        registers = simp (length-take, length-drop) (omega (arith, long b w));
+        palette = simp (length-take, length-drop) (omega (arith, long b w));
+        cache = length-coloursAt b;
+        byte = part-byte 64 27;
+        latched = latch-low (at b 23) (at b 24) (bytes 24);
+        colour = colour-low;
+      }
 
 module _ {s : VdpState} (g : Shape s) where
   -- the fields that the shape does not speak of are any

@@ -4,13 +4,13 @@ use mathlib.Core.Path.{_≡_, refl, sym, ap, _∙_}
 use mathlib.Core.List.{List, _++_, append-nil, append-assoc}
 use Prim.Native.Nat.{ℕ, _+_, _≤_}
 use native.Mathlib.Omega.{arith}
-use lib.ListN.{length, take, drop, length-append, length-take, length-drop, drop-of-length-le, replicate}
+use lib.ListN.{length, take, drop, length-append, length-take, length-drop, replicate}
 use lib.Seq.{paste, drop-at}
 use Rattle.laws.proofs.Parts.{pasted, set-past}
 use Rattle.raster.specs.declared.Raster.{Raster}
 use Rattle.vdp.specs.declared.VdpState.{VdpState}
 use Rattle.vdp.specs.Device.{withStatus, withRaster, withCache}
-use Rattle.block.specs.Block.{rasterStored, cacheStored, head, small, colourBytes, stateOf, blockOf, Sized}
+use Rattle.block.specs.Block.{rasterStored, cacheStored, head, small, last, colourBytes, stateOf, blockOf, Sized}
 use Rattle.block.proofs.Copies.{length-colourBytes}
 use Rattle.block.proofs.Whole.{length-head, length-small}
 
@@ -22,30 +22,30 @@ pub palette-is : (b : List ℕ) {r : List ℕ} → r ≡ paste (replicate 64 0) 
 unfolding stateOf
 palette-is b e = e ∙ append-nil (take 64 (drop 27 b))
 
-pub sized : (b : List ℕ) → length b ≡ 219 → Sized (stateOf b)
+pub sized-state : (b : List ℕ) → 219 ≤ length b → Sized (stateOf b)
 unfolding stateOf
-sized b h = record { registers = simp (length-take, length-drop) (omega arith); palette = simp (length-take, length-drop) (omega arith) }
+sized-state b h = record { registers = simp (length-take, length-drop) (omega arith); palette = simp (length-take, length-drop) (omega arith) }
 
-module _ (s : VdpState) (g : Sized s) where
-  rest : List ℕ
-  rest = s .cram ++ colourBytes (s .«color_cache»)
-
-  pub raster-stored : (b : List ℕ) (status : ℕ) (r : Raster) → b ≡ blockOf s → rasterStored status r b ≡ blockOf (withRaster (withStatus s status) r)
-  unfolding blockOf head small
-  raster-stored b status r e =
-      rw e
+module _ (n : ℕ) (s : VdpState) (g : Sized s) where
+  pub raster-stored :
+      (b : List ℕ) (status : ℕ) (r : Raster) → r .table ≡ s .raster .table → b ≡ blockOf n s →
+      rasterStored status r b ≡ blockOf n (withRaster (withStatus s status) r)
+  unfolding blockOf head small last
+  raster-stored b status r t e =
+      rw (e, t)
       (rw (set-past (s .reg) _ 11 0 _ (g .registers), set-past (s .reg) _ 11 1 _ (g .registers), set-past (s .reg) _ 11 2 _ (g .registers), set-past (s .reg) _ 11 11 _ (g .registers)))
 
-  pub cache-stored : (b colours : List ℕ) → b ≡ blockOf s → cacheStored colours b ≡ blockOf (withCache s colours)
-  unfolding blockOf head small
+  pub cache-stored : (b colours : List ℕ) → b ≡ blockOf n s → cacheStored colours b ≡ blockOf n (withCache s colours)
+  unfolding blockOf head small last
   cache-stored b colours e =
       let b1 : List ℕ = paste b 91 (colourBytes colours) 128 in
-      let p : List ℕ = ((head s ++ s .reg) ++ small s) ++ s .cram in
+      let p : List ℕ = ((head n s ++ s .reg) ++ small s) ++ s .cram in
       let cb : List ℕ = colourBytes (s .«color_cache») in
-      let n : length p ≡ 91 = simp length-append (omega (arith, g .registers, g .palette, length-head s, length-small s)) in
-      let z : length (p ++ cb) ≤ 219 = simp length-append (omega (arith, g .registers, g .palette, length-head s, length-small s, length-colourBytes (s .«color_cache»))) in
-      let x : b ≡ p ++ cb = e ∙ simp append-assoc in
-      let y : b ≡ p ++ drop 91 (p ++ cb) = x ∙ ap (λ (l : List ℕ). p ++ l) (sym (drop-at p cb 91 n)) in
-      let w : b1 ≡ (p ++ colourBytes colours) ++ drop 219 (p ++ cb) = pasted p (p ++ cb) (colourBytes colours) 91 128 n (length-colourBytes colours) y refl in
-      let v : b1 ≡ head s ++ (s .reg ++ (small s ++ (s .cram ++ colourBytes colours))) = w ∙ ap (λ (l : List ℕ). (p ++ colourBytes colours) ++ l) (drop-of-length-le (p ++ cb) z) ∙ simp (append-nil, append-assoc) in
+      let k : length p ≡ 91 = simp length-append (omega (arith, g .registers, g .palette, length-head n s, length-small s)) in
+      let z : length (p ++ cb) ≡ 219 = simp length-append (omega (arith, g .registers, g .palette, length-head n s, length-small s, length-colourBytes (s .«color_cache»))) in
+      let x : b ≡ p ++ (cb ++ last n s) = e ∙ simp append-assoc in
+      let y : b ≡ p ++ drop 91 (p ++ (cb ++ last n s)) = x ∙ ap (λ (l : List ℕ). p ++ l) (sym (drop-at p (cb ++ last n s) 91 k)) in
+      let w : b1 ≡ (p ++ colourBytes colours) ++ drop 219 (p ++ (cb ++ last n s)) = pasted p (p ++ (cb ++ last n s)) (colourBytes colours) 91 128 k (length-colourBytes colours) y refl in
+      let q : drop 219 (p ++ (cb ++ last n s)) ≡ last n s = ap (drop 219) (sym (append-assoc p cb (last n s))) ∙ drop-at (p ++ cb) (last n s) 219 z in
+      let v : b1 ≡ head n s ++ (s .reg ++ (small s ++ (s .cram ++ (colourBytes colours ++ last n s)))) = w ∙ ap (λ (l : List ℕ). (p ++ colourBytes colours) ++ l) q ∙ simp append-assoc in
       rw v (rw (set-past (s .reg) _ 11 12 _ (g .registers)))

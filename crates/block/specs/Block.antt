@@ -1,5 +1,5 @@
--- R7.5, R7.6: the state block, a device as 219 bytes: mark, status, registers (from 3 on), the raster, address, read buffer, chosen memory, the two latches,
--- scroll, dirty, palette (from 27 on) and cache (from 91 on).
+-- R7.5, R7.6: the state block, a device as 219 or 220 bytes: mark, status, registers (from 3 on), the raster, address, read buffer, chosen memory, the two
+-- latches, scroll, dirty, palette (from 27 on), cache (from 91 on) and, in its second version, the table (219).
 -- Assumes nothing.
 use Prim.Native.Nat.{ℕ, _+_, _*_, _/_, _%_, _<_}
 use mathlib.Core.Path.{_≡_}
@@ -12,6 +12,9 @@ use Rattle.laws.specs.Lists.{at}
 use Rattle.laws.specs.Paint.{byteOfColour, ofBytes}
 use Rattle.laws.specs.Table.{table}
 use Rattle.raster.specs.declared.Raster.{Raster}
+use Rattle.raster.specs.declared.LineTable.{LineTable}
+use Rattle.raster.specs.declared.LineTable.the-variants.{Steps261, Steps262}
+use Rattle.raster.specs.Raster.{lineTableNumber, lineTableFrom}
 use Rattle.vdp.specs.declared.VdpState.{VdpState}
 use Rattle.vdp.specs.declared.WriteDest.{WriteDest}
 use Rattle.vdp.specs.declared.WriteDest.the-variants.{None, Vram, Cram}
@@ -20,8 +23,23 @@ use Rattle.vdp.specs.declared.Latch.the-variants.{Empty, Held}
 use Rattle.vdp.specs.Device.{fresh}
 use Rattle.block.specs.declared.Decoded.{Decoded}
 
+-- R7.5: the bytes of the first version, which knows table 0 alone, and of the second; so its length n tells a block's version, and its mark
+abbrev pub oldSize : ℕ
+oldSize = 219
+
 abbrev pub blockSize : ℕ
-blockSize = 219
+blockSize = 220
+
+abbrev pub sized : ℕ → Bool
+sized n = eqb n oldSize || eqb n blockSize
+
+abbrev pub markOf : ℕ → ℕ
+markOf n = cond (eqb n oldSize) 0x53 0x54
+
+-- the lengths that have room for a device of this table
+abbrev pub fits : LineTable → ℕ → Bool
+fits Steps261 n = sized n
+fits Steps262 n = eqb n blockSize
 
 -- ---- the small fields: a flag is 0 or 1; the chosen memory has a number (R11.11); a latch is a flag and a byte, 0 under flag 0
 abbrev pub flagOf : Bool → ℕ
@@ -60,9 +78,9 @@ colourAt b i = ofBytes (at b i) (at b (i + 1)) (at b (i + 2)) (at b (i + 3))
 unfoldable pub coloursAt : List ℕ → List ℕ
 coloursAt b = table 32 (λ i. colourAt b (91 + 4 * i))
 
--- ---- the block of a device: bytes 0 to 2, the registers, bytes 14 to 26, the palette, the cache
-unfoldable pub head : VdpState → List ℕ
-head s = 0x56 ∷ 0x53 ∷ s .status ∷ []
+-- ---- the block of a device, n bytes long: bytes 0 to 2, the registers, bytes 14 to 26, the palette, the cache, the table
+unfoldable pub head : ℕ → VdpState → List ℕ
+head n s = 0x56 ∷ markOf n ∷ s .status ∷ []
 
 unfoldable pub small : VdpState → List ℕ
 small s =
@@ -81,10 +99,13 @@ small s =
     ∷ flagOf (s .«cram_dirty»)
     ∷ []
 
-unfoldable pub blockOf : VdpState → List ℕ
-blockOf s = head s ++ (s .reg ++ (small s ++ (s .cram ++ colourBytes (s .«color_cache»))))
+unfoldable pub last : ℕ → VdpState → List ℕ
+last n s = cond (eqb n oldSize) [] (lineTableNumber (s .raster .table) ∷ [])
 
--- ---- the device of a block that is well formed
+unfoldable pub blockOf : ℕ → VdpState → List ℕ
+blockOf n s = head n s ++ (s .reg ++ (small s ++ (s .cram ++ (colourBytes (s .«color_cache») ++ last n s))))
+
+-- ---- the device of a block that is well formed (the first version has no byte 219, which reads as 0: table 0)
 unfoldable pub stateOf : List ℕ → VdpState
 stateOf b =
     record {
@@ -96,6 +117,7 @@ stateOf b =
             «v_counter_jumped» = flagFrom (at b 15);
             «line_interrupt_counter» = at b 16;
             «vertical_scroll» = at b 25;
+            table = lineTableFrom (at b 219);
           };
       addr = at b 17 + 256 * at b 18;
       «vram_buffer» = at b 19;
@@ -107,28 +129,28 @@ stateOf b =
       «color_cache» = coloursAt b;
     }
 
--- ---- R7.6: the length, the mark, the flags and the bytes under empty latches are right
+-- ---- R7.6: the length, the mark that fits it, the flags, the table and the bytes under empty latches are right
 abbrev pub marked : List ℕ → Bool
-marked b = eqb (at b 0) 0x56 && eqb (at b 1) 0x53
+marked b = eqb (at b 0) 0x56 && eqb (at b 1) (markOf (length b))
 
 abbrev pub flagged : List ℕ → Bool
-flagged b = leb (at b 15) 1 && leb (at b 20) 2 && leb (at b 21) 1 && leb (at b 23) 1 && leb (at b 26) 1
+flagged b = leb (at b 15) 1 && leb (at b 20) 2 && leb (at b 21) 1 && leb (at b 23) 1 && leb (at b 26) 1 && leb (at b 219) 1
 
 abbrev pub latchFits : ℕ → ℕ → Bool
 latchFits flag byte = not (eqb flag 0) || eqb byte 0
 
 unfoldable pub wellFormed : List ℕ → Bool
 wellFormed b =
-    eqb (length b) blockSize && (marked b && flagged b && latchFits (at b 21) (at b 22) && latchFits (at b 23) (at b 24))
+    sized (length b) && (marked b && flagged b && latchFits (at b 21) (at b 22) && latchFits (at b 23) (at b 24))
 
--- what reading a block gives, and what a device stored over b leaves: one of another length is left as it is
+-- what reading a block gives, and what a device stored over b leaves: b's own version, or b as it is where it has no room for the device
 unfoldable pub decoded : List ℕ → Decoded
 decoded b = cond (wellFormed b) (record { good = true; vdp = stateOf b }) (record { good = false; vdp = fresh })
 
 unfoldable pub encoded : VdpState → List ℕ → List ℕ
-encoded s b = cond (eqb (length b) blockSize) (blockOf s) b
+encoded s b = cond (fits (s .raster .table) (length b)) (blockOf (length b) s) b
 
--- a block with another status and raster, and one with clean colours
+-- a block with another status and raster (the table stays: no call changes it), and one with clean colours
 abbrev pub rasterStored : ℕ → Raster → List ℕ → List ℕ
 rasterStored status r b =
     set (set (set (set (set b 2 status) 14 (r .«v_counter»)) 15 (flagOf (r .«v_counter_jumped»))) 16 (r .«line_interrupt_counter»)) 25 (r .«vertical_scroll»)

@@ -1,16 +1,22 @@
-// The state block (R7.5): a device as 219 bytes, and back.
+// The state block (R7.5): a device as 219 or 220 bytes, and back.
 ghost use mathlib.Core.Path.{_≡_};
 ghost use Prim.Native.Nat.{_+_, _*_, _≤_, _<_};
+ghost use lib.Dec.{leb};
+ghost use Rattle.laws.specs.Lists.{at};
+ghost use Rattle.raster.specs.Raster.{lineTableFrom};
 ghost use lib.ListN.{length, drop};
 ghost use lib.Seq.{paste};
-ghost use Rattle.block.specs.Block.{blockSize, stateOf, rasterStored, cacheStored, flagOf, chosenOf, chosenFrom, latchFlag, latchByte, latchFrom, wellFormed, colourAt, coloursAt, colourBytes, small, decoded, encoded};
+ghost use Rattle.block.specs.Block.{oldSize, markOf, fits, stateOf, rasterStored, cacheStored, flagOf, chosenOf, chosenFrom, latchFlag, latchByte, latchFrom, wellFormed, colourAt, coloursAt, colourBytes, small, decoded, encoded};
+use raster::LineTable;
 use raster::Raster;
 use vdp::Latch;
 use vdp::VdpState;
 use vdp::WriteDest;
 
-// The bytes of a block.
-const BLOCK_SIZE: usize = 219;
+// The bytes of a block of the first version and of the second.
+const OLD_SIZE: usize = 219;
+
+const BLOCK_SIZE: usize = 220;
 
 // What a block holds: whether it is well formed, and its device (a fresh one where it is not).
 pub struct Decoded {
@@ -73,6 +79,30 @@ fn latch_from(flag: u8, byte: u8) -> Latch
     }
 }
 
+// The second byte of the mark, by the length.
+fn mark_of(len: usize) -> u8
+    ensures { λ r. ⌜ r ≡ markOf len ⌝ }
+{
+    if len == OLD_SIZE { 0x53 } else { 0x54 }
+}
+
+// Whether a block of this length has room for a device of this table.
+pub fn has_room(table: LineTable, len: usize) -> bool
+    ensures { λ r. ⌜ r ≡ fits table len ⌝ }
+{
+    match table {
+        LineTable::Steps261 => (len == OLD_SIZE) | (len == BLOCK_SIZE),
+        LineTable::Steps262 => len == BLOCK_SIZE,
+    }
+}
+
+// Byte 219, the table; a block that has none is of table 0.
+fn table_byte(block: &[u8]) -> u8
+    ensures { λ r. ⌜ r ≡ at (now (block .entry)) 219 ⌝ }
+{
+    if OLD_SIZE < block.len() { block[219] } else { 0 }
+}
+
 // The n bytes of src from `from` on, into dst at `at`.
 fn copy(dst: &mut [u8], at: usize, src: &[u8], from: usize, n: usize)
     requires { ⌜ (at + n ≤ length (now dst)) × (from + n ≤ length (now src)) ⌝ }
@@ -112,7 +142,7 @@ fn colour_at(src: &[u8], at: usize) -> u32
 
 // The 32 colours that stand from place 91 on.
 fn colours_at(src: &[u8]) -> [u32; 32]
-    requires { ⌜ length (now src) ≡ blockSize ⌝ }
+    requires { ⌜ oldSize ≤ length (now src) ⌝ }
     ensures { λ r. ⌜ r ≡ coloursAt (now (src .entry)) ⌝ }
 {
     let mut out = [0u32; 32];
@@ -126,7 +156,7 @@ fn colours_at(src: &[u8]) -> [u32; 32]
 
 // The four bytes of each colour, the lowest first, into dst at 91.
 fn put_colours(dst: &mut [u8], colours: &[u32])
-    requires { ⌜ (length (now dst) ≡ blockSize) × (length (now colours) ≡ 32) ⌝ }
+    requires { ⌜ (oldSize ≤ length (now dst)) × (length (now colours) ≡ 32) ⌝ }
     ensures { λ _. ⌜ now (dst .exit) ≡ paste (now (dst .entry)) 91 (colourBytes (now (colours .entry))) 128 ⌝ }
 {
     let mut i = 0;
@@ -141,19 +171,23 @@ fn put_colours(dst: &mut [u8], colours: &[u32])
     }
 }
 
-// R7.6: whether a block has the length, the mark, and no byte that does not fit its place.
+// R7.6: whether a block has a length of blocks, its mark, and no byte that does not fit its place.
 pub fn well_formed(block: &[u8]) -> bool
     ensures { λ r. ⌜ r ≡ wellFormed (now (block .entry)) ⌝ }
 {
-    if block.len() != BLOCK_SIZE {
+    if block.len() < OLD_SIZE {
         return false;
     }
-    let marked = (block[0] == 0x56) & (block[1] == 0x53);
+    if BLOCK_SIZE < block.len() {
+        return false;
+    }
+    let marked = (block[0] == 0x56) & (block[1] == mark_of(block.len()));
     let flags = (block[15] <= 1)
         & (block[20] <= 2)
         & (block[21] <= 1)
         & (block[23] <= 1)
-        & (block[26] <= 1);
+        & (block[26] <= 1)
+        & (table_byte(block) <= 1);
     let command = (block[21] != 0) | (block[22] == 0);
     let palette = (block[23] != 0) | (block[24] == 0);
     marked & flags & command & palette
@@ -163,43 +197,24 @@ pub fn well_formed(block: &[u8]) -> bool
 pub fn decode(block: &[u8]) -> Decoded
     ensures { λ r. ⌜ r ≡ decoded (now (block .entry)) ⌝ }
 {
-    if block.len() != BLOCK_SIZE {
-        return Decoded {
-            good: false,
-            vdp: VdpState::new(),
-        };
-    }
     if !well_formed(block) {
         return Decoded {
             good: false,
             vdp: VdpState::new(),
         };
     }
-    let mut reg = [0u8; 11];
-    copy(&mut reg, 0, block, 3, 11);
-    let mut cram = [0u8; 64];
-    copy(&mut cram, 0, block, 27, 64);
-    let dest = chosen_from(block[20]);
-    let cmd_byte1 = latch_from(block[21], block[22]);
-    let cram_byte1 = latch_from(block[23], block[24]);
-    let color_cache = colours_at(block);
     let vdp = VdpState {
         status: block[2],
-        reg: reg,
-        raster: Raster {
-            v_counter: block[14],
-            v_counter_jumped: block[15] == 1,
-            line_interrupt_counter: block[16],
-            vertical_scroll: block[25],
-        },
+        reg: registers(block),
+        raster: raster_in(block),
         addr: word(block[17], block[18]),
         vram_buffer: block[19],
-        dest: dest,
-        cram: cram,
-        cmd_byte1: cmd_byte1,
-        cram_byte1: cram_byte1,
+        dest: chosen_from(block[20]),
+        cram: palette_in(block),
+        cmd_byte1: latch_from(block[21], block[22]),
+        cram_byte1: latch_from(block[23], block[24]),
         cram_dirty: block[26] == 1,
-        color_cache: color_cache,
+        color_cache: cache_in(block),
     };
     Decoded {
         good: true,
@@ -232,30 +247,36 @@ fn small_of(state: VdpState) -> [u8; 13]
     ]
 }
 
-// The device into a block of 219 bytes; one of another length is left as it is.
+// The device into a block, in the version that its length tells; one that has no room for it is left as it is.
 pub fn encode(state: VdpState, block: &mut [u8])
     ensures { λ _. ⌜ now (block .exit) ≡ encoded state (now (block .entry)) ⌝ }
 {
-    if block.len() != BLOCK_SIZE {
+    let raster = state.raster;
+    let table = raster.table;
+    let len = block.len();
+    if !has_room(table, len) {
         return;
     }
     let reg = state.reg;
     let cram = state.cram;
     let color_cache = state.color_cache;
-    let mark = [0x56, 0x53, state.status];
+    let mark = [0x56, mark_of(len), state.status];
     let small = small_of(state);
     copy(block, 0, &mark, 0, 3);
     copy(block, 3, &reg, 0, 11);
     copy(block, 14, &small, 0, 13);
     copy(block, 27, &cram, 0, 64);
     put_colours(block, &color_cache);
+    if OLD_SIZE < len {
+        block[219] = raster::table_number(table);
+    }
 }
 
 // ---- the parts of a block that a step reads and writes, each by itself
 
 // The registers.
 pub fn registers(block: &[u8]) -> [u8; 11]
-    requires { ⌜ length (now block) ≡ blockSize ⌝ }
+    requires { ⌜ oldSize ≤ length (now block) ⌝ }
     ensures { λ r. ⌜ r ≡ stateOf (now (block .entry)) .reg ⌝ }
 {
     let mut reg = [0u8; 11];
@@ -265,7 +286,7 @@ pub fn registers(block: &[u8]) -> [u8; 11]
 
 // The raster.
 pub fn raster_in(block: &[u8]) -> Raster
-    requires { ⌜ length (now block) ≡ blockSize ⌝ }
+    requires { ⌜ oldSize ≤ length (now block) ⌝ }
     ensures { λ r. ⌜ r ≡ stateOf (now (block .entry)) .raster ⌝ }
 {
     Raster {
@@ -273,12 +294,13 @@ pub fn raster_in(block: &[u8]) -> Raster
         v_counter_jumped: block[15] == 1,
         line_interrupt_counter: block[16],
         vertical_scroll: block[25],
+        table: raster::table_from(table_byte(block)),
     }
 }
 
 // The palette, and the cached colours.
 pub fn palette_in(block: &[u8]) -> [u8; 64]
-    requires { ⌜ length (now block) ≡ blockSize ⌝ }
+    requires { ⌜ oldSize ≤ length (now block) ⌝ }
     ensures { λ r. ⌜ r ≡ stateOf (now (block .entry)) .cram ⌝ }
 {
     let mut cram = [0u8; 64];
@@ -287,7 +309,7 @@ pub fn palette_in(block: &[u8]) -> [u8; 64]
 }
 
 pub fn cache_in(block: &[u8]) -> [u32; 32]
-    requires { ⌜ length (now block) ≡ blockSize ⌝ }
+    requires { ⌜ oldSize ≤ length (now block) ⌝ }
     ensures { λ r. ⌜ r ≡ stateOf (now (block .entry)) .«color_cache» ⌝ }
 {
     colours_at(block)
@@ -295,7 +317,7 @@ pub fn cache_in(block: &[u8]) -> [u32; 32]
 
 // A status and a raster into a block.
 pub fn store_raster(block: &mut [u8], status: u8, raster: Raster)
-    requires { ⌜ length (now block) ≡ blockSize ⌝ }
+    requires { ⌜ oldSize ≤ length (now block) ⌝ }
     ensures { λ _. ⌜ now (block .exit) ≡ rasterStored status raster (now (block .entry)) ⌝ }
 {
     block[2] = status;
@@ -307,7 +329,7 @@ pub fn store_raster(block: &mut [u8], status: u8, raster: Raster)
 
 // Colours into a block, which are not dirty then.
 pub fn store_cache(block: &mut [u8], colours: &[u32; 32])
-    requires { ⌜ length (now block) ≡ blockSize ⌝ }
+    requires { ⌜ oldSize ≤ length (now block) ⌝ }
     ensures { λ _. ⌜ now (block .exit) ≡ cacheStored (now (colours .entry)) (now (block .entry)) ⌝ }
 {
     put_colours(block, colours);

@@ -10,6 +10,7 @@ use lib.Dec.{ltb}
 use borrow.Author.Tests.{ltb-false, not-true}
 use Rattle.laws.proofs.Tests.{either, both}
 use Rattle.picture.specs.declared.RenderArea.{RenderArea}
+use Rattle.raster.specs.declared.LineTable.{LineTable}
 use Rattle.raster.specs.Raster.{jumpLine, jumpTo}
 use Rattle.vdp.specs.declared.VdpState.{VdpState}
 use Rattle.vdp.specs.declared.Refusal.{Refusal}
@@ -74,15 +75,15 @@ early J T b c w e = subst (λ (x : Bool). Within J T x c) e w
 late : (J T : ℕ) (b : Bool) (c : ℕ) → Within J T b c → b ≡ true → T ≤ c
 late J T b c w e = subst (λ (x : Bool). Within J T x c) e w .0
 
-pub always : (h : History) → Always (deviceAfter h)
-always h =
-    let d = deviceAfter h in
+pub always : (t : LineTable) (h : History) → Always (deviceAfter t h)
+always t h =
+    let d = deviceAfter t h in
     let x = d .raster in
-    let s = sound h in
+    let s = sound t h in
     record {
       clean = s .clean;
-      before-jump = early jumpLine jumpTo (x .«v_counter_jumped») (x .«v_counter») (s .within);
-      after-jump = late jumpLine jumpTo (x .«v_counter_jumped») (x .«v_counter») (s .within);
+      before-jump = early (jumpLine (x .table)) jumpTo (x .«v_counter_jumped») (x .«v_counter») (s .within);
+      after-jump = late (jumpLine (x .table)) jumpTo (x .«v_counter_jumped») (x .«v_counter») (s .within);
       in-memory = s .aimed;
       no-seven = λ c. not-seven c d (s .aimed);
     }

@@ -13,14 +13,15 @@ use borrow.Author.Tests.{eq-eqb, ne-eqb, leb-true, leb-false}
 use Rattle.laws.proofs.Tests.{split}
 use Rattle.colour.proofs.Laws.{colours-at}
 use Rattle.picture.specs.declared.RenderArea.the-variants.{VisibleOnly}
-use Rattle.raster.specs.Raster.{jumps}
+use Rattle.raster.specs.declared.LineTable.{LineTable}
+use Rattle.raster.proofs.Tables.{jump-back, pass-is}
 use Rattle.vdp.specs.declared.VdpState.{VdpState}
 use Rattle.vdp.specs.declared.Written.{Written}
 use Rattle.vdp.specs.declared.WriteDest.the-variants.{Cram}
 use Rattle.vdp.specs.declared.Latch.{Latch}
 use Rattle.vdp.specs.declared.Latch.the-variants.{Empty, Held}
 use Rattle.vdp.specs.declared.Refusal.the-variants.{Accepted}
-use Rattle.vdp.specs.Device.{fresh, withCommand, unlatched, withDest, withAddr, withPaletteByte}
+use Rattle.vdp.specs.Device.{made, fresh, withCommand, unlatched, withDest, withAddr, withPaletteByte}
 use Rattle.vdp.specs.Refusals.{whole}
 use Rattle.vdp.specs.Ports.{commandBy, commandWrite, dataWrite, stored, portWrite}
 use Rattle.step.specs.Step.{frameLines, frameStep}
@@ -29,6 +30,7 @@ use Rattle.demands.specs.Split.{Split, Twins}
 use Rattle.demands.specs.Author.{asked, unasked, newPalette, Answered}
 use Rattle.step.proofs.Laws.{frame-passes, frame-memory, stepped-reg, stepped-cram, stepped-command}
 use Rattle.demands.proofs.Steps.{frame-taken, accepts}
+use Rattle.demands.proofs.Lines.{line-next}
 use Rattle.demands.proofs.Demand3.{steps, after-step, line-of}
 use Rattle.demands.proofs.Split.{rising, other-colours, changed-visible}
 
@@ -91,16 +93,16 @@ step-holds r i p k =
 
 -- ---- the run
 module _
-    (vram : ℕ → List ℕ) (frame : List ℕ) (accepted : (i : ℕ) (d : VdpState) → frameStep VisibleOnly (vram i) (length frame) d .refusal ≡ Accepted) (low high : ℕ)
+    (t : LineTable) (vram : ℕ → List ℕ) (frame : List ℕ) (accepted : (i : ℕ) (d : VdpState) → frameStep VisibleOnly (vram i) (length frame) d .refusal ≡ Accepted) (low high : ℕ)
   where
     abbrev r : Run VisibleOnly
-    r = asked vram frame accepted low high
+    r = asked t vram frame accepted low high
 
     abbrev old : List ℕ
-    old = fresh .cram
+    old = made t .cram
 
     abbrev new : List ℕ
-    new = newPalette vram frame accepted low high
+    new = newPalette t vram frame accepted low high
 
     -- but for step 90 nothing is called before a step
     nothing : (i : ℕ) → suc i ≢ 90 → ready r (suc i) ≡ answer r i .vdp
@@ -121,7 +123,7 @@ module _
     written : Holds (ready r 90) new
     unfolding ready until then deviceAfter after
     written =
-        recoloured (vram 90) whole-90 (deviceAfter (through r 89)) old low high
+        recoloured (vram 90) whole-90 (deviceAfter t (through r 89)) old low high
         (subst (λ (d : VdpState). Holds d old) (sym (after-step r 89)) (step-holds r 89 old (early 89 (omega arith))))
 
     late : (k : ℕ) → Holds (ready r (90 + k)) new
@@ -131,15 +133,15 @@ module _
         (subst (λ (d : VdpState). Holds d new) (sym (nothing (90 + k) (λ e. omega arith))) (step-holds r (90 + k) new (late k)))
 
     first-line : lineSet r 0 ≡ 1
-    unfolding ready until then deviceAfter jumps
-    first-line = line-of r 0
+    unfolding ready until then deviceAfter
+    first-line = line-of r 0 ∙ line-next (ready r 0 .raster) 0 refl (omega arith)
 
     the-split : Split r 90 old new
     the-split =
         record {
           from-top = inl (omega (arith, first-line), omega (arith, first-line));
           step = 89;
-          in-pass = omega arith;
+          in-pass = omega (arith, pass-is t, jump-back t);
           sets = rising r 0 89 (omega (arith, first-line)) ∙ ap (λ (n : ℕ). n + 89) first-line;
           until-then = λ i h. early i h .cram;
           from-then = λ i h _.
@@ -149,7 +151,7 @@ module _
 
     -- ---- the same without the writes
     abbrev r₀ : Run VisibleOnly
-    r₀ = unasked vram frame accepted low high
+    r₀ = unasked t vram frame accepted low high
 
     never : (i : ℕ) → ready r₀ (suc i) ≡ answer r₀ i .vdp
     unfolding ready until then
@@ -176,7 +178,7 @@ module _
     twins : Twins r r₀
     twins = record { start = one-start; memory = λ i _. refl; registers = λ i _. registers-at i ∙ sym (always-old i .reg) }
 
-    pub answered : Answered vram frame accepted low high
+    pub answered : Answered t vram frame accepted low high
     answered =
         record {
           split = the-split;
@@ -204,5 +206,5 @@ zeros-accepted i d =
     accepts (frameLines VisibleOnly memory (length zeros)) VisibleOnly memory d
     (frame-passes VisibleOnly memory (length zeros) memory-length frame-length)
 
-zeros-answered : (low high : ℕ) → Answered (λ i. memory) zeros zeros-accepted low high
-zeros-answered low high = answered (λ i. memory) zeros zeros-accepted low high
+zeros-answered : (t : LineTable) (low high : ℕ) → Answered t (λ i. memory) zeros zeros-accepted low high
+zeros-answered t low high = answered t (λ i. memory) zeros zeros-accepted low high

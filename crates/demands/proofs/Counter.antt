@@ -10,7 +10,8 @@ use borrow.Author.Tests.{eqb-true, eqb-false, ne-eqb}
 use Rattle.laws.proofs.Tests.{split}
 use Rattle.laws.proofs.Once.{Next}
 use Rattle.raster.specs.declared.Raster.{Raster}
-use Rattle.raster.specs.Raster.{jumpLine, jumpTo, passLength, up, jumps, starts}
+use Rattle.raster.specs.Raster.{jumpLine, jumpTo, up, jumps, starts}
+use Rattle.raster.proofs.Tables.{jump-back, jump-above, jump-high}
 
 -- the line that a step sets, and the flag that it leaves
 abbrev pub line : Raster → ℕ
@@ -97,26 +98,15 @@ module _ (J T : ℕ) (back : T < J) (above : 0 < T) (high : J < 256) where
   place-below false c w = omega arith
   place-below true c w = omega arith
 
--- the four facts of the numbers that all else goes by
-pub jump-back : jumpTo < jumpLine
-jump-back = omega arith
-
-pub jump-above : 0 < jumpTo
-jump-above = omega arith
-
-pub jump-high : jumpLine < 256
-jump-high = omega arith
-
-pub pass-is : passLength ≡ jumpLine + (256 - jumpTo)
-pass-is = refl
-
 -- a raster as every step leaves it, and its place
 abbrev pub InPass : Raster → Type 0
-InPass x = Within jumpLine jumpTo (x .«v_counter_jumped») (x .«v_counter»)
+InPass x = Within (jumpLine (x .table)) jumpTo (x .«v_counter_jumped») (x .«v_counter»)
 
 abbrev pub place : Raster → ℕ
-place x = placeOf jumpLine jumpTo (x .«v_counter_jumped») (x .«v_counter»)
+place x = placeOf (jumpLine (x .table)) jumpTo (x .«v_counter_jumped») (x .«v_counter»)
 
-pub tick : (x : Raster) → InPass x → Ticked jumpLine jumpTo (place x) (flag x) (line x)
+pub tick : (x : Raster) → InPass x → Ticked (jumpLine (x .table)) jumpTo (place x) (flag x) (line x)
 unfolding jumps starts
-tick x w = stepped jumpLine jumpTo jump-back jump-above jump-high (x .«v_counter_jumped») (x .«v_counter») (up x) w refl
+tick x w =
+    let t = x .table in
+    stepped (jumpLine t) jumpTo (jump-back t) jump-above (jump-high t) (x .«v_counter_jumped») (x .«v_counter») (up x) w refl

@@ -1,7 +1,7 @@
 -- Demand 3, proved: after any calls, with any calls but steps between, for any area whose lines end where the jump ends.
 -- Assumes nothing.
 use mathlib.Core.Path.{_≡_, refl, sym, _∙_, ap, subst}
-use mathlib.Core.Logic.{_↔_, _≢_, _⊎_, inl}
+use mathlib.Core.Logic.{_↔_, _≢_, _⊎_, inl, inr, ⊎-elim}
 use mathlib.Core.Bool.{Bool, true, false, cond}
 use mathlib.Core.List.{List, [], _∷_}
 use Prim.Native.Nat.{ℕ, zero, suc, _+_, _-_, _≤_, _<_}
@@ -19,7 +19,9 @@ use Rattle.picture.specs.declared.RenderArea.{RenderArea}
 use Rattle.picture.specs.declared.RenderArea.the-variants.{VisibleOnly, EffectiveArea}
 use Rattle.picture.specs.Area.{columns, rows, firstLine, rowSize, frameSize, rowBytes}
 use Rattle.raster.specs.declared.Raster.{Raster}
-use Rattle.raster.specs.Raster.{passLength, jumpLine, jumpTo, advanced, counted, ticked}
+use Rattle.raster.specs.declared.LineTable.{LineTable}
+use Rattle.raster.specs.declared.LineTable.the-variants.{Steps261, Steps262}
+use Rattle.raster.specs.Raster.{jumpLine, jumpTo, advanced, counted, ticked}
 use Rattle.vdp.specs.declared.VdpState.{VdpState}
 use Rattle.vdp.proofs.Tables.{Passed}
 use Rattle.step.specs.declared.Stepped.{Stepped}
@@ -29,13 +31,13 @@ use Rattle.step.specs.Step.{register, lineOf, counterUp, rowOn, reportOf, stepp
 use Rattle.step.specs.Frame.{drawnBytes, FrameStepLeaves}
 use Rattle.step.proofs.Rows.{row-low, row-line, row-at}
 use Rattle.step.proofs.Laws.{stepped-raster, step-accepted, frame-fits, frame-memory, frame-step-length, frame-step-other, frame-step-here}
-use Rattle.demands.specs.Pass.{History, Steps, Between, Run, after, deviceAfter, then, stepCall, until, through, ready, answer, lineSet, frameAt, latched, pictureAt, rowAtEnd, LineInterruptsEvery, ForLine, Demand3}
-use Rattle.demands.specs.Rows.{RowsDrawn}
+use Rattle.demands.specs.Pass.{History, pass, Steps, Between, Run, after, deviceAfter, then, stepCall, until, through, ready, answer, lineSet, frameAt, latched, pictureAt, rowAtEnd, LineInterruptsEvery, ForLine, Demand3}
+use Rattle.demands.specs.Rows.{RowsDrawn, lastTwice, EffectiveRows}
 use Rattle.demands.specs.Interrupts.{AllSo, here, call, step}
 use Rattle.demands.proofs.Counter.{line}
 use Rattle.demands.proofs.Lines.{before-0, line-once, line-twice}
 use Rattle.demands.proofs.Steps.{colours-now, frame-taken}
-use Rattle.demands.proofs.Sound.{Sound, sound, scroll-is, then-raster}
+use Rattle.demands.proofs.Sound.{Sound, sound, table-is, scroll-is, then-raster}
 use Rattle.demands.proofs.Interrupts.{from-line-0}
 
 -- ---- row y is drawn by the step that sets its line, and by no other
@@ -81,7 +83,7 @@ module _ {a : RenderArea} (r : Run a) where
   unfolding answer
   steps i = step-accepted (frameLines a (r .vram i) (length (r .frame))) a (r .vram i) (dev i) (accepted i)
 
-  pub after-step : (i : ℕ) → deviceAfter (through r i) ≡ answer r i .vdp
+  pub after-step : (i : ℕ) → deviceAfter (r .table) (through r i) ≡ answer r i .vdp
   unfolding deviceAfter after answer ready
   after-step i = refl
 
@@ -90,19 +92,23 @@ module _ {a : RenderArea} (r : Run a) where
 
   pub raster-next : (i : ℕ) → dev (suc i) .raster ≡ ticked (register (dev i)) (dev i .raster)
   unfolding ready until
-  raster-next i = then-raster (r .between (suc i)) (through r i) ∙ ap (λ (d : VdpState). d .raster) (after-step i) ∙ raster-left i
+  raster-next i = then-raster (r .table) (r .between (suc i)) (through r i) ∙ ap (λ (d : VdpState). d .raster) (after-step i) ∙ raster-left i
 
   ready-sound : (i : ℕ) → Sound (dev i)
   unfolding ready
-  ready-sound i = sound (until r i)
+  ready-sound i = sound (r .table) (until r i)
+
+  pub table-at : (i : ℕ) → dev i .raster .table ≡ r .table
+  unfolding ready
+  table-at i = table-is (r .table) (until r i)
 
   -- the scroll that step i draws with
-  pub scroll-at : (i : ℕ) → counterUp (dev i) .raster .«vertical_scroll» ≡ latched (through r i)
+  pub scroll-at : (i : ℕ) → counterUp (dev i) .raster .«vertical_scroll» ≡ latched (r .table) (through r i)
   unfolding ticked counted
   scroll-at i =
       sym (ap (λ (x : Raster). x .«vertical_scroll») (raster-left i))
       ∙ sym (ap (λ (d : VdpState). d .raster .«vertical_scroll») (after-step i))
-      ∙ scroll-is (through r i)
+      ∙ scroll-is (r .table) (through r i)
 
   pub line-of : (i : ℕ) → lineSet r i ≡ line (dev i .raster)
   unfolding ticked counted advanced
@@ -120,16 +126,16 @@ module _ {a : RenderArea} (r : Run a) where
   no-other i y e = row-low a (line (dev i .raster)) y (sym (row-on i) ∙ e)
 
   -- each line but those that the jump goes back over is set by exactly one step of a pass, those by two
-  pub lines : (q : ℕ) → (q < jumpTo) ⊎ (jumpLine ≤ q) → q < 256 → ExactlyOnce passLength (λ i. line (dev i .raster) ≡ q)
-  lines q out h = line-once (λ i. dev i .raster) (λ i. register (dev i)) raster-next (ready-sound 0 .within) q out h
+  pub lines : (q : ℕ) → (q < jumpTo) ⊎ (jumpLine (r .table) ≤ q) → q < 256 → ExactlyOnce (pass r) (λ i. line (dev i .raster) ≡ q)
+  lines q out h = line-once (λ i. dev i .raster) (λ i. register (dev i)) raster-next (r .table) (table-at 0) (ready-sound 0 .within) q out h
 
-  lines-twice : (q : ℕ) → jumpTo ≤ q → q < jumpLine → ExactlyTwice passLength (λ i. line (dev i .raster) ≡ q)
-  lines-twice q l h = line-twice (λ i. dev i .raster) (λ i. register (dev i)) raster-next (ready-sound 0 .within) q l h
+  lines-twice : (q : ℕ) → jumpTo ≤ q → q < jumpLine (r .table) → ExactlyTwice (pass r) (λ i. line (dev i .raster) ≡ q)
+  lines-twice q l h = line-twice (λ i. dev i .raster) (λ i. register (dev i)) raster-next (r .table) (table-at 0) (ready-sound 0 .within) q l h
 
   -- and so in the pass that begins one step later
-  pub lines-later : (q : ℕ) → q < jumpTo → ExactlyOnce passLength (λ i. line (dev (suc i) .raster) ≡ q)
+  pub lines-later : (q : ℕ) → q < jumpTo → ExactlyOnce (pass r) (λ i. line (dev (suc i) .raster) ≡ q)
   lines-later q h =
-      line-once (λ i. dev (suc i) .raster) (λ i. register (dev (suc i))) (λ i. raster-next (suc i)) (ready-sound 1 .within) q (inl h) (omega arith)
+      line-once (λ i. dev (suc i) .raster) (λ i. register (dev (suc i))) (λ i. raster-next (suc i)) (r .table) (table-at 1) (ready-sound 1 .within) q (inl h) (omega arith)
 
   -- until the next step the counter reads the line that a step set
   pub still : (i : ℕ) → lineOf (ready r (suc i)) ≡ lineSet r i
@@ -139,7 +145,7 @@ module _ {a : RenderArea} (r : Run a) where
   unfolding stepped
   report-of i = ap (λ (s : Stepped). s .report) (steps i)
 
-  end-once : ExactlyOnce passLength (λ i. answer r i .report ≢ NoDisplay)
+  end-once : ExactlyOnce (pass r) (λ i. answer r i .report ≢ NoDisplay)
   unfolding advanced
   end-once = once-iff (λ i. rw (report-of i) (end-line (counterUp (dev i)))) (lines 193 (inl (omega arith)) (omega arith))
 
@@ -183,10 +189,10 @@ module _ {a : RenderArea} (r : Run a) where
 
   -- a row ends as the last step that drew it left it
   last-bytes :
-      (i y : ℕ) → i < passLength → answer r i .row ≡ Drawn y → ((j : ℕ) → i < j → j < passLength → answer r j .row ≢ Drawn y) →
+      (i y : ℕ) → i < pass r → answer r i .row ≡ Drawn y → ((j : ℕ) → i < j → j < pass r → answer r j .row ≢ Drawn y) →
       rowAtEnd r y ≡ rowBytes (coloursOf (dev i .cram)) (columns a) (pictureAt r i y)
   last-bytes i y h e later =
-      let L : ℕ = passLength in
+      let L : ℕ = pass r in
       let whole : suc i + (L - suc i) ≡ L = omega arith in
       subst (λ (n : ℕ). rowOf (rowSize a) y (frameAt r n) ≡ rowOf (rowSize a) y (frameAt r (suc i))) whole
       (undrawn y (suc i) (L - suc i) (λ j l u. later j (omega arith) (omega arith)))
@@ -203,10 +209,10 @@ module _ {a : RenderArea} (r : Run a) where
 
   -- ---- the line interrupts: those of any calls
   all-so :
-      (N : ℕ) (start : VdpState) (n : ℕ) (h : History) → AllSo N start n (deviceAfter h) → (cs : List Between) → AllSo N start n (deviceAfter (then cs h))
+      (N : ℕ) (start : VdpState) (n : ℕ) (h : History) → AllSo N start n (deviceAfter (r .table) h) → (cs : List Between) → AllSo N start n (deviceAfter (r .table) (then cs h))
   unfolding then deviceAfter
   all-so N start n h w [] = w
-  all-so N start n h w (b ∷ cs) = all-so N start n (b .call ∷ h) (call w (b .call) (b .no-step (deviceAfter h))) cs
+  all-so N start n h w (b ∷ cs) = all-so N start n (b .call ∷ h) (call w (b .call) (b .no-step (deviceAfter (r .table) h))) cs
 
   step-is : (i : ℕ) → Steps (stepCall r i) (dev i) (answer r i)
   unfolding answer
@@ -230,11 +236,11 @@ module _ {a : RenderArea} (r : Run a) where
         from-line-0 N (dev i) (reads-ff b) .to-193 k h (dev (i + k)) (stepCall r (i + k)) (answer r (i + k)) (so-far k h) (every k h) (step-is (i + k))
 
   module _ (once : firstLine a + rows a ≤ jumpTo) where
-    row-once : (y : ℕ) → y < rows a → ExactlyOnce passLength (λ i. answer r i .row ≡ Drawn y)
+    row-once : (y : ℕ) → y < rows a → ExactlyOnce (pass r) (λ i. answer r i .row ≡ Drawn y)
     row-once y h = rows-drawn .once y h (inl (omega arith))
 
     row-bytes :
-        (i y : ℕ) → i < passLength → answer r i .row ≡ Drawn y →
+        (i y : ℕ) → i < pass r → answer r i .row ≡ Drawn y →
         rowAtEnd r y ≡ rowBytes (coloursOf (dev i .cram)) (columns a) (pictureAt r i y)
     row-bytes i y h e =
         let o = row-once y (no-other i y e) in
@@ -254,3 +260,15 @@ module _ {a : RenderArea} (r : Run a) where
 -- the visible area: 144 rows of 640 bytes, from line 24
 pub demand3-visible : (r : Run VisibleOnly) → Demand3 r
 demand3-visible r = demand3 r (omega arith)
+
+-- the effective area: rows 213 to 217 or to 218 twice, every other once
+pub effective-rows : (r : Run EffectiveArea) → EffectiveRows r
+effective-rows r =
+    record {
+      twice = λ y l u. rows-drawn r .twice y (omega (arith, to-jump (r .table))) (omega arith) (omega (arith, to-jump (r .table)));
+      once = λ y h out. rows-drawn r .once y h (⊎-elim (λ l. inl (omega arith)) (λ l. inr (omega (arith, to-jump (r .table)))) out);
+    }
+  where
+    to-jump : (t : LineTable) → (suc (lastTwice t) ≡ jumpLine t) × (lastTwice t < 224)
+    to-jump Steps261 = (refl, omega arith)
+    to-jump Steps262 = (refl, omega arith)

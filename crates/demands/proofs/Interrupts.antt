@@ -8,10 +8,12 @@ use native.Mathlib.Nat.{add-zero, dvd-refl, dvd-add-iff-left}
 use native.Mathlib.Omega.{arith}
 use Rattle.picture.specs.declared.RenderArea.{RenderArea}
 use Rattle.raster.specs.declared.Raster.{Raster}
+use Rattle.raster.specs.declared.LineTable.{LineTable}
 use Rattle.raster.specs.Raster.{passLength, jumpTo, advanced, counted, ticked}
+use Rattle.raster.proofs.Tables.{jump-back, pass-is}
 use Rattle.vdp.specs.declared.VdpState.{VdpState}
 use Rattle.vdp.specs.declared.Refusal.the-variants.{Accepted}
-use Rattle.vdp.specs.Device.{fresh}
+use Rattle.vdp.specs.Device.{made}
 use Rattle.vdp.specs.Refusals.{Line}
 use Rattle.vdp.proofs.Tables.{Refusing}
 use Rattle.step.specs.declared.Stepped.{Stepped}
@@ -19,9 +21,9 @@ use Rattle.step.specs.Step.{register, lineOf, stepped, rowLines, frameLines, st
 use Rattle.step.proofs.Laws.{row-refusing, frame-refusing, stepped-raster}
 use Rattle.demands.specs.Pass.{Call, out, input, step-frame, step-row, dump-tiles, Steps, LineInterruptsEvery, InterruptsWhen}
 use Rattle.demands.specs.Interrupts.{AllSo, here, call, step, FromLine0, FirstPass}
-use Rattle.demands.proofs.Lines.{Due, Takes, due-first, takes-0, takes-next, sets, leaves, comes, comes-late}
+use Rattle.demands.proofs.Lines.{same-table, Due, Takes, due-first, takes-0, takes-next, sets, leaves, comes, comes-late}
 use Rattle.demands.proofs.Steps.{line-alone, is-stepped}
-use Rattle.demands.proofs.Sound.{quiet}
+use Rattle.demands.proofs.Sound.{quiet, table-kept}
 
 -- ---- an accepted step is one of the definition, in some area and with some video memory
 record Is (d : VdpState) (s : Stepped) : Type 0 where
@@ -60,23 +62,30 @@ module _ (N m p₀ : ℕ) (Z : Raster → Type 0) (begins : (g : ℕ → ℕ) (x
   State zero x = Z x
   State (suc n) x = Due N m (goal n) x
 
-  takes : (n : ℕ) (g : ℕ → ℕ) (x : Raster) → State n x → g 10 ≡ N → goal n < passLength → Takes N m (goal n) g x
+  takes : (n : ℕ) (g : ℕ → ℕ) (x : Raster) → State n x → g 10 ≡ N → goal n < passLength (x .table) → Takes N m (goal n) g x
   unfolding State goal
   takes zero g x w e h = begins g x w e
   takes (suc n) g x w e h = takes-next N m (goal n) g x w h
 
   module _ (start : VdpState) (z : Z (start .raster)) where
-    state : (n : ℕ) (d : VdpState) → AllSo N start n d → goal n ≤ passLength → State n (d .raster)
+    -- the table is the first one's
+    table-so : (n : ℕ) (d : VdpState) → AllSo N start n d → d .raster .table ≡ start .raster .table
+    table-so n d here = refl
+    table-so n d (call {d = d₀} w c q) = table-kept c d₀ ∙ table-so n d₀ w
+    table-so (suc n) d (step {d = d₀} w so c s e) =
+        ap (λ (x : Raster). x .table) (raster-by d₀ s (is-step c d₀ s e)) ∙ same-table (register d₀) (d₀ .raster) ∙ table-so n d₀ w
+
+    state : (n : ℕ) (d : VdpState) → AllSo N start n d → goal n ≤ passLength (start .raster .table) → State n (d .raster)
     unfolding State goal
     state n d here h = z
     state n d (call {d = d₀} w c q) h = subst (State n) (sym (quiet c d₀ q)) (state n d₀ w h)
     state (suc n) d (step {d = d₀} w so c s e) h =
         subst (Due N m (goal n)) (sym (raster-by d₀ s (is-step c d₀ s e)))
         (leaves N m (goal n) (register d₀) (d₀ .raster)
-        (takes n (register d₀) (d₀ .raster) (state n d₀ w (omega arith)) (so .every) h) (so .every))
+        (takes n (register d₀) (d₀ .raster) (state n d₀ w (omega arith)) (so .every) (rw (table-so n d₀ w) h)) (so .every))
 
     -- what step n answers
-    module _ (n : ℕ) (h : n + p₀ < passLength) (d : VdpState) (c : Call) (s : Stepped) (w : AllSo N start n d) (so : LineInterruptsEvery N (register d)) (e : Steps c d s) where
+    module _ (n : ℕ) (h : n + p₀ < passLength (start .raster .table)) (d : VdpState) (c : Call) (s : Stepped) (w : AllSo N start n d) (so : LineInterruptsEvery N (register d)) (e : Steps c d s) where
       abbrev p : ℕ
       p = n + p₀
 
@@ -86,7 +95,7 @@ module _ (N m p₀ : ℕ) (Z : Raster → Type 0) (begins : (g : ℕ → ℕ) (x
       t : Takes N m p (register d) (d .raster)
       t =
           subst (λ (q : ℕ). Takes N m q (register d) (d .raster)) (goal-is n)
-          (takes n (register d) (d .raster) (state n d w (omega (arith, goal-is n))) (so .every) (omega (arith, goal-is n)))
+          (takes n (register d) (d .raster) (state n d w (omega (arith, goal-is n))) (so .every) (rw (table-so n d w) (omega (arith, goal-is n))))
 
       pub line-set : p < jumpTo → lineOf (s .vdp) ≡ p
       unfolding ticked counted advanced
@@ -117,19 +126,23 @@ module _ (N : ℕ) (start : VdpState) (reads : lineOf start ≡ 0xFF) where
       record {
         to-193 = λ k h d c s w so e.
             rw (← add-zero k) (
-              line-set N 2 0 AtFF (takes-0 N) start reads k (omega arith) d c s w so e (omega arith),
-              early N 2 0 AtFF (takes-0 N) start reads k (omega arith) d c s w so e (omega arith),
+              line-set N 2 0 AtFF (takes-0 N) start reads k (omega (arith, pass-is (start .raster .table), jump-back (start .raster .table))) d c s w so e (omega arith),
+              early N 2 0 AtFF (takes-0 N) start reads k (omega (arith, pass-is (start .raster .table), jump-back (start .raster .table))) d c s w so e (omega arith),
             );
-        past-193 = λ k l h d c s w so e. late N 2 0 AtFF (takes-0 N) start reads k (omega arith) d c s w so e (omega arith);
+        past-193 = λ k l h d c s w so e. late N 2 0 AtFF (takes-0 N) start reads k (omega (arith, pass-is (start .raster .table), jump-back (start .raster .table))) d c s w so e (omega arith);
       }
 
 -- ---- the first pass
-module _ (N : ℕ) (start : VdpState) (unstepped : start .raster ≡ fresh .raster) where
+module _ (N : ℕ) (t : LineTable) (start : VdpState) (unstepped : start .raster ≡ made t .raster) where
+  -- its table, and the steps of its pass
+  pass-of : passLength (start .raster .table) ≡ passLength t
+  pass-of = rw unstepped
+
   begins-1 : (g : ℕ → ℕ) (x : Raster) → Due N N 0 x → g 10 ≡ N → Takes N N 1 g x
-  begins-1 g x w n = takes-next N N 0 g x w (omega arith)
+  begins-1 g x w n = takes-next N N 0 g x w (omega (arith, pass-is (x .table), jump-back (x .table)))
 
   due : Due N N 0 (start .raster)
-  due = rw unstepped (due-first N (fresh .raster) refl refl refl)
+  due = rw unstepped (due-first N (made t .raster) refl refl refl)
 
   -- N + 1 divides i and itself exactly when it divides i
   and-itself : (i : ℕ) → (N + 1 ∣ i + 1 + N) ↔ (N + 1 ∣ i)
@@ -141,12 +154,12 @@ module _ (N : ℕ) (start : VdpState) (unstepped : start .raster ≡ fresh .rast
   first-reports : (i : ℕ) (s : Stepped) → InterruptsWhen s (N + 1 ∣ i + 1 + N) → InterruptsWhen s (N + 1 ∣ i)
   first-reports i s r = (λ f. and-itself i .0 (r .0 f), λ v. r .1 (and-itself i .1 v))
 
-  pub first-pass : FirstPass N start unstepped
+  pub first-pass : FirstPass N t start unstepped
   first-pass =
       record {
         to-193 = λ i h d c s w so e. (
-          line-set N N 1 (Due N N 0) begins-1 start due i (omega arith) d c s w so e (omega arith) ∙ omega arith,
-          first-reports i s (early N N 1 (Due N N 0) begins-1 start due i (omega arith) d c s w so e (omega arith)),
+          line-set N N 1 (Due N N 0) begins-1 start due i (omega (arith, pass-of, pass-is t, jump-back t)) d c s w so e (omega arith) ∙ omega arith,
+          first-reports i s (early N N 1 (Due N N 0) begins-1 start due i (omega (arith, pass-of, pass-is t, jump-back t)) d c s w so e (omega arith)),
         );
-        past-193 = λ i l h d c s w so e. late N N 1 (Due N N 0) begins-1 start due i (omega arith) d c s w so e (omega arith);
+        past-193 = λ i l h d c s w so e. late N N 1 (Due N N 0) begins-1 start due i (omega (arith, pass-of, pass-is t, jump-back t)) d c s w so e (omega arith);
       }

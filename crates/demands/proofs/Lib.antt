@@ -1,7 +1,6 @@
 -- The demands, proved.
 pub mod Counter
 pub mod Lines
-pub mod Kept
 pub mod Steps
 pub mod Sound
 pub mod Interrupts

@@ -15,6 +15,8 @@ use Rattle.colour.proofs.palette_recompute
 use Rattle.raster.proofs.Raster.advance
 use Rattle.raster.proofs.Raster.line_interrupt_is_up
 use Rattle.raster.proofs.Raster.line_interrupt_update
+use Rattle.raster.proofs.table_number
+use Rattle.raster.proofs.table_from
 use Rattle.picture.proofs.area_from
 use Rattle.small.proofs.wide
 use Rattle.small.proofs.smaller
@@ -32,6 +34,7 @@ use Rattle.row.proofs.render_line
 use Rattle.vdp.proofs.refusal_number
 use Rattle.vdp.proofs.VdpState.new
 use Rattle.vdp.proofs.VdpState.with_raster
+use Rattle.vdp.proofs.VdpState.with_table
 use Rattle.vdp.proofs.VdpState.with_cache
 use Rattle.vdp.proofs.VdpState.out
 use Rattle.vdp.proofs.VdpState.input
@@ -51,6 +54,7 @@ use Rattle.tiles.proofs.sheet
 use Rattle.block.proofs.well_formed
 use Rattle.block.proofs.decode
 use Rattle.block.proofs.encode
+use Rattle.block.proofs.has_room
 use Rattle.block.proofs.registers
 use Rattle.block.proofs.raster_in
 use Rattle.block.proofs.palette_in
@@ -58,6 +62,7 @@ use Rattle.block.proofs.cache_in
 use Rattle.block.proofs.store_raster
 use Rattle.block.proofs.store_cache
 use Rattle.face.proofs.vdp_new
+use Rattle.face.proofs.vdp_new_table
 use Rattle.face.proofs.vdp_out
 use Rattle.face.proofs.vdp_input
 use Rattle.face.proofs.vdp_step
@@ -97,6 +102,12 @@ pub palette-recompute-once : OneOutcome 0 palette_recompute.Kinds.ps palette_rec
 palette-recompute-once κs a q z z′ w w′ e f = (e ∙ sym f, refl)
 
 -- ---- raster
+pub table-number-once : OneOutcome 0 table_number.Kinds.ps table_number.Kinds.r table_number.Reads.Asked table_number.Reads.Learnt
+table-number-once κs a q z z′ w w′ e f = (e ∙ sym f, refl)
+
+pub table-from-once : OneOutcome 0 table_from.Kinds.ps table_from.Kinds.r table_from.Reads.Asked table_from.Reads.Learnt
+table-from-once κs a q z z′ w w′ e f = (e ∙ sym f, refl)
+
 pub advance-once : OneOutcome 0 advance.Kinds.ps advance.Kinds.r advance.Reads.Asked advance.Reads.Learnt
 advance-once κs a q z z′ w w′ e f = (e ∙ sym f, refl)
 
@@ -185,6 +196,9 @@ refusal-number-once κs a q z z′ w w′ e f = (e .0 ∙ sym (f .0), refl)
 pub new-once : OneOutcome 0 new.Kinds.ps new.Kinds.r new.Reads.Asked new.Reads.Learnt
 new-once κs a q z z′ w w′ e f = (e ∙ sym f, refl)
 
+pub with-table-once : OneOutcome 0 with_table.Kinds.ps with_table.Kinds.r with_table.Reads.Asked with_table.Reads.Learnt
+with-table-once κs a q z z′ w w′ e f = (e ∙ sym f, refl)
+
 pub with-raster-once : OneOutcome 0 with_raster.Kinds.ps with_raster.Kinds.r with_raster.Reads.Asked with_raster.Reads.Learnt
 with-raster-once κs a q z z′ w w′ e f = (e ∙ sym f, refl)
 
@@ -253,6 +267,9 @@ well-formed-once κs a q z z′ w w′ e f = (e ∙ sym f, refl)
 pub decode-once : OneOutcome 1 decode.Kinds.ps decode.Kinds.r decode.Reads.Asked decode.Reads.Learnt
 decode-once κs a q z z′ w w′ e f = (e ∙ sym f, refl)
 
+pub has-room-once : OneOutcome 0 has_room.Kinds.ps has_room.Kinds.r has_room.Reads.Asked has_room.Reads.Learnt
+has-room-once κs a q z z′ w w′ e f = (e ∙ sym f, refl)
+
 pub encode-once : OneOutcome 1 encode.Kinds.ps encode.Kinds.r encode.Reads.Asked encode.Reads.Learnt
 encode-once κs a q z z′ w w′ e f = (refl, λ i. (tt, ((e ∙ sym f) i, w .1 .1)))
 
@@ -275,6 +292,9 @@ pub store-cache-once : OneOutcome 2 store_cache.Kinds.ps store_cache.Kinds.r sto
 store-cache-once κs a q z z′ w w′ e f = (refl, λ i. ((e ∙ sym f) i, w .1))
 
 -- ---- face
+pub vdp-new-table-once : OneOutcome 1 vdp_new_table.Kinds.ps vdp_new_table.Kinds.r vdp_new_table.Reads.Asked vdp_new_table.Reads.Learnt
+vdp-new-table-once κs a q z z′ w w′ e f = (e .word ∙ sym (f .word), λ i. ((e .block ∙ sym (f .block)) i, w .1))
+
 pub vdp-new-once : OneOutcome 1 vdp_new.Kinds.ps vdp_new.Kinds.r vdp_new.Reads.Asked vdp_new.Reads.Learnt
 vdp-new-once κs a q z z′ w w′ e f = (e .word ∙ sym (f .word), λ i. ((e .block ∙ sym (f .block)) i, w .1))
 

@@ -1,6 +1,6 @@
--- From a fresh device, after any calls: clean colours, a counter in its pass, an address in its memory, and the scroll that was latched last.
+-- From a fresh device of either table, after any calls: clean colours, a counter in its pass, an address in its memory, and the scroll that was latched last.
 -- Assumes nothing.
-use mathlib.Core.Path.{_≡_, refl, sym, _∙_, subst}
+use mathlib.Core.Path.{_≡_, refl, sym, ap, _∙_, subst}
 use mathlib.Core.Bool.{Bool, true, false, cond, not, _&&_, and-false}
 use mathlib.Core.List.{List, [], _∷_}
 use Prim.Native.Nat.{ℕ}
@@ -10,7 +10,9 @@ use borrow.Author.Tests.{eqb-true, ne-eqb}
 use Rattle.laws.proofs.Tests.{split, clash}
 use Rattle.picture.specs.declared.RenderArea.{RenderArea}
 use Rattle.raster.specs.declared.Raster.{Raster}
+use Rattle.raster.specs.declared.LineTable.{LineTable}
 use Rattle.raster.specs.Raster.{up, jumps, starts, jumpLine, advanced, counted, ticked}
+use Rattle.raster.proofs.Tables.{jump-back}
 use Rattle.vdp.specs.declared.VdpState.{VdpState}
 use Rattle.vdp.specs.Refusals.{Line, size}
 use Rattle.vdp.proofs.Tables.{under-either}
@@ -18,9 +20,10 @@ use Rattle.vdp.proofs.Invariant.{Aimed, write-aimed, read-aimed}
 use Rattle.step.specs.declared.Stepped.{Stepped}
 use Rattle.step.specs.Step.{register, lineOf, stepped, refusedStep, rowLines, frameLines, stepWith, rowStep, frameStep}
 use Rattle.demands.specs.Pass.{Call, out, input, step-frame, step-row, dump-tiles, History, after, deviceAfter, becomesZero, latched, NoStepOn, Between, then}
+use Rattle.demands.specs.Always.{TableKept}
 use Rattle.demands.proofs.Counter.{InPass, tick, line}
-use Rattle.demands.proofs.Lines.{starts-at}
-use Rattle.demands.proofs.Kept.{Clean, write-keeps, read-keeps}
+use Rattle.demands.proofs.Lines.{starts-at, same-table}
+use Rattle.step.proofs.Kept.{Clean, write-keeps, read-keeps}
 use Rattle.step.proofs.Laws.{stepped-raster, stepped-addr, stepped-dest}
 use Rattle.demands.proofs.Steps.{stepped-clean, refused-raster}
 
@@ -74,13 +77,27 @@ unfolding ticked counted advanced
 moved-within (stays e) w = subst InPass (sym e) w
 moved-within {x = x} (ticks e) w = subst InPass (sym e) (tick x w .within)
 
-pub sound : (h : History) → Sound (deviceAfter h)
+pub sound : (t : LineTable) (h : History) → Sound (deviceAfter t h)
 unfolding deviceAfter
-sound [] = record { clean = λ e. absurd (let z : _≡_ {A = ℕ} 0 1 = cc in omega arith); within = omega arith; aimed = omega arith }
-sound (c ∷ h) =
-    let l = left c (deviceAfter h) in
-    let s = sound h in
+sound t [] = record { clean = λ e. absurd (let z : _≡_ {A = ℕ} 0 1 = cc in omega arith); within = omega (arith, jump-back t); aimed = omega arith }
+sound t (c ∷ h) =
+    let l = left c (deviceAfter t h) in
+    let s = sound t h in
     record { clean = l .clean (s .clean); within = moved-within (l .moved) (s .within); aimed = l .aimed (s .aimed) }
+
+-- ---- the table
+moved-table : {g : ℕ → ℕ} {x x′ : Raster} → Moved g x x′ → x′ .table ≡ x .table
+moved-table (stays e) = ap (λ (y : Raster). y .table) e
+moved-table {g} {x} (ticks e) = ap (λ (y : Raster). y .table) e ∙ same-table g x
+
+pub table-kept : TableKept
+table-kept c d = moved-table (left c d .moved)
+
+-- so it is the one that the device was made with
+pub table-is : (t : LineTable) (h : History) → deviceAfter t h .raster .table ≡ t
+unfolding deviceAfter
+table-is t [] = refl
+table-is t (c ∷ h) = table-kept c (deviceAfter t h) ∙ table-is t h
 
 -- ---- the latched scroll
 -- a step makes the counter 0 exactly when it starts a pass
@@ -90,7 +107,7 @@ zero-starts x =
     split (starts x)
     (λ s.
     let z : up x ≡ 0 = eqb-true (up x) 0 s in
-    rw (ne-eqb (up x) jumpLine (λ f. omega arith), ne-eqb (x .«v_counter») 0 (λ f. omega arith)))
+    rw (ne-eqb (up x) (jumpLine (x .table)) (λ f. omega (arith, jump-back (x .table))), ne-eqb (x .«v_counter») 0 (λ f. omega arith)))
     (λ s. rw (ne-eqb (line x) 0 (λ f. clash (sym (starts-at x f) ∙ s)), s) (and-false (not (eqb (x .«v_counter») 0))))
 
 not-both : (b : Bool) → (not b && b) ≡ false
@@ -105,10 +122,10 @@ moved-scroll d d′ l (stays e) s = rw (e, not-both (eqb (lineOf d) 0)) s
 moved-scroll d d′ l (ticks e) s = rw (e, zero-starts (d .raster), s)
 
 -- the scroll in the record is the one latched when the counter last became 0
-pub scroll-is : (h : History) → deviceAfter h .raster .«vertical_scroll» ≡ latched h
+pub scroll-is : (t : LineTable) (h : History) → deviceAfter t h .raster .«vertical_scroll» ≡ latched t h
 unfolding deviceAfter latched
-scroll-is [] = refl
-scroll-is (c ∷ h) = moved-scroll (deviceAfter h) (after c (deviceAfter h)) (latched h) (left c (deviceAfter h) .moved) (scroll-is h)
+scroll-is t [] = refl
+scroll-is t (c ∷ h) = moved-scroll (deviceAfter t h) (after c (deviceAfter t h)) (latched t h) (left c (deviceAfter t h) .moved) (scroll-is t h)
 
 -- ---- between steps
 pub quiet : (c : Call) (d : VdpState) → NoStepOn d c → after c d .raster ≡ d .raster
@@ -119,7 +136,7 @@ quiet (step-frame a vram k) d n = refused-raster (frameLines a vram k) a vram d 
 quiet (step-row a vram k) d n = refused-raster (rowLines a vram k) a vram d (λ e. n (rowStep a vram k d) (refl, e))
 quiet (dump-tiles vram k) d n = refl
 
-pub then-raster : (cs : List Between) (h : History) → deviceAfter (then cs h) .raster ≡ deviceAfter h .raster
+pub then-raster : (t : LineTable) (cs : List Between) (h : History) → deviceAfter t (then cs h) .raster ≡ deviceAfter t h .raster
 unfolding then deviceAfter
-then-raster [] h = refl
-then-raster (c ∷ cs) h = then-raster cs (c .call ∷ h) ∙ quiet (c .call) (deviceAfter h) (c .no-step (deviceAfter h))
+then-raster t [] h = refl
+then-raster t (c ∷ cs) h = then-raster t cs (c .call ∷ h) ∙ quiet (c .call) (deviceAfter t h) (c .no-step (deviceAfter t h))

@@ -21,15 +21,16 @@ use Rattle.picture.specs.Picture.{Row}
 use Rattle.picture.specs.Area.{columns, rows, firstLine, rowBytes}
 use Rattle.picture.proofs.Laws.{length-rowBytes, pixel-byte}
 use Rattle.raster.specs.declared.Raster.{Raster}
+use Rattle.raster.specs.declared.LineTable.{LineTable}
 use Rattle.raster.specs.Raster.{passLength, jumpTo, advanced}
 use Rattle.step.specs.declared.DrawnRow.the-variants.{Drawn}
 use Rattle.step.specs.Step.{register, rowOn}
 use Rattle.step.proofs.Rows.{row-low, row-line}
-use Rattle.demands.specs.Pass.{Run, through, ready, latched, answer, lineSet, rowAtEnd, pictureAt}
+use Rattle.demands.specs.Pass.{Run, pass, through, ready, latched, answer, lineSet, rowAtEnd, pictureAt}
 use Rattle.demands.specs.Split.{firstNew, Split, ColourSplit, Ninety, pixelAtEnd, fourBytes, OnlyColour, WhichPixels, Twins, Changed}
 use Rattle.demands.proofs.Counter.{line}
 use Rattle.demands.proofs.Lines.{line-next}
-use Rattle.demands.proofs.Demand3.{line-row, line-of, row-on, lines, lines-later, still, raster-next, scroll-at, demand3}
+use Rattle.demands.proofs.Demand3.{table-at, line-row, line-of, row-on, lines, lines-later, still, raster-next, scroll-at, demand3}
 
 -- ---- the lines of a pass
 module _ {a : RenderArea} (r : Run a) where
@@ -43,26 +44,29 @@ module _ {a : RenderArea} (r : Run a) where
       ∙ sym (add-suc (lineSet r i) k))
 
   -- the step after the pass sets the line that its first step set
-  round : (q : ℕ) → q < jumpTo → lineSet r passLength ≡ q → lineSet r 0 ≡ q
+  round : (q : ℕ) → q < jumpTo → lineSet r (pass r) ≡ q → lineSet r 0 ≡ q
   round q l e = let o = lines r q (inl l) (omega arith) in go (o .at) (o .below) (o .holds)
     where
-      go : (k : ℕ) → k < passLength → line (ready r k .raster) ≡ q → lineSet r 0 ≡ q
+      go : (k : ℕ) → k < pass r → line (ready r k .raster) ≡ q → lineSet r 0 ≡ q
       go zero h f = line-of r 0 ∙ f
       go (suc k) h f =
           let p = lines-later r q l in
           let only-k : k ≡ p .at = p .only k (omega arith) f in
-          let only-last : passLength - 1 ≡ p .at = p .only (passLength - 1) (omega arith) (sym (line-of r passLength) ∙ e) in
+          let last : suc (pass r - 1) ≡ pass r = omega arith in
+          let again : line (ready r (suc (pass r - 1)) .raster) ≡ q =
+          subst (λ (n : ℕ). line (ready r n .raster) ≡ q) (sym last) (sym (line-of r (pass r)) ∙ e) in
+          let only-last : pass r - 1 ≡ p .at = p .only (pass r - 1) (omega arith) again in
           absurd (omega arith)
 
   -- so where the pass does not begin after line p and up to line q, from the step of the pass that sets p it goes on to q
   goes-on :
-      (i p q : ℕ) → i < passLength → lineSet r i ≡ p → p ≤ q → q < jumpTo → (lineSet r 0 ≤ p) ⊎ (q < lineSet r 0) → i + (q - p) < passLength
+      (i p q : ℕ) → i < pass r → lineSet r i ≡ p → p ≤ q → q < jumpTo → (lineSet r 0 ≤ p) ⊎ (q < lineSet r 0) → i + (q - p) < pass r
   goes-on i p q h e f l out =
-      split (ltb (i + (q - p)) passLength) (λ t. ltb-true (i + (q - p)) passLength t)
+      split (ltb (i + (q - p)) (pass r)) (λ t. ltb-true (i + (q - p)) (pass r) t)
       (λ t.
-      let late : passLength ≤ i + (q - p) = ltb-false (i + (q - p)) passLength t in
-      let k : ℕ = passLength - i in
-      let there : i + k ≡ passLength = omega arith in
+      let late : pass r ≤ i + (q - p) = ltb-false (i + (q - p)) (pass r) t in
+      let k : ℕ = pass r - i in
+      let there : i + k ≡ pass r = omega arith in
       let up : lineSet r (i + k) ≡ lineSet r i + k = rising i k (omega arith) in
       let begins : lineSet r 0 ≡ p + k =
       round (p + k) (omega arith) (subst (λ (n : ℕ). lineSet r n ≡ p + k) there (up ∙ ap (λ (n : ℕ). n + k) e)) in
@@ -70,7 +74,7 @@ module _ {a : RenderArea} (r : Run a) where
 
   -- and the step that sets q is as many steps on
   apart :
-      (i j p q : ℕ) → i < passLength → j < passLength → lineSet r i ≡ p → lineSet r j ≡ q → p ≤ q → q < jumpTo →
+      (i j p q : ℕ) → i < pass r → j < pass r → lineSet r i ≡ p → lineSet r j ≡ q → p ≤ q → q < jumpTo →
       (lineSet r 0 ≤ p) ⊎ (q < lineSet r 0) → j ≡ i + (q - p)
   apart i j p q h g e d f l out =
       let o = lines r q (inl l) (omega arith) in
@@ -148,7 +152,7 @@ module _ (a : RenderArea) (L y : ℕ) where
 -- ---- the split
 module _ {a : RenderArea} {r : Run a} {L : ℕ} {old new : List ℕ} (s : Split r L old new) (once : firstLine a + rows a ≤ jumpTo) where
   -- where L is at the jump's end or after it, the pass began no later than its first row, and the rows have been drawn
-  far : (i n : ℕ) → i < passLength → lineSet r i ≡ n → firstLine a ≤ n → n < firstLine a + rows a → jumpTo ≤ L → i ≤ s .step
+  far : (i n : ℕ) → i < pass r → lineSet r i ≡ n → firstLine a ≤ n → n < firstLine a + rows a → jumpTo ≤ L → i ≤ s .step
   far i n h e f l j =
       let b : ℕ = lineSet r 0 in
       let up : b ≤ firstLine a = ⊎-elim (λ o. o .0) (λ o. absurd (omega (arith, o .2))) (s .from-top) in
@@ -162,7 +166,7 @@ module _ {a : RenderArea} {r : Run a} {L : ℕ} {old new : List ℕ} (s : Split 
       (λ t. ltb-false (s .step) i t)
 
   -- a row up to that of line L is drawn no later than the step that sets L, a row below it later
-  no-later : (i y : ℕ) → i < passLength → answer r i .row ≡ Drawn y → y < firstNew a L → i ≤ s .step
+  no-later : (i y : ℕ) → i < pass r → answer r i .row ≡ Drawn y → y < firstNew a L → i ≤ s .step
   no-later i y h e f =
       let n : ℕ = y + firstLine a in
       let w = row-set r i y e in
@@ -175,7 +179,7 @@ module _ {a : RenderArea} {r : Run a} {L : ℕ} {old new : List ℕ} (s : Split 
       omega (arith, k))
       (λ t. far i n h (w .0) (omega arith) (omega (arith, w .1)) (ltb-false L jumpTo t))
 
-  later : (i y : ℕ) → i < passLength → answer r i .row ≡ Drawn y → firstNew a L ≤ y → s .step < i
+  later : (i y : ℕ) → i < pass r → answer r i .row ≡ Drawn y → firstNew a L ≤ y → s .step < i
   later i y h e f =
       let n : ℕ = y + firstLine a in
       let w = row-set r i y e in
@@ -186,12 +190,12 @@ module _ {a : RenderArea} {r : Run a} {L : ℕ} {old new : List ℕ} (s : Split 
       omega (arith, k)
 
   old-rows :
-      (i y : ℕ) → i < passLength → answer r i .row ≡ Drawn y → y < firstNew a L →
+      (i y : ℕ) → i < pass r → answer r i .row ≡ Drawn y → y < firstNew a L →
       rowAtEnd r y ≡ rowBytes (coloursOf old) (columns a) (pictureAt r i y)
   old-rows i y h e l = rw (s .until-then i (no-later i y h e l)) at (demand3 r once .row-bytes i y h e)
 
   new-rows :
-      (i y : ℕ) → i < passLength → answer r i .row ≡ Drawn y → firstNew a L ≤ y →
+      (i y : ℕ) → i < pass r → answer r i .row ≡ Drawn y → firstNew a L ≤ y →
       rowAtEnd r y ≡ rowBytes (coloursOf new) (columns a) (pictureAt r i y)
   new-rows i y h e l = rw (s .from-then i (later i y h e l) h) at (demand3 r once .row-bytes i y h e)
 
@@ -206,12 +210,12 @@ module _ {a : RenderArea} {r : Run a} {L : ℕ} {old new : List ℕ} (s : Split 
 
   module _ (c : ℕ) (only : OnlyColour c old new) where
     new-pixel :
-        (i x y : ℕ) → i < passLength → answer r i .row ≡ Drawn y → x < columns a → firstNew a L ≤ y →
+        (i x y : ℕ) → i < pass r → answer r i .row ≡ Drawn y → x < columns a → firstNew a L ≤ y →
         pixelAtEnd r x y ≡ fourBytes (at (coloursOf new) (pictureAt r i y .colour x))
     new-pixel i x y h e w l = ap (rowOf 4 x) (new-rows i y h e l) ∙ pixel (pictureAt r i y) (coloursOf new) (columns a) x w
 
     old-pixel :
-        (i x y : ℕ) → i < passLength → answer r i .row ≡ Drawn y → x < columns a → y < firstNew a L →
+        (i x y : ℕ) → i < pass r → answer r i .row ≡ Drawn y → x < columns a → y < firstNew a L →
         pixelAtEnd r x y ≡ fourBytes (at (coloursOf old) (pictureAt r i y .colour x))
     old-pixel i x y h e w l = ap (rowOf 4 x) (old-rows i y h e l) ∙ pixel (pictureAt r i y) (coloursOf old) (columns a) x w
 
@@ -228,34 +232,41 @@ module _ {a : RenderArea} {r : Run a} {L : ℕ} {old new : List ℕ} (s : Split 
 
 -- ---- with the change and without it
 module _ {a : RenderArea} {r r₀ : Run a} (t : Twins r r₀) (once : firstLine a + rows a ≤ jumpTo) where
-  same-register : (i : ℕ) → i < passLength → register (ready r i) ≡ register (ready r₀ i)
+  -- both devices have the same table, and so passes of one length
+  one-table : r .table ≡ r₀ .table
+  one-table = sym (table-at r 0) ∙ ap (λ (x : Raster). x .table) (t .start) ∙ table-at r₀ 0
+
+  in-both : (i : ℕ) → i < pass r → i < pass r₀
+  in-both i h = subst (λ (u : LineTable). i < passLength u) one-table h
+
+  same-register : (i : ℕ) → i < pass r → register (ready r i) ≡ register (ready r₀ i)
   same-register i h = ap (λ (g : List ℕ). at g) (t .registers i h)
 
-  same-raster : (i : ℕ) → i < passLength → ready r i .raster ≡ ready r₀ i .raster
+  same-raster : (i : ℕ) → i < pass r → ready r i .raster ≡ ready r₀ i .raster
   same-raster zero h = t .start
   same-raster (suc i) h =
-      let h′ : i < passLength = omega arith in
+      let h′ : i < pass r = omega arith in
       raster-next r i ∙ rw (same-register i h′, same-raster i h′) (sym (raster-next r₀ i))
 
-  same-row : (i : ℕ) → i < passLength → answer r i .row ≡ answer r₀ i .row
+  same-row : (i : ℕ) → i < pass r → answer r i .row ≡ answer r₀ i .row
   same-row i h = row-on r i ∙ ap (λ (x : Raster). rowOn a (line x)) (same-raster i h) ∙ sym (row-on r₀ i)
 
-  same-scroll : (i : ℕ) → i < passLength → latched (through r i) ≡ latched (through r₀ i)
+  same-scroll : (i : ℕ) → i < pass r → latched (r .table) (through r i) ≡ latched (r₀ .table) (through r₀ i)
   same-scroll i h =
       sym (scroll-at r i)
       ∙ ap (λ (g : List ℕ). advanced (at g) (ready r i .raster) .«vertical_scroll») (t .registers i h)
       ∙ ap (λ (x : Raster). advanced (register (ready r₀ i)) x .«vertical_scroll») (same-raster i h)
       ∙ scroll-at r₀ i
 
-  same-picture : (i y : ℕ) → i < passLength → pictureAt r i y ≡ pictureAt r₀ i y
+  same-picture : (i y : ℕ) → i < pass r → pictureAt r i y ≡ pictureAt r₀ i y
   same-picture i y h = rw (same-scroll i h, t .registers i h, t .memory i h)
 
-  module _ {L : ℕ} {old new : List ℕ} (s : Split r L old new) (kept : (i : ℕ) → i < passLength → ready r₀ i .cram ≡ old) where
+  module _ {L : ℕ} {old new : List ℕ} (s : Split r L old new) (kept : (i : ℕ) → i < pass r → ready r₀ i .cram ≡ old) where
     unchanged :
-        (i x y : ℕ) → i < passLength → answer r i .row ≡ Drawn y → x < columns a →
+        (i x y : ℕ) → i < pass r → answer r i .row ≡ Drawn y → x < columns a →
         pixelAtEnd r₀ x y ≡ fourBytes (at (coloursOf old) (pictureAt r i y .colour x))
     unchanged i x y h e w =
-        let b = demand3 r₀ once .row-bytes i y h (sym (same-row i h) ∙ e) in
+        let b = demand3 r₀ once .row-bytes i y (in-both i h) (sym (same-row i h) ∙ e) in
         ap (rowOf 4 x) b
         ∙ rw (kept i h, ← same-picture i y h) (pixel (pictureAt r i y) (coloursOf old) (columns a) x w)
 
@@ -280,7 +291,7 @@ pub colour-split-visible : {r : Run VisibleOnly} {L : ℕ} {old new : List ℕ} 
 colour-split-visible s = colour-split s visible-once
 
 pub changed-visible :
-    {r r₀ : Run VisibleOnly} {L : ℕ} {old new : List ℕ} → Twins r r₀ → Split r L old new → ((i : ℕ) → i < passLength → ready r₀ i .cram ≡ old) →
+    {r r₀ : Run VisibleOnly} {L : ℕ} {old new : List ℕ} → Twins r r₀ → Split r L old new → ((i : ℕ) → i < pass r → ready r₀ i .cram ≡ old) →
     (c : ℕ) → OnlyColour c old new → Changed r r₀ L c old new
 changed-visible t s kept c only = changed t visible-once s kept c only
 
@@ -289,8 +300,8 @@ pub ninety : {r : Run VisibleOnly} {old new : List ℕ} (s : Split r 90 old new)
 ninety {r} s =
     let c = colour-split-visible s in
     let out : (lineSet r 0 ≤ 90) ⊎ (91 < lineSet r 0) = ⊎-elim (λ o. inl (o .1)) (λ o. inr (omega (arith, o .0))) (s .from-top) in
-    let on : s .step + 1 < passLength = goes-on r (s .step) 90 91 (s .in-pass) (s .sets) (omega arith) (omega arith) out in
-    let n : suc (s .step) < passLength = omega arith in
+    let on : s .step + 1 < pass r = goes-on r (s .step) 90 91 (s .in-pass) (s .sets) (omega arith) (omega arith) out in
+    let n : suc (s .step) < pass r = omega arith in
     let next : lineSet r (suc (s .step)) ≡ 91 =
     line-of r (suc (s .step)) ∙ line-next (ready r (suc (s .step)) .raster) 90 (c .reads) (omega arith) in
     record {

@@ -20,7 +20,7 @@ use Rattle.step.specs.declared.DrawnRow.the-variants.{NoRow, Drawn}
 use Rattle.step.specs.declared.VdpInt.the-variants.{InterruptGenerated, NoInterrupt}
 use Rattle.step.specs.Step.{register, lineOf, counterUp, rowOn, coloursNow, stepped, frameLines, stepWith, frameStep}
 use Rattle.step.proofs.Laws.{stepped-refusal, dirtyAfter, cacheAfter, stepped-dirty, stepped-cache, stepped-cram, stepped-interrupt, step-exact, step-accepted, step-left, frame-refusing}
-use Rattle.demands.proofs.Kept.{Clean}
+use Rattle.step.proofs.Kept.{Clean}
 
 -- ---- colours
 -- those that a row is drawn with are the palette's

@@ -1,4 +1,4 @@
--- R13.7, the author's program itself: from a fresh device, on any frame and with any video memory at each step, it waits until the counter reads 90 and
+-- R13.7, the author's program itself: from a fresh device of either table, on any frame and with any video memory at each step, it waits until the counter reads 90 and
 -- then gives colour 3 other palette bytes.
 -- Assumes nothing.
 use mathlib.Core.Path.{_≡_}
@@ -10,9 +10,10 @@ use lib.ListN.{length, set}
 use Rattle.laws.specs.Lists.{at}
 use Rattle.colour.specs.Colour.{colour, coloursOf}
 use Rattle.picture.specs.declared.RenderArea.the-variants.{VisibleOnly}
+use Rattle.raster.specs.declared.LineTable.{LineTable}
 use Rattle.vdp.specs.declared.VdpState.{VdpState}
 use Rattle.vdp.specs.declared.Refusal.the-variants.{Accepted}
-use Rattle.vdp.specs.Device.{fresh}
+use Rattle.vdp.specs.Device.{made}
 use Rattle.step.specs.Step.{frameStep}
 use Rattle.demands.specs.Pass.{out, Between, Run}
 use Rattle.demands.specs.Split.{Split, Changed}
@@ -26,12 +27,13 @@ abbrev pub recolour : ℕ → ℕ → List ℕ → List Between
 recolour low high vram = write 0xBF 0x06 vram ∷ write 0xBF 0xC0 vram ∷ write 0xBE low vram ∷ write 0xBE high vram ∷ []
 
 module _
-    (vram : ℕ → List ℕ) (frame : List ℕ) (accepted : (i : ℕ) (d : VdpState) → frameStep VisibleOnly (vram i) (length frame) d .refusal ≡ Accepted) (low high : ℕ)
+    (t : LineTable) (vram : ℕ → List ℕ) (frame : List ℕ) (accepted : (i : ℕ) (d : VdpState) → frameStep VisibleOnly (vram i) (length frame) d .refusal ≡ Accepted) (low high : ℕ)
   where
     -- step 0 sets line 1, so that step 89 sets line 90, and the writes come before step 90
     abbrev pub asked : Run VisibleOnly
     asked =
         record {
+          table = t;
           before = [];
           between = λ i. cond (eqb i 90) (recolour low high (vram i)) [];
           vram = vram;
@@ -41,13 +43,13 @@ module _
 
     -- the same without the writes
     abbrev pub unasked : Run VisibleOnly
-    unasked = record { before = []; between = λ i. []; vram = vram; frame = frame; accepted = accepted }
+    unasked = record { table = t; before = []; between = λ i. []; vram = vram; frame = frame; accepted = accepted }
 
     abbrev pub newPalette : List ℕ
-    newPalette = set (set (fresh .cram) 6 low) 7 (high % 16)
+    newPalette = set (set (made t .cram) 6 low) 7 (high % 16)
 
     -- The answer: the pixels of number 3 in rows from 67 on change, to the colour of the two bytes, and no others.
     pub record Answered : Type 0 where
-      pub split : Split asked 90 (fresh .cram) newPalette
-      pub changed : Changed asked unasked 90 3 (fresh .cram) newPalette
+      pub split : Split asked 90 (made t .cram) newPalette
+      pub changed : Changed asked unasked 90 3 (made t .cram) newPalette
       pub new-colour : at (coloursOf newPalette) 3 ≡ colour low (high % 16)

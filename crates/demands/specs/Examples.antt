@@ -15,9 +15,11 @@ use Rattle.picture.specs.declared.RenderArea.the-variants.{VisibleOnly}
 use Rattle.picture.specs.View.{visibleEnd, visibleSeen, visibleStand}
 use Rattle.picture.specs.Picture.{bare, solid, heldBack, marked, struck, drawn, laid}
 use Rattle.picture.specs.Examples.{spot, places}
+use Rattle.raster.specs.declared.LineTable.{LineTable}
+use Rattle.raster.specs.declared.LineTable.the-variants.{Steps261}
 use Rattle.raster.specs.Raster.{passLength, jumps, starts, advanced, lineInterrupt, counted}
 use Rattle.vdp.specs.declared.VdpState.{VdpState}
-use Rattle.vdp.specs.Device.{fresh}
+use Rattle.vdp.specs.Device.{made, fresh}
 use Rattle.vdp.specs.Refusals.{refusalNumber}
 use Rattle.vdp.specs.Ports.{portWrite, portRead}
 use Rattle.vdp.specs.Calls.{Call, write, read, Answer, w, r, after, answer, afterAll, answers, start}
@@ -48,8 +50,8 @@ unfoldable pub stepsOn : ℕ → VdpState → VdpState
 stepsOn zero d = d
 stepsOn (suc n) d = stepsOn n (stepped VisibleOnly zeroed d .vdp)
 
-abbrev lineAfter : ℕ → ℕ
-lineAfter n = lineOf (stepsOn n fresh)
+abbrev lineAfter : LineTable → ℕ → ℕ
+lineAfter t n = lineOf (stepsOn n (made t))
 
 unfoldable pub interruptLines : ℕ → VdpState → List ℕ
 interruptLines zero d = []
@@ -59,11 +61,12 @@ interruptLines (suc n) d =
     cond (eqb (interruptNumber (s .interrupt)) 1) (lineOf (s .vdp) ∷ rest) rest
 
 -- a fresh device with register 0 at 10 (hex) and register 10 at N; and after all steps of its first pass but the last, which sets line 0
-abbrev pub every : ℕ → VdpState
-every n = afterAll start (write 0xBF 0x10 ∷ write 0xBF 0x80 ∷ write 0xBF n ∷ write 0xBF 0x8A ∷ []) .device
+abbrev pub every : LineTable → ℕ → VdpState
+every t n =
+    afterAll (record { device = made t; vram = zeroed }) (write 0xBF 0x10 ∷ write 0xBF 0x80 ∷ write 0xBF n ∷ write 0xBF 0x8A ∷ []) .device
 
-abbrev pub beforeLine0 : ℕ → VdpState
-beforeLine0 n = stepsOn (passLength - 1) (every n)
+abbrev pub beforeLine0 : LineTable → ℕ → VdpState
+beforeLine0 t n = stepsOn (passLength t - 1) (every t n)
 
 -- the refusal of a step on a frame of n bytes
 abbrev refusedOn : ℕ → ℕ
@@ -88,7 +91,7 @@ examples =
     ∷ refusals (answers start (write 0xBF 0x01 ∷ write 0xBF 0xC0 ∷ write 0xBE 0x77 ∷ []))
     ∷ refusals (answers start (write 0xBF 0x00 ∷ write 0xBF 0x8A ∷ write 0xBF 0x00 ∷ write 0xBF 0x8B ∷ []))
     -- P7 the counter after so many steps
-    ∷ (lineAfter 217 ∷ lineAfter 218 ∷ lineAfter 260 ∷ lineAfter 261 ∷ [])
+    ∷ (lineAfter Steps261 217 ∷ lineAfter Steps261 218 ∷ lineAfter Steps261 260 ∷ lineAfter Steps261 261 ∷ [])
     -- P8 X 45, P9 X 203, P10 early clock X 49: x, start, end
     ∷ spot (visibleStand 0 45)
     ∷ spot (visibleStand 0 203)
@@ -96,7 +99,7 @@ examples =
     -- P11 unseen X 208, then 209
     ∷ (marks 208 ∷ marks 209 ∷ [])
     -- P12 line interrupts on, N = 3: the first of the next 12 steps, lines 0 to 11
-    ∷ interruptLines 12 (beforeLine0 3)
+    ∷ interruptLines 12 (beforeLine0 Steps261 3)
     -- P13 frame 92,159, then 92,160
     ∷ (refusedOn 92159 ∷ refusedOn 92160 ∷ [])
     ∷ []

@@ -2,9 +2,10 @@
 -- Assumes nothing.
 use mathlib.Core.Path.{_≡_}
 use Prim.Native.Nat.{ℕ, suc, _+_, _≤_, _<_, _∣_}
+use Rattle.raster.specs.declared.LineTable.{LineTable}
 use Rattle.raster.specs.Raster.{passLength}
 use Rattle.vdp.specs.declared.VdpState.{VdpState}
-use Rattle.vdp.specs.Device.{fresh}
+use Rattle.vdp.specs.Device.{made}
 use Rattle.step.specs.declared.Stepped.{Stepped}
 use Rattle.step.specs.Step.{register, lineOf}
 use Rattle.demands.specs.Pass.{Call, after, Steps, NoStepOn, LineInterruptsEvery, InterruptsWhen, ForLine}
@@ -28,10 +29,10 @@ pub record FromLine0 (N : ℕ) (start : VdpState) (reads : lineOf start ≡ 0xFF
   -- R13.6: line k, 0 to 193, interrupts exactly where N + 1 divides k + 2
   pub to-193 : (k : ℕ) → k ≤ 193 → StepHas N start k (ForLine N k)
   -- from there to the end of the pass, with the count at register 10 again after each, a step reports one exactly when N is 0
-  pub past-193 : (k : ℕ) → 193 < k → k < passLength → StepHas N start k (λ s. InterruptsWhen s (N ≡ 0))
+  pub past-193 : (k : ℕ) → 193 < k → k < passLength (start .raster .table) → StepHas N start k (λ s. InterruptsWhen s (N ≡ 0))
 
--- The first pass: from a device that has not stepped since it was fresh, so that its counter and line count are 0. Line 1 reports, and each N + 1
--- lines on.
-pub record FirstPass (N : ℕ) (start : VdpState) (unstepped : start .raster ≡ fresh .raster) : Type 0 where
+-- The first pass: from a device that has not stepped since it was made with table t, so that its counter and line count are 0. Line 1 reports, and
+-- each N + 1 lines on.
+pub record FirstPass (N : ℕ) (t : LineTable) (start : VdpState) (unstepped : start .raster ≡ made t .raster) : Type 0 where
   pub to-193 : (i : ℕ) → i < 193 → StepHas N start i (λ s. (lineOf (s .vdp) ≡ suc i) × InterruptsWhen s (N + 1 ∣ i))
-  pub past-193 : (i : ℕ) → 193 ≤ i → suc i < passLength → StepHas N start i (λ s. InterruptsWhen s (N ≡ 0))
+  pub past-193 : (i : ℕ) → 193 ≤ i → suc i < passLength t → StepHas N start i (λ s. InterruptsWhen s (N ≡ 0))

@@ -8,3 +8,4 @@ pub mod Author
 pub mod Outcome
 pub mod Examples
 pub mod Further
+pub mod Chart

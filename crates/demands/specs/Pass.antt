@@ -14,11 +14,12 @@ use Rattle.colour.specs.Colour.{coloursOf}
 use Rattle.picture.specs.declared.RenderArea.{RenderArea}
 use Rattle.picture.specs.Picture.{Row}
 use Rattle.picture.specs.Area.{columns, rows, rowSize, pictureOf, rowBytes}
+use Rattle.raster.specs.declared.LineTable.{LineTable}
 use Rattle.raster.specs.Raster.{passLength}
 use Rattle.vdp.specs.declared.VdpState.{VdpState}
 use Rattle.vdp.specs.declared.Refusal.{Refusal}
 use Rattle.vdp.specs.declared.Refusal.the-variants.{Accepted}
-use Rattle.vdp.specs.Device.{fresh}
+use Rattle.vdp.specs.Device.{made}
 use Rattle.vdp.specs.Ports.{portWrite, portRead}
 use Rattle.step.specs.declared.Stepped.{Stepped}
 use Rattle.step.specs.declared.VdpInt.the-variants.{InterruptGenerated}
@@ -28,7 +29,7 @@ use Rattle.step.specs.Step.{register, lineOf, rowStep, frameStep}
 use Rattle.step.specs.Frame.{frameAfter}
 use Rattle.step.specs.Dump.{dumpRefusal}
 
--- ---- calls, from a fresh device on
+-- ---- calls, from a fresh device of either table on
 -- A call, with the video memory lent to it; `size` is the length of the pixel buffer lent to it.
 -- (Nothing is assumed of how the memory lent to one call is related to that lent to the next.)
 pub data Call : Type 0 where
@@ -54,21 +55,21 @@ refusalOf (step-frame a vram size) d = frameStep a vram size d .refusal
 refusalOf (step-row a vram size) d = rowStep a vram size d .refusal
 refusalOf (dump-tiles vram size) d = dumpRefusal vram size
 
--- the calls made so far, the last one first, and the device after them, which was fresh before them
+-- the calls made so far, the last one first, and the device after them, which was made with table t before them
 abbrev pub History : Type 0
 History = List Call
 
-unfoldable pub deviceAfter : History → VdpState
-deviceAfter [] = fresh
-deviceAfter (c ∷ h) = after c (deviceAfter h)
+unfoldable pub deviceAfter : LineTable → History → VdpState
+deviceAfter t [] = made t
+deviceAfter t (c ∷ h) = after c (deviceAfter t h)
 
 -- R13.5: the scroll that the counter's last 0 latched: register 9 at that call, and 0 before there was one
 abbrev pub becomesZero : VdpState → VdpState → Bool
 becomesZero d d′ = not (eqb (lineOf d) 0) && eqb (lineOf d′) 0
 
-unfoldable pub latched : History → ℕ
-latched [] = 0
-latched (c ∷ h) = cond (becomesZero (deviceAfter h) (deviceAfter (c ∷ h))) (register (deviceAfter h) 9) (latched h)
+unfoldable pub latched : LineTable → History → ℕ
+latched t [] = 0
+latched t (c ∷ h) = cond (becomesZero (deviceAfter t h) (deviceAfter t (c ∷ h))) (register (deviceAfter t h) 9) (latched t h)
 
 -- ---- R13.3: accepted steps on one frame, one after another, with calls between them that do not write it
 -- Call c on device d is an accepted step, of either kind and area, and answers s.
@@ -92,9 +93,12 @@ pub record Between : Type 0 where
   pub call : Call
   pub no-step : NoStep call
 
--- Steps 0, 1, 2 and so on, without end; a pass is the first 261 of them. (A run that ends can go on: what is said of its pass stays.)
+-- Steps 0, 1, 2 and so on, without end; a pass is the first 261 or 262 of them, by the device's table. (A run that ends can go on: what is said
+-- of its pass stays.)
 pub record Run (a : RenderArea) : Type 0 where
-  -- every call since the device was fresh, the last one first
+  -- the table that the device was made with
+  pub table : LineTable
+  -- every call since it was made, the last one first
   pub before : History
   -- the calls made just before step i, the first one first
   pub between : ℕ → List Between
@@ -104,6 +108,10 @@ pub record Run (a : RenderArea) : Type 0 where
   pub frame : List ℕ
   -- each step is accepted, whatever the device (a step's refusal does not depend on the device); so the frame has exactly its area's size
   pub accepted : (i : ℕ) (d : VdpState) → frameStep a (vram i) (length frame) d .refusal ≡ Accepted
+
+-- R4.8: the steps of its pass
+abbrev pub pass : {a : RenderArea} → Run a → ℕ
+pass r = passLength (r .table)
 
 unfoldable pub then : List Between → History → History
 then [] h = h
@@ -122,7 +130,7 @@ through r i = stepCall r i ∷ until r i
 
 -- the device just before step i, and what step i answers
 unfoldable pub ready : {a : RenderArea} → Run a → ℕ → VdpState
-ready r i = deviceAfter (until r i)
+ready r i = deviceAfter (r .table) (until r i)
 
 unfoldable pub answer : {a : RenderArea} → Run a → ℕ → Stepped
 answer {a} r i = frameStep a (r .vram i) (length (r .frame)) (ready r i)
@@ -138,11 +146,11 @@ frameAt {a} r (suc i) = frameAfter a (r .vram i) (ready r i) (frameAt r i)
 
 -- row y of it at the end of the pass
 abbrev pub rowAtEnd : {a : RenderArea} → Run a → ℕ → List ℕ
-rowAtEnd {a} r y = rowOf (rowSize a) y (frameAt r passLength)
+rowAtEnd {a} r y = rowOf (rowSize a) y (frameAt r (pass r))
 
 -- R13.5: the picture of row y by what there is at step i
 abbrev pub pictureAt : {a : RenderArea} → Run a → ℕ → ℕ → Row
-pictureAt {a} r i y = pictureOf a (ready r i .reg) (latched (through r i)) (r .vram i) y
+pictureAt {a} r i y = pictureOf a (ready r i .reg) (latched (r .table) (through r i)) (r .vram i) y
 
 -- R13.6: the registers under which it counts
 pub record LineInterruptsEvery (N : ℕ) (g : ℕ → ℕ) : Type 0 where
@@ -161,15 +169,15 @@ ForLine N k s = (lineOf (s .vdp) ≡ k) × InterruptsWhen s (N + 1 ∣ k + 2)
 -- ---- the demand
 pub record Demand3 {a : RenderArea} (r : Run a) : Type 0 where
   -- R13.3: every row once, and no other
-  pub row-once : (y : ℕ) → y < rows a → ExactlyOnce passLength (λ i. answer r i .row ≡ Drawn y)
+  pub row-once : (y : ℕ) → y < rows a → ExactlyOnce (pass r) (λ i. answer r i .row ≡ Drawn y)
   pub no-other : (i y : ℕ) → answer r i .row ≡ Drawn y → y < rows a
   -- a step that does not draw row y leaves row y as it is (the rows are all of the frame)
   pub row-kept : (i y : ℕ) → answer r i .row ≢ Drawn y → rowOf (rowSize a) y (frameAt r (suc i)) ≡ rowOf (rowSize a) y (frameAt r i)
   -- R13.4: one end of the screen
-  pub end-once : ExactlyOnce passLength (λ i. answer r i .report ≢ NoDisplay)
+  pub end-once : ExactlyOnce (pass r) (λ i. answer r i .report ≢ NoDisplay)
   -- R13.5: at the end row y is as its own step i drew it
   pub row-bytes :
-      (i y : ℕ) → i < passLength → answer r i .row ≡ Drawn y →
+      (i y : ℕ) → i < pass r → answer r i .row ≡ Drawn y →
       rowAtEnd r y ≡ rowBytes (coloursOf (ready r i .cram)) (columns a) (pictureAt r i y)
   -- R13.6: where the registers stay so from step i, which sets line 0, to the one that sets line 193, the step of line k reports an interrupt
   -- exactly where N + 1 divides k + 2 (a case of FromLine0, Interrupts.antt, which says it of any calls on any device)

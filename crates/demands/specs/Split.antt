@@ -12,10 +12,10 @@ use Rattle.colour.specs.Colour.{coloursOf}
 use Rattle.picture.specs.declared.RenderArea.{RenderArea}
 use Rattle.picture.specs.declared.RenderArea.the-variants.{VisibleOnly}
 use Rattle.picture.specs.Area.{columns, rows, firstLine, rowBytes}
-use Rattle.raster.specs.Raster.{passLength, jumpTo}
+use Rattle.raster.specs.Raster.{jumpTo}
 use Rattle.step.specs.declared.DrawnRow.the-variants.{Drawn}
 use Rattle.step.specs.Step.{lineOf, rowOn}
-use Rattle.demands.specs.Pass.{Run, ready, answer, lineSet, rowAtEnd, pictureAt}
+use Rattle.demands.specs.Pass.{Run, pass, ready, answer, lineSet, rowAtEnd, pictureAt}
 
 -- The first row with the new colour, of a change at line L: row 0 for a line before the first row's, row L - 23 for the line of a row, and from the
 -- last row's line on none (144, which is no row).
@@ -32,11 +32,11 @@ pub record Split {a : RenderArea} (r : Run a) (L : ℕ) (old new : List ℕ) : T
   pub from-top : TopDown a (lineSet r 0) L
   -- the step that sets line L
   pub step : ℕ
-  pub in-pass : step < passLength
+  pub in-pass : step < pass r
   pub sets : lineSet r step ≡ L
   -- the palette at each step of the pass
   pub until-then : (i : ℕ) → i ≤ step → ready r i .cram ≡ old
-  pub from-then : (i : ℕ) → step < i → i < passLength → ready r i .cram ≡ new
+  pub from-then : (i : ℕ) → step < i → i < pass r → ready r i .cram ≡ new
 
 pub record ColourSplit {a : RenderArea} {r : Run a} {L : ℕ} {old new : List ℕ} (s : Split r L old new) : Type 0 where
   -- after that step and until the next the counter reads L
@@ -45,11 +45,11 @@ pub record ColourSplit {a : RenderArea} {r : Run a} {L : ℕ} {old new : List �
   pub drew : answer r (s .step) .row ≡ rowOn a L
   -- the old colour stays: in each row y before the first new one, drawn at its own step i
   pub keeps :
-      (i y : ℕ) → i < passLength → answer r i .row ≡ Drawn y → y < firstNew a L →
+      (i y : ℕ) → i < pass r → answer r i .row ≡ Drawn y → y < firstNew a L →
       rowAtEnd r y ≡ rowBytes (coloursOf old) (columns a) (pictureAt r i y)
   -- the new one begins with that row: in each row y from it on
   pub changes :
-      (i y : ℕ) → i < passLength → answer r i .row ≡ Drawn y → firstNew a L ≤ y →
+      (i y : ℕ) → i < pass r → answer r i .row ≡ Drawn y → firstNew a L ≤ y →
       rowAtEnd r y ≡ rowBytes (coloursOf new) (columns a) (pictureAt r i y)
 
 -- The author's own line: the step that sets 90 draws row 66 with the old palette, the next one row 67 with the new.
@@ -73,28 +73,28 @@ OnlyColour c old new = (n : ℕ) → n ≢ c → at (coloursOf new) n ≡ at (co
 pub record WhichPixels {a : RenderArea} {r : Run a} {L : ℕ} {old new : List ℕ} (s : Split r L old new) (c : ℕ) : Type 0 where
   -- those of number c in rows from the first new one on show the new colour
   pub these :
-      (i x y : ℕ) → i < passLength → answer r i .row ≡ Drawn y → x < columns a → firstNew a L ≤ y → pictureAt r i y .colour x ≡ c →
+      (i x y : ℕ) → i < pass r → answer r i .row ≡ Drawn y → x < columns a → firstNew a L ≤ y → pictureAt r i y .colour x ≡ c →
       pixelAtEnd r x y ≡ fourBytes (at (coloursOf new) c)
   -- those in rows before it, and those of any other number, show what they show with the old palette
   pub not-above :
-      (i x y : ℕ) → i < passLength → answer r i .row ≡ Drawn y → x < columns a → y < firstNew a L →
+      (i x y : ℕ) → i < pass r → answer r i .row ≡ Drawn y → x < columns a → y < firstNew a L →
       pixelAtEnd r x y ≡ fourBytes (at (coloursOf old) (pictureAt r i y .colour x))
   pub not-others :
-      (i x y : ℕ) → i < passLength → answer r i .row ≡ Drawn y → x < columns a → pictureAt r i y .colour x ≢ c →
+      (i x y : ℕ) → i < pass r → answer r i .row ≡ Drawn y → x < columns a → pictureAt r i y .colour x ≢ c →
       pixelAtEnd r x y ≡ fourBytes (at (coloursOf old) (pictureAt r i y .colour x))
 
 -- ---- with the change and without it
 -- Two runs that differ in palettes alone: one start, and at each step of the pass the same video memory and registers.
 pub record Twins {a : RenderArea} (r r₀ : Run a) : Type 0 where
   pub start : ready r 0 .raster ≡ ready r₀ 0 .raster
-  pub memory : (i : ℕ) → i < passLength → r .vram i ≡ r₀ .vram i
-  pub registers : (i : ℕ) → i < passLength → ready r i .reg ≡ ready r₀ i .reg
+  pub memory : (i : ℕ) → i < pass r → r .vram i ≡ r₀ .vram i
+  pub registers : (i : ℕ) → i < pass r → ready r i .reg ≡ ready r₀ i .reg
 
 -- The pixels that change: those of number c in rows from the first new one on, and no others.
 pub record Changed {a : RenderArea} (r r₀ : Run a) (L c : ℕ) (old new : List ℕ) : Type 0 where
   pub these :
-      (i x y : ℕ) → i < passLength → answer r i .row ≡ Drawn y → x < columns a → firstNew a L ≤ y → pictureAt r i y .colour x ≡ c →
+      (i x y : ℕ) → i < pass r → answer r i .row ≡ Drawn y → x < columns a → firstNew a L ≤ y → pictureAt r i y .colour x ≡ c →
       (pixelAtEnd r x y ≡ fourBytes (at (coloursOf new) c)) × (pixelAtEnd r₀ x y ≡ fourBytes (at (coloursOf old) c))
   pub no-others :
-      (i x y : ℕ) → i < passLength → answer r i .row ≡ Drawn y → x < columns a →
+      (i x y : ℕ) → i < pass r → answer r i .row ≡ Drawn y → x < columns a →
       (firstNew a L ≤ y → pictureAt r i y .colour x ≢ c) → pixelAtEnd r x y ≡ pixelAtEnd r₀ x y

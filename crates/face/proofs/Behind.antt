@@ -13,6 +13,7 @@ use Rattle.laws.specs.Lists.{at}
 use Rattle.laws.proofs.Parts.{set-past}
 use Rattle.laws.proofs.Tests.{split, either}
 use Rattle.picture.specs.declared.RenderArea.{RenderArea}
+use Rattle.raster.specs.Raster.{lineTableFrom}
 use Rattle.vdp.specs.declared.VdpState.{VdpState}
 use Rattle.vdp.specs.declared.Refusal.{Refusal}
 use Rattle.vdp.specs.declared.Refusal.the-variants.{Accepted, UnknownPort, HorizontalCounter, HighRegister, NothingChosen, PaletteRead, NoPaletteByte, OutsideMemory, VramLength, PixelLength, BlockMalformed, UnknownArea, FrameTooLong, UnknownTile, CodesLength, HighCode}
@@ -20,32 +21,32 @@ use Rattle.vdp.specs.Device.{unlatched}
 use Rattle.vdp.specs.Refusals.{refusalNumber, leftBehind, Line, under, whole}
 use Rattle.vdp.specs.Ports.{portWrite, portRead}
 use Rattle.vdp.proofs.Behind.{write-behind, read-behind}
-use Rattle.block.specs.Block.{wellFormed, stateOf, head, small, colourBytes, blockOf}
+use Rattle.block.specs.Block.{fits, wellFormed, stateOf, head, small, last, colourBytes, blockOf}
 use Rattle.block.proofs.Whole.{long}
 use Rattle.block.proofs.RoundTrip.{block-back}
 use Rattle.step.specs.Step.{stepped, refusedStep, rowLines, frameLines, stepWith}
 use Rattle.step.specs.Dump.{dumpRefusal, dumpAfter}
 use Rattle.step.specs.Frame.{rowAfter, frameAfter}
 use Rattle.picture.specs.Area.{areaFrom}
-use Rattle.face.specs.Face.{stepWord, refused, newCall, outCall, inputCall, steppedTo, stepCall, rowStepCall, dumpCall}
+use Rattle.face.specs.Face.{stepWord, refused, newTableCall, outCall, inputCall, steppedTo, stepCall, rowStepCall, dumpCall}
 use Rattle.face.specs.Refused.{refusalIn, blockLeft, LeftBehind}
 use Rattle.face.proofs.Exact.{number-low, alone, low-byte, step-byte}
 
 -- ---- the block of a device without its command latch
-module _ (s : VdpState) (eleven : length (s .reg) ≡ 11) where
-  front : length (head s ++ s .reg) ≡ 14
+module _ (k : ℕ) (s : VdpState) (eleven : length (s .reg) ≡ 11) where
+  front : length (head k s ++ s .reg) ≡ 14
   unfolding head
   front = ap (λ (n : ℕ). suc (suc (suc n))) eleven
 
   rest : List ℕ
-  rest = s .cram ++ colourBytes (s .«color_cache»)
+  rest = s .cram ++ (colourBytes (s .«color_cache») ++ last k s)
 
-  pub unlatched-block : blockOf (unlatched s) ≡ set (set (blockOf s) 21 0) 22 0
-  unfolding blockOf head small rest
+  pub unlatched-block : blockOf k (unlatched s) ≡ set (set (blockOf k s) 21 0) 22 0
+  unfolding blockOf head small last rest
   unlatched-block =
       sym
-      (ap (λ (l : List ℕ). set l 22 0) (set-past (head s ++ s .reg) (small s ++ rest) 14 7 0 front)
-      ∙ set-past (head s ++ s .reg) (set (small s ++ rest) 7 0) 14 8 0 front)
+      (ap (λ (l : List ℕ). set l 22 0) (set-past (head k s ++ s .reg) (small s ++ rest) 14 7 0 front)
+      ∙ set-past (head k s ++ s .reg) (set (small s ++ rest) 7 0) 14 8 0 front)
 
 -- where the number is not 0, the refusal is one
 pub not-accepted : (r : Refusal) {n : ℕ} → n ≡ refusalNumber r → n ≢ 0 → r ≢ Accepted
@@ -61,11 +62,11 @@ module _ (b : List ℕ) (bytes : (i : ℕ) → at b i < 256) where
   unfolding stateOf
   registers w = length-take-le 11 (drop 3 b) (simp length-drop (omega (arith, long b w)))
 
-  emptied : wellFormed b ≡ true → blockOf (unlatched (stateOf b)) ≡ set (set b 21 0) 22 0
-  emptied w = unlatched-block (stateOf b) (registers w) ∙ ap (λ (l : List ℕ). set (set l 21 0) 22 0) (block-back b w bytes)
+  emptied : wellFormed b ≡ true → blockOf (length b) (unlatched (stateOf b)) ≡ set (set b 21 0) 22 0
+  emptied w = unlatched-block (length b) (stateOf b) (registers w) ∙ ap (λ (l : List ℕ). set (set l 21 0) 22 0) (block-back b w bytes)
 
   -- R2.2 of a device and of its block
-  behind : wellFormed b ≡ true → (r : Refusal) → blockOf (leftBehind r (stateOf b)) ≡ blockLeft (refusalNumber r) b
+  behind : wellFormed b ≡ true → (r : Refusal) → blockOf (length b) (leftBehind r (stateOf b)) ≡ blockLeft (refusalNumber r) b
   behind w HighRegister = emptied w
   behind w NothingChosen = emptied w
   behind w PaletteRead = emptied w
@@ -83,7 +84,7 @@ module _ (b : List ℕ) (bytes : (i : ℕ) → at b i < 256) where
   behind w CodesLength = block-back b w bytes
   behind w HighCode = block-back b w bytes
 
-  pub left-by : wellFormed b ≡ true → (r : Refusal) {n : ℕ} → n ≡ refusalNumber r → blockOf (leftBehind r (stateOf b)) ≡ blockLeft n b
+  pub left-by : wellFormed b ≡ true → (r : Refusal) {n : ℕ} → n ≡ refusalNumber r → blockOf (length b) (leftBehind r (stateOf b)) ≡ blockLeft n b
   left-by w r e = behind w r ∙ ap (λ (n : ℕ). blockLeft n b) (sym e)
 
   -- refused before the device is asked: all unchanged
@@ -96,7 +97,7 @@ module _ (b : List ℕ) (bytes : (i : ℕ) → at b i < 256) where
       }
 
   -- the same of a step that the device refuses
-  unstepped : wellFormed b ≡ true → (r : Refusal) (x : List ℕ) → b ≡ blockLeft (refusalNumber r) b → LeftBehind b x (steppedTo (refusedStep r (stateOf b)) x)
+  unstepped : wellFormed b ≡ true → (r : Refusal) (x : List ℕ) → b ≡ blockLeft (refusalNumber r) b → LeftBehind b x (steppedTo (length b) (refusedStep r (stateOf b)) x)
   unfolding stepWord
   unstepped w r x e =
       record {
@@ -105,10 +106,10 @@ module _ (b : List ℕ) (bytes : (i : ℕ) → at b i < 256) where
         lent = λ _. refl;
       }
 
-  pub new-behind : LeftBehind b [] (newCall b)
-  unfolding newCall
-  new-behind =
-      either (LeftBehind b []) (eqb (length b) 219)
+  pub new-behind : (t : ℕ) → LeftBehind b [] (newTableCall b t)
+  unfolding newTableCall
+  new-behind t =
+      either (LeftBehind b []) (leb t 1 && fits (lineTableFrom t) (length b))
       (λ _. record { word = λ h. absurd (h refl); block = λ h. absurd (h refl); lent = λ _. refl })
       (λ _. whole-refused BlockMalformed [] refl)
 
@@ -122,7 +123,7 @@ module _ (b : List ℕ) (bytes : (i : ℕ) → at b i < 256) where
       let l = write-behind (stateOf b) m p v in
       record {
         word = λ _. omega (arith, number-low r);
-        block = λ h. ap blockOf (l .device (not-accepted r (alone r) h)) ∙ left-by w r (alone r);
+        block = λ h. ap (blockOf (length b)) (l .device (not-accepted r (alone r) h)) ∙ left-by w r (alone r);
         lent = λ h. l .memory (not-accepted r (alone r) h);
       })
       (λ _. whole-refused BlockMalformed m refl)
@@ -137,7 +138,7 @@ module _ (b : List ℕ) (bytes : (i : ℕ) → at b i < 256) where
       let l = read-behind (stateOf b) m p in
       record {
         word = λ h. omega (arith, number-low r, l .zero (not-accepted r (low-byte r (a .byte)) h));
-        block = λ h. ap blockOf (l .device (not-accepted r (low-byte r (a .byte)) h)) ∙ left-by w r (low-byte r (a .byte));
+        block = λ h. ap (blockOf (length b)) (l .device (not-accepted r (low-byte r (a .byte)) h)) ∙ left-by w r (low-byte r (a .byte));
         lent = λ _. refl;
       })
       (λ _. whole-refused BlockMalformed [] refl)
@@ -150,7 +151,7 @@ module _ (b : List ℕ) (bytes : (i : ℕ) → at b i < 256) where
 
   step-left :
       (w : wellFormed b ≡ true) (ls : List Line) (a : RenderArea) (m x x′ : List ℕ) → Keeping ls
-      → LeftBehind b x (steppedTo (stepWith ls a m (stateOf b)) (under ls (λ r. x) x′))
+      → LeftBehind b x (steppedTo (length b) (stepWith ls a m (stateOf b)) (under ls (λ r. x) x′))
   unfolding stepWith
   step-left w [] a m x x′ k =
       let s = stateOf b in

@@ -11,12 +11,13 @@ use borrow.Author.Tests.{eqb-false, leb-true, leb-false, not-true}
 use lib.Dec.{eqb, leb}
 use lib.ListN.{length}
 use Rattle.laws.proofs.Tests.{split, both, clash}
+use Rattle.raster.specs.Raster.{lineTableFrom}
 use Rattle.vdp.specs.declared.Refusal.{Refusal}
 use Rattle.vdp.specs.declared.Refusal.the-variants.{Accepted, UnknownPort, HorizontalCounter, HighRegister, NothingChosen, PaletteRead, NoPaletteByte, OutsideMemory, VramLength, PixelLength, BlockMalformed, UnknownArea, FrameTooLong, UnknownTile, CodesLength, HighCode}
 use Rattle.vdp.specs.Refusals.{refusalNumber, Line, first, line, writeLines, readLines}
 use Rattle.vdp.specs.Ports.{portWrite, portRead}
 use Rattle.vdp.proofs.Exact.{write-exact, read-exact}
-use Rattle.block.specs.Block.{wellFormed, stateOf}
+use Rattle.block.specs.Block.{fits, wellFormed, stateOf}
 use Rattle.step.specs.declared.DrawnRow.{DrawnRow}
 use Rattle.step.specs.declared.DrawnRow.the-variants.{NoRow, Drawn}
 use Rattle.step.specs.declared.Stepped.{Stepped}
@@ -24,7 +25,7 @@ use Rattle.step.specs.Dump.{dumpRefusal, dumpLines}
 use Rattle.step.specs.Step.{rowLines, frameLines, rowStep, frameStep}
 use Rattle.step.proofs.Laws as Steps
 use Rattle.picture.specs.Area.{areaFrom}
-use Rattle.face.specs.Face.{rowBits, stepWord, newCall, outCall, inputCall, stepCall, rowStepCall, dumpCall}
+use Rattle.face.specs.Face.{rowBits, stepWord, newTableCall, outCall, inputCall, stepCall, rowStepCall, dumpCall}
 use Rattle.face.specs.Refused.{refusalIn, malformed, newLines, outLines, inputLines, stepCallLines, dumpCallLines}
 
 pub number-low : (r : Refusal) → refusalNumber r < 256
@@ -52,9 +53,9 @@ low-byte r k = omega (arith, number-low r)
 pub alone : (r : Refusal) → refusalIn (refusalNumber r) ≡ refusalNumber r
 alone r = omega (arith, number-low r)
 
-pub new-exact : (b : List ℕ) → refusalIn (newCall b .word) ≡ refusalNumber (first (newLines b))
-unfolding newCall
-new-exact b = split (eqb (length b) 219) (λ e. simp e) (λ e. simp e)
+pub new-exact : (b : List ℕ) (t : ℕ) → refusalIn (newTableCall b t .word) ≡ refusalNumber (first (newLines b t))
+unfolding newTableCall
+new-exact b t = split (leb t 1 && fits (lineTableFrom t) (length b)) (λ e. simp e) (λ e. simp e)
 
 pub out-exact : (b m : List ℕ) (p v : ℕ) → refusalIn (outCall b m p v .word) ≡ refusalNumber (first (outLines b m p v))
 unfolding outCall

@@ -1,37 +1,41 @@
 -- A call of the C face, from what its parts give.
 -- Assumes nothing.
 use mathlib.Core.Path.{_≡_, refl, sym, ap, _∙_}
-use mathlib.Core.Bool.{Bool, true, false}
+use mathlib.Core.Bool.{Bool, true, false, _&&_}
 use mathlib.Core.List.{List, []}
 use Prim.Native.Nat.{ℕ, _+_, _*_, _<_, _≤_}
-use borrow.Author.Tests.{eq-eqb, ne-eqb, le-leb, lt-leb}
+use borrow.Author.Tests.{le-leb, lt-leb}
+use lib.Dec.{leb}
 use lib.ListN.{length}
 use Rattle.laws.specs.Lists.{at}
 use Rattle.picture.specs.declared.RenderArea.{RenderArea}
 use Rattle.raster.specs.declared.Raster.{Raster}
+use Rattle.raster.specs.Raster.{lineTableFrom}
 use Rattle.vdp.specs.declared.VdpState.{VdpState}
 use Rattle.vdp.specs.declared.Written.{Written}
 use Rattle.vdp.specs.declared.ReadBack.{ReadBack}
 use Rattle.vdp.specs.declared.Refusal.{Refusal}
 use Rattle.vdp.specs.declared.Refusal.the-variants.{Accepted, BlockMalformed, UnknownArea}
-use Rattle.vdp.specs.Device.{fresh}
-use Rattle.vdp.specs.Refusals.{refusalNumber}
+use Rattle.vdp.specs.Device.{made}
+use Rattle.vdp.specs.Refusals.{refusalNumber, Line}
 use Rattle.vdp.specs.Ports.{WriteLeaves, portRead}
 use Rattle.block.specs.declared.Decoded.{Decoded}
-use Rattle.block.specs.Block.{wellFormed, stateOf, blockOf, decoded, encoded, Sized}
+use Rattle.block.specs.Block.{fits, wellFormed, stateOf, blockOf, decoded, encoded, Sized}
 use Rattle.block.proofs.Whole.{good-is, device-is, encoded-is, long}
 use Rattle.block.proofs.RoundTrip.{block-back}
-use Rattle.block.proofs.Stores.{sized}
+use Rattle.block.proofs.Stores.{sized-state}
 use Rattle.step.specs.declared.Stepped.{Stepped}
 use Rattle.step.specs.declared.Points.{Points}
 use Rattle.step.specs.Points.{Reads, cleaned, joined}
-use Rattle.step.specs.Step.{coloursNow}
+use Rattle.step.specs.Step.{coloursNow, rowLines, frameLines, stepWith}
+use Rattle.step.proofs.Laws.{step-table}
+use Rattle.step.proofs.Kept.{write-keeps, read-keeps}
 use Rattle.step.specs.declared.DrawnRow.{DrawnRow}
 use Rattle.step.specs.declared.DrawnRow.the-variants.{NoRow, Drawn}
 use Rattle.step.specs.Dump.{DumpLeaves}
 use Rattle.step.specs.Frame.{RowStepLeaves, FrameStepLeaves}
 use Rattle.picture.specs.Area.{areaFrom}
-use Rattle.face.specs.Face.{Called, Leaves, stepWord, onBlock, onArea, newCall, outOn, outCall, inputOn, inputCall, steppedTo, stepOn, stepCall, rowStepOn, rowStepCall, dumpOn, dumpCall}
+use Rattle.face.specs.Face.{Called, Leaves, stepWord, onBlock, onArea, newTableCall, outOn, outCall, inputOn, inputCall, steppedTo, stepOn, stepCall, rowStepOn, rowStepCall, dumpOn, dumpCall}
 
 -- what is left, by a path from it to what the definition says
 leaves : {c k : Called} → c ≡ k → Leaves k (c .word) (c .block) (c .lent)
@@ -47,18 +51,19 @@ along p l =
     }
 
 -- ---- a fresh block
-module _ (b : List ℕ) where
-  pub new-ten : (length b ≡ 219 → ⊥) → {n : ℕ} → n ≡ refusalNumber BlockMalformed → Leaves (newCall b) n b []
-  unfolding newCall
-  new-ten h en = rw en (leaves (sym (rw (ne-eqb (length b) 219 h))))
+module _ (b : List ℕ) (t : ℕ) where
+  pub new-ten : (leb t 1 && fits (lineTableFrom t) (length b)) ≡ false → {n : ℕ} → n ≡ refusalNumber BlockMalformed → Leaves (newTableCall b t) n b []
+  unfolding newTableCall
+  new-ten h en = rw en (leaves (sym (rw h)))
 
   pub new-done :
-      length b ≡ 219 → {s : VdpState} {b′ : List ℕ} {n : ℕ} → s ≡ fresh → b′ ≡ encoded s b → n ≡ refusalNumber Accepted → Leaves (newCall b) n b′ []
-  unfolding newCall encoded
-  new-done h {s} {b′} es eb en =
-      let t = eq-eqb (length b) 219 h in
-      let k : b′ ≡ blockOf fresh = eb ∙ rw (t, es) in
-      record { word = en ∙ rw t; block = k ∙ rw t; lent = rw t }
+      t ≤ 1 → fits (lineTableFrom t) (length b) ≡ true → {s : VdpState} {b′ : List ℕ} {n : ℕ} →
+      s ≡ made (lineTableFrom t) → b′ ≡ encoded s b → n ≡ refusalNumber Accepted → Leaves (newTableCall b t) n b′ []
+  unfolding newTableCall encoded
+  new-done h room {s} {b′} es eb en =
+      let low = le-leb t 1 h in
+      let k : b′ ≡ blockOf (length b) (made (lineTableFrom t)) = eb ∙ rw (es, room) in
+      record { word = en ∙ rw (low, room); block = k ∙ rw (low, room); lent = rw (low, room) }
 
 -- ---- the block is read first
 module _ (b : List ℕ) {d : Decoded} (e : d ≡ decoded b) where
@@ -75,38 +80,38 @@ module _ (b : List ℕ) {d : Decoded} (e : d ≡ decoded b) where
   on g x call = ap call (device g) ∙ sym (rw (told g))
 
   -- the device that a call leaves is stored in the block
-  pub kept : d .good ≡ true → (s : VdpState) {b′ : List ℕ} → b′ ≡ encoded s b → b′ ≡ blockOf s
-  kept g s eb = eb ∙ encoded-is s b (told g)
+  pub kept : (g : d .good ≡ true) (s : VdpState) {b′ : List ℕ} → s .raster ≡ d .vdp .raster → b′ ≡ encoded s b → b′ ≡ blockOf (length b) s
+  kept g s er eb = eb ∙ encoded-is s b (told g) (ap (λ (x : Raster). x .table) er ∙ ap (λ (x : VdpState). x .raster .table) (device g))
 
   pub out-ten : d .good ≡ false → (m : List ℕ) (p v : ℕ) {n : ℕ} → n ≡ refusalNumber BlockMalformed → Leaves (outCall b m p v) n b m
   unfolding outCall
-  out-ten g m p v en = ten g m (outOn m p v) en
+  out-ten g m p v en = ten g m (outOn m p v (length b)) en
 
   pub out-done :
       d .good ≡ true → (m : List ℕ) (p v : ℕ) {a : Written} {m′ b′ : List ℕ} {n : ℕ} → WriteLeaves (d .vdp) m p v a m′ → b′ ≡ encoded (a .vdp) b
       → n ≡ refusalNumber (a .refusal) → Leaves (outCall b m p v) n b′ m′
   unfolding outCall
   out-done g m p v {a} l eb en =
-      along (on g m (outOn m p v))
+      along (on g m (outOn m p v (length b)))
       (record {
         word = en ∙ ap (λ (x : Written). refusalNumber (x .refusal)) (l .answer);
-        block = kept g (a .vdp) eb ∙ ap (λ (x : Written). blockOf (x .vdp)) (l .answer);
+        block = kept g (a .vdp) (ap (λ (x : Written). x .vdp .raster) (l .answer) ∙ write-keeps (d .vdp) m p v .raster) eb ∙ ap (λ (x : Written). blockOf (length b) (x .vdp)) (l .answer);
         lent = l .memory;
       })
 
   pub input-ten : d .good ≡ false → (m : List ℕ) (p : ℕ) {n : ℕ} → n ≡ refusalNumber BlockMalformed → Leaves (inputCall b m p) n b []
   unfolding inputCall
-  input-ten g m p en = ten g [] (inputOn m p) en
+  input-ten g m p en = ten g [] (inputOn m p (length b)) en
 
   pub input-done :
       d .good ≡ true → (m : List ℕ) (p : ℕ) {a : ReadBack} {b′ : List ℕ} {n : ℕ} → a ≡ portRead (d .vdp) m p → b′ ≡ encoded (a .vdp) b
       → n ≡ refusalNumber (a .refusal) → Leaves (inputCall b m p) (n + 256 * a .byte) b′ []
   unfolding inputCall
   input-done g m p {a} ea eb en =
-      along (on g [] (inputOn m p))
+      along (on g [] (inputOn m p (length b)))
       (record {
         word = ap (λ (x : ℕ). x + 256 * a .byte) en ∙ ap (λ (x : ReadBack). refusalNumber (x .refusal) + 256 * x .byte) ea;
-        block = kept g (a .vdp) eb ∙ ap (λ (x : ReadBack). blockOf (x .vdp)) ea;
+        block = kept g (a .vdp) (ap (λ (x : ReadBack). x .vdp .raster) ea ∙ read-keeps (d .vdp) m p .raster) eb ∙ ap (λ (x : ReadBack). blockOf (length b) (x .vdp)) ea;
         lent = refl;
       })
 
@@ -136,47 +141,54 @@ module _ (b m x : List ℕ) (n : ℕ) where
 
   pub step-bad : {r : ℕ} → wellFormed b ≡ false → r ≡ refusalNumber BlockMalformed → Leaves (stepCall b m x n) r b x
   unfolding stepCall
-  step-bad = bad (stepOn m x)
+  step-bad = bad (stepOn m x (length b))
 
   pub row-bad : {r : ℕ} → wellFormed b ≡ false → r ≡ refusalNumber BlockMalformed → Leaves (rowStepCall b m x n) r b x
   unfolding rowStepCall
-  row-bad = bad (rowStepOn m x)
+  row-bad = bad (rowStepOn m x (length b))
 
   pub step-unknown : {r : ℕ} → wellFormed b ≡ true → 1 < n → r ≡ refusalNumber UnknownArea → Leaves (stepCall b m x n) r b x
   unfolding stepCall
-  step-unknown = unknown (stepOn m x)
+  step-unknown = unknown (stepOn m x (length b))
 
   pub row-unknown : {r : ℕ} → wellFormed b ≡ true → 1 < n → r ≡ refusalNumber UnknownArea → Leaves (rowStepCall b m x n) r b x
   unfolding rowStepCall
-  row-unknown = unknown (rowStepOn m x)
+  row-unknown = unknown (rowStepOn m x (length b))
 
   -- a step, by what its points answer and leave, the block that they are stored in, and their word
   module _
       {a : RenderArea} {points : Points} {reg : List ℕ} {raster : Raster} {status : ℕ} {colours b′ x′ : List ℕ} {r : ℕ}
       (bytes : (i : ℕ) → at b i < 256) (w : wellFormed b ≡ true) (h : n ≤ 1) (ea : a ≡ areaFrom n) (g : Reads (stateOf b) reg raster status colours)
-      (es : (s : VdpState) → Sized s → colours ≡ coloursNow s → b ≡ blockOf s → b′ ≡ blockOf (joined s points .vdp))
+      (es : (k : ℕ) (s : VdpState) → Sized s → points .raster .table ≡ s .raster .table → colours ≡ coloursNow s → b ≡ blockOf k s → b′ ≡ blockOf k (joined s points .vdp))
       (er : (d : VdpState) → r ≡ stepWord (joined d points))
     where
       stored :
-          (call : VdpState → RenderArea → Called) {s : Stepped} {y : List ℕ} → call (stateOf b) a ≡ steppedTo s y → joined (stateOf b) points ≡ s → x′ ≡ y
-          → Leaves (asked call) r b′ x′
-      stored call ec e ey =
+          (call : VdpState → RenderArea → Called) (ls : List Line) {y : List ℕ} → call (stateOf b) a ≡ steppedTo (length b) (stepWith ls a m (stateOf b)) y
+          → joined (stateOf b) points ≡ stepWith ls a m (stateOf b) → x′ ≡ y → Leaves (asked call) r b′ x′
+      stored call ls ec e ey =
           along (sym ec ∙ ap (call (stateOf b)) ea ∙ sym (rw (w, le-leb n 1 h)))
           (record {
             word = er (stateOf b) ∙ ap stepWord e;
-            block = es (stateOf b) (sized b (long b w)) (g .cache) (sym (block-back b w bytes)) ∙ ap (λ (s : Stepped). blockOf (s .vdp)) e;
+            block =
+                es (length b) (stateOf b) (sized-state b (long b w)) (ap (λ (s : Stepped). s .vdp .raster .table) e ∙ step-table ls a m (stateOf b)) (g .cache) (sym (block-back b w bytes))
+                ∙ ap (λ (s : Stepped). blockOf (length b) (s .vdp)) e;
             lent = ey;
           })
 
       pub step-kept : ((d : VdpState) → Reads d reg raster status colours → FrameStepLeaves a m d x (joined d points) x′) → Leaves (stepCall b m x n) r b′ x′
       unfolding stepCall
-      step-kept l = let k = l (stateOf b) g in stored (stepOn m x) refl (k .answer) (k .bytes)
+      step-kept l = let k = l (stateOf b) g in stored (stepOn m x (length b)) (frameLines a m (length x)) refl (k .answer) (k .bytes)
 
       pub row-kept : ((d : VdpState) → Reads d reg raster status colours → RowStepLeaves a m d x (joined d points) x′) → Leaves (rowStepCall b m x n) r b′ x′
       unfolding rowStepCall
-      row-kept l = let k = l (stateOf b) g in stored (rowStepOn m x) refl (k .answer) (k .bytes)
+      row-kept l = let k = l (stateOf b) g in stored (rowStepOn m x (length b)) (rowLines a m (length x)) refl (k .answer) (k .bytes)
 
 -- a step's colours keep the sizes
 pub cleaned-sized : (r : DrawnRow) (s : VdpState) (colours : List ℕ) → Sized s → Sized (cleaned r s colours)
 cleaned-sized NoRow s colours g = g
 cleaned-sized (Drawn y) s colours g = record { registers = g .registers; palette = g .palette }
+
+-- and the table
+pub cleaned-table : (r : DrawnRow) (s : VdpState) (colours : List ℕ) → cleaned r s colours .raster .table ≡ s .raster .table
+cleaned-table NoRow s colours = refl
+cleaned-table (Drawn y) s colours = refl

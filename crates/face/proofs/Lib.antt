@@ -5,3 +5,4 @@ pub mod Behind
 pub mod Shapes
 pub mod Blocks
 pub mod Tiles
+pub mod Kept

@@ -1,21 +1,22 @@
 -- R7.4: what each call of the C face answers and leaves, over a state block; it goes by numbers and byte slices alone.
 -- Assumes nothing.
 use mathlib.Core.Path.{_≡_}
-use mathlib.Core.Bool.{cond}
+use mathlib.Core.Bool.{cond, _&&_}
 use mathlib.Core.List.{List, []}
 use Prim.Native.Nat.{ℕ, _+_, _*_}
-use lib.Dec.{eqb, leb}
+use lib.Dec.{leb}
 use lib.ListN.{length}
 use Rattle.picture.specs.declared.RenderArea.{RenderArea}
 use Rattle.picture.specs.Area.{areaFrom}
+use Rattle.raster.specs.Raster.{lineTableFrom}
 use Rattle.vdp.specs.declared.VdpState.{VdpState}
 use Rattle.vdp.specs.declared.ReadBack.{ReadBack}
 use Rattle.vdp.specs.declared.Refusal.{Refusal}
 use Rattle.vdp.specs.declared.Refusal.the-variants.{Accepted, BlockMalformed, UnknownArea}
-use Rattle.vdp.specs.Device.{fresh}
+use Rattle.vdp.specs.Device.{made}
 use Rattle.vdp.specs.Refusals.{refusalNumber}
 use Rattle.vdp.specs.Ports.{portWrite, portRead}
-use Rattle.block.specs.Block.{blockSize, wellFormed, stateOf, blockOf}
+use Rattle.block.specs.Block.{fits, wellFormed, stateOf, blockOf}
 use Rattle.step.specs.declared.DrawnRow.{DrawnRow}
 use Rattle.step.specs.declared.DrawnRow.the-variants.{NoRow, Drawn}
 use Rattle.step.specs.declared.Stepped.{Stepped}
@@ -53,41 +54,49 @@ onBlock b x call = cond (wellFormed b) (call (stateOf b)) (refused BlockMalforme
 abbrev pub onArea : ℕ → List ℕ → List ℕ → (RenderArea → Called) → Called
 onArea n b x call = cond (leb n 1) (call (areaFrom n)) (refused UnknownArea b x)
 
--- ---- the calls. A fresh block: what the bytes were does not matter, only how many they are
-unfoldable pub newCall : List ℕ → Called
-newCall b = cond (eqb (length b) blockSize) (record { word = refusalNumber Accepted; block = blockOf fresh; lent = [] }) (refused BlockMalformed b [])
+-- ---- the calls. A fresh block of table t: what the bytes were does not matter, only whether so many have room for it
+unfoldable pub newTableCall : List ℕ → ℕ → Called
+newTableCall b t =
+    cond (leb t 1 && fits (lineTableFrom t) (length b))
+    (record { word = refusalNumber Accepted; block = blockOf (length b) (made (lineTableFrom t)); lent = [] })
+    (refused BlockMalformed b [])
 
-abbrev pub outOn : List ℕ → ℕ → ℕ → VdpState → Called
-outOn m p v s =
+-- R4.8: with no table named
+abbrev pub newCall : List ℕ → Called
+newCall b = newTableCall b 0
+
+-- the other calls leave a block in its own version, that of its length k
+abbrev pub outOn : List ℕ → ℕ → ℕ → ℕ → VdpState → Called
+outOn m p v k s =
     let a = portWrite s m p v in
-    record { word = refusalNumber (a .answer .refusal); block = blockOf (a .answer .vdp); lent = a .vram }
+    record { word = refusalNumber (a .answer .refusal); block = blockOf k (a .answer .vdp); lent = a .vram }
 
 unfoldable pub outCall : List ℕ → List ℕ → ℕ → ℕ → Called
-outCall b m p v = onBlock b m (outOn m p v)
+outCall b m p v = onBlock b m (outOn m p v (length b))
 
-abbrev pub inputOn : List ℕ → ℕ → VdpState → Called
-inputOn m p s =
+abbrev pub inputOn : List ℕ → ℕ → ℕ → VdpState → Called
+inputOn m p k s =
     let a = portRead s m p in
-    record { word = readWord a; block = blockOf (a .vdp); lent = [] }
+    record { word = readWord a; block = blockOf k (a .vdp); lent = [] }
 
 unfoldable pub inputCall : List ℕ → List ℕ → ℕ → Called
-inputCall b m p = onBlock b [] (inputOn m p)
+inputCall b m p = onBlock b [] (inputOn m p (length b))
 
 -- a step's answer, and what it leaves in the pixels
-abbrev pub steppedTo : Stepped → List ℕ → Called
-steppedTo r pixels = record { word = stepWord r; block = blockOf (r .vdp); lent = pixels }
+abbrev pub steppedTo : ℕ → Stepped → List ℕ → Called
+steppedTo k r pixels = record { word = stepWord r; block = blockOf k (r .vdp); lent = pixels }
 
-abbrev pub stepOn : List ℕ → List ℕ → VdpState → RenderArea → Called
-stepOn m frame s a = steppedTo (frameStep a m (length frame) s) (frameAfter a m s frame)
+abbrev pub stepOn : List ℕ → List ℕ → ℕ → VdpState → RenderArea → Called
+stepOn m frame k s a = steppedTo k (frameStep a m (length frame) s) (frameAfter a m s frame)
 
 unfoldable pub stepCall : List ℕ → List ℕ → List ℕ → ℕ → Called
-stepCall b m frame n = onBlock b frame (λ s. onArea n b frame (stepOn m frame s))
+stepCall b m frame n = onBlock b frame (λ s. onArea n b frame (stepOn m frame (length b) s))
 
-abbrev pub rowStepOn : List ℕ → List ℕ → VdpState → RenderArea → Called
-rowStepOn m row s a = steppedTo (rowStep a m (length row) s) (rowAfter a m s row)
+abbrev pub rowStepOn : List ℕ → List ℕ → ℕ → VdpState → RenderArea → Called
+rowStepOn m row k s a = steppedTo k (rowStep a m (length row) s) (rowAfter a m s row)
 
 unfoldable pub rowStepCall : List ℕ → List ℕ → List ℕ → ℕ → Called
-rowStepCall b m row n = onBlock b row (λ s. onArea n b row (rowStepOn m row s))
+rowStepCall b m row n = onBlock b row (λ s. onArea n b row (rowStepOn m row (length b) s))
 
 -- the dump only reads the block
 abbrev pub dumpOn : List ℕ → List ℕ → List ℕ → VdpState → Called

@@ -3,3 +3,4 @@ pub mod Face
 pub mod Refused
 pub mod Version
 pub mod Tiles
+pub mod Kept

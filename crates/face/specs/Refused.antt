@@ -5,11 +5,12 @@ use mathlib.Core.Logic.{_≢_}
 use mathlib.Core.Bool.{cond, not, _&&_}
 use mathlib.Core.List.{List, [], _∷_}
 use Prim.Native.Nat.{ℕ, _%_, _<_}
-use lib.Dec.{eqb, leb}
+use lib.Dec.{leb}
 use lib.ListN.{length, set}
 use Rattle.vdp.specs.declared.Refusal.the-variants.{BlockMalformed, UnknownArea}
 use Rattle.vdp.specs.Refusals.{Line, line, writeLines, readLines}
-use Rattle.block.specs.Block.{blockSize, wellFormed, stateOf}
+use Rattle.raster.specs.Raster.{lineTableFrom}
+use Rattle.block.specs.Block.{fits, wellFormed, stateOf}
 use Rattle.step.specs.Dump.{dumpLines}
 use Rattle.face.specs.Face.{Called}
 
@@ -21,8 +22,8 @@ refusalIn word = word % 256
 abbrev pub malformed : List ℕ → Line
 malformed b = line (not (wellFormed b)) BlockMalformed
 
-abbrev pub newLines : List ℕ → List Line
-newLines b = line (not (eqb (length b) blockSize)) BlockMalformed ∷ []
+abbrev pub newLines : List ℕ → ℕ → List Line
+newLines b t = line (not (leb t 1 && fits (lineTableFrom t) (length b))) BlockMalformed ∷ []
 
 abbrev pub outLines : List ℕ → List ℕ → ℕ → ℕ → List Line
 outLines b m p v = malformed b ∷ writeLines (stateOf b) m p v

@@ -1,15 +1,15 @@
 // The C face (R7.4): the device's calls over a state block, and answers by R7.7. A slice passes as a pointer and a length.
 ghost use mathlib.Core.List.{[]};
 ghost use mathlib.Core.Path.{_≡_};
-ghost use Prim.Native.Nat.{_+_, _*_, _<_};
+ghost use Prim.Native.Nat.{ℕ, _+_, _*_, _≤_, _<_};
 ghost use Rattle.vdp.specs.Refusals.{refusalNumber};
 ghost use lib.ListN.{length};
 ghost use Rattle.vdp.specs.declared.VdpState.{VdpState};
-ghost use Rattle.block.specs.Block.{blockSize, stateOf, blockOf, Sized};
+ghost use Rattle.block.specs.Block.{oldSize, stateOf, blockOf, Sized};
 ghost use Rattle.step.specs.Step.{interruptNumber, reportNumber, coloursNow};
 ghost use Rattle.step.specs.Points.{cleaned, joined};
 ghost use Rattle.face.specs.Tiles.{writeTileCall, readTileCall};
-ghost use Rattle.face.specs.Face.{rowBits, stepWord, newCall, outCall, inputCall, stepCall, rowStepCall, dumpCall, Leaves};
+ghost use Rattle.face.specs.Face.{rowBits, stepWord, newTableCall, newCall, outCall, inputCall, stepCall, rowStepCall, dumpCall, Leaves};
 ghost use Rattle.face.specs.Version.{version};
 use step::DisplayRefresh;
 use step::DrawnRow;
@@ -17,9 +17,6 @@ use step::Points;
 use step::VdpInt;
 use vdp::Refusal;
 use vdp::VdpState;
-
-// The bytes of a block.
-const BLOCK_SIZE: usize = 219;
 
 // The parts of a step's answer, as parts of a word: refusal, interrupt, report, and the row with the drawn bit.
 fn number(r: Refusal) -> u32
@@ -62,16 +59,28 @@ fn word_of(points: Points) -> u32
         + row_bits(row)
 }
 
-// A fresh device into the block.
+// A fresh device of this table into the block, in the version that the block's length tells.
+#[no_mangle]
+pub extern "C" fn vdp_new_table(state: &mut [u8], table: u8) -> u32
+    ensures { λ r. ⌜ Leaves (newTableCall (now (state .entry)) table) r (now (state .exit)) [] ⌝ }
+{
+    if 1 < table {
+        return number(Refusal::BlockMalformed);
+    }
+    let named = raster::table_from(table);
+    if !block::has_room(named, state.len()) {
+        return number(Refusal::BlockMalformed);
+    }
+    block::encode(VdpState::with_table(named), state);
+    number(Refusal::Accepted)
+}
+
+// The same with no table named.
 #[no_mangle]
 pub extern "C" fn vdp_new(state: &mut [u8]) -> u32
     ensures { λ r. ⌜ Leaves (newCall (now (state .entry))) r (now (state .exit)) [] ⌝ }
 {
-    if state.len() != BLOCK_SIZE {
-        return number(Refusal::BlockMalformed);
-    }
-    block::encode(VdpState::new(), state);
-    number(Refusal::Accepted)
+    vdp_new_table(state, 0)
 }
 
 // A port write.
@@ -110,7 +119,7 @@ pub extern "C" fn vdp_input(state: &mut [u8], vram: &[u8], port: u16) -> u32
 
 // The colours that a step of the block's device draws with.
 fn colours_of(state: &[u8]) -> [u32; 32]
-    requires { ⌜ length (now state) ≡ blockSize ⌝ }
+    requires { ⌜ oldSize ≤ length (now state) ⌝ }
     ensures { λ r. ⌜ r ≡ coloursNow (stateOf (now (state .entry))) ⌝ }
 {
     if state[26] == 1 {
@@ -121,8 +130,8 @@ fn colours_of(state: &[u8]) -> [u32; 32]
 
 // The colours into the block, if a row was drawn with them.
 fn store_colours(state: &mut [u8], row: DrawnRow, colours: &[u32; 32])
-    requires { ⌜ length (now state) ≡ blockSize ⌝ }
-    ensures { λ _. ⌜ ((s : VdpState) → Sized s → now (state .entry) ≡ blockOf s → now (state .exit) ≡ blockOf (cleaned row s (now (colours .entry)))) ⌝ }
+    requires { ⌜ oldSize ≤ length (now state) ⌝ }
+    ensures { λ _. ⌜ ((k : ℕ) (s : VdpState) → Sized s → now (state .entry) ≡ blockOf k s → now (state .exit) ≡ blockOf k (cleaned row s (now (colours .entry)))) ⌝ }
 {
     match row {
         DrawnRow::NoRow => {}
@@ -132,8 +141,8 @@ fn store_colours(state: &mut [u8], row: DrawnRow, colours: &[u32; 32])
 
 // What the points of a step leave of the device, into its block.
 fn store(state: &mut [u8], points: Points, colours: &[u32; 32])
-    requires { ⌜ length (now state) ≡ blockSize ⌝ }
-    ensures { λ _. ⌜ ((s : VdpState) → Sized s → now (colours .entry) ≡ coloursNow s → now (state .entry) ≡ blockOf s → now (state .exit) ≡ blockOf (joined s points .vdp)) ⌝ }
+    requires { ⌜ oldSize ≤ length (now state) ⌝ }
+    ensures { λ _. ⌜ ((k : ℕ) (s : VdpState) → Sized s → points .raster .table ≡ s .raster .table → now (colours .entry) ≡ coloursNow s → now (state .entry) ≡ blockOf k s → now (state .exit) ≡ blockOf k (joined s points .vdp)) ⌝ }
 {
     let row = points.row;
     let raster = points.raster;
@@ -209,7 +218,7 @@ pub extern "C" fn vdp_dump_tileset(state: &[u8], vram: &[u8], pixels: &mut [u8])
 pub extern "C" fn vdp_version() -> u32
     ensures { λ r. ⌜ r ≡ version ⌝ }
 {
-    131072
+    196608
 }
 
 // The tile of these 64 codes into video memory; no device is asked.

@@ -5,16 +5,28 @@ use Prim.Native.Nat.{ℕ, _+_, _-_, _%_}
 use lib.Dec.{eqb, ltb}
 use Rattle.laws.specs.Bits.{bit}
 use Rattle.raster.specs.declared.Raster.{Raster}
+use Rattle.raster.specs.declared.LineTable.{LineTable}
+use Rattle.raster.specs.declared.LineTable.the-variants.{Steps261, Steps262}
 
--- the value at which the counter jumps instead of being read, the one it jumps to, and the steps of a pass that follow
-abbrev pub jumpLine : ℕ
-jumpLine = 0xDA
+-- R4.8: the numbers of the tables
+abbrev pub lineTableNumber : LineTable → ℕ
+lineTableNumber Steps261 = 0
+lineTableNumber Steps262 = 1
+
+abbrev pub lineTableFrom : ℕ → LineTable
+lineTableFrom n = cond (eqb n 0) Steps261 Steps262
+
+-- R4.1: the value at which the counter jumps instead of being read, the one it jumps to, and the steps of a pass that follow
+abbrev pub jumpLine : LineTable → ℕ
+jumpLine Steps261 = 0xDA
+jumpLine Steps262 = 0xDB
 
 abbrev pub jumpTo : ℕ
 jumpTo = 0xD5
 
-abbrev pub passLength : ℕ
-passLength = 261
+abbrev pub passLength : LineTable → ℕ
+passLength Steps261 = 261
+passLength Steps262 = 262
 
 -- R4.1: the counter one up
 abbrev pub up : Raster → ℕ
@@ -22,7 +34,7 @@ up x = (x .«v_counter» + 1) % 256
 
 -- the jump, once in a pass
 unfoldable pub jumps : Raster → Bool
-jumps x = eqb (up x) jumpLine && not (x .«v_counter_jumped»)
+jumps x = eqb (up x) (jumpLine (x .table)) && not (x .«v_counter_jumped»)
 
 -- line 0: scroll, jump flag and line count start anew
 unfoldable pub starts : Raster → Bool
@@ -38,6 +50,7 @@ advanced g x =
       «v_counter_jumped» = cond (starts x) false (jumps x || x .«v_counter_jumped»);
       «line_interrupt_counter» = cond (starts x) (lineCount (g 10)) (x .«line_interrupt_counter»);
       «vertical_scroll» = cond (starts x) (g 9) (x .«vertical_scroll»);
+      table = x .table;
     }
 
 -- R4.4: register 0 bit 4, and the count at 0
@@ -53,6 +66,7 @@ counted g x =
       «line_interrupt_counter» =
           cond (ltb 192 (x .«v_counter») || eqb (x .«line_interrupt_counter») 0) (g 10) (x .«line_interrupt_counter» - 1);
       «vertical_scroll» = x .«vertical_scroll»;
+      table = x .table;
     }
 
 -- the raster that a whole step leaves

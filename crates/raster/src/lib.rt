@@ -1,13 +1,50 @@
 // The raster: the line counter with its jump, the latched scroll, and the count of lines to the next line interrupt.
 ghost use mathlib.Core.Path.{_≡_};
 ghost use Rattle.laws.specs.Lists.{at};
-ghost use Rattle.raster.specs.Raster.{advanced, lineCount, lineInterrupt, counted};
+ghost use Rattle.raster.specs.Raster.{jumpLine, lineTableNumber, lineTableFrom, advanced, lineCount, lineInterrupt, counted};
+
+// The table that the counter goes by: how many steps a pass has.
+pub enum LineTable {
+    Steps261,
+    Steps262,
+}
 
 pub struct Raster {
     pub v_counter: u8,
     pub v_counter_jumped: bool,
     pub line_interrupt_counter: u8,
     pub vertical_scroll: u8,
+    pub table: LineTable,
+}
+
+// The number of a table, and the table of a number.
+pub fn table_number(table: LineTable) -> u8
+    ensures { λ n. ⌜ n ≡ lineTableNumber table ⌝ }
+{
+    match table {
+        LineTable::Steps261 => 0,
+        LineTable::Steps262 => 1,
+    }
+}
+
+pub fn table_from(n: u8) -> LineTable
+    ensures { λ r. ⌜ r ≡ lineTableFrom n ⌝ }
+{
+    if n == 0 {
+        LineTable::Steps261
+    } else {
+        LineTable::Steps262
+    }
+}
+
+// The value at which the counter jumps instead of being read.
+fn jump_line(table: LineTable) -> u8
+    ensures { λ r. ⌜ r ≡ jumpLine table ⌝ }
+{
+    match table {
+        LineTable::Steps261 => 0xDA,
+        LineTable::Steps262 => 0xDB,
+    }
 }
 
 // The line count that line 0 starts with: register 10 less 1, and 0 stays 0.
@@ -22,6 +59,7 @@ impl Raster {
     pub fn advance(self, reg: [u8; 11]) -> Raster
         ensures { λ r. ⌜ r ≡ advanced (at reg) self ⌝ }
     {
+        let table = self.table;
         let v_counter = std::num::wrapping_add_u8(self.v_counter, 1);
         if v_counter == 0 {
             return Raster {
@@ -29,15 +67,17 @@ impl Raster {
                 v_counter_jumped: false,
                 line_interrupt_counter: line_interrupt_load_start(reg[10]),
                 vertical_scroll: reg[9],
+                table: table,
             };
         }
-        if v_counter == 0xDA {
+        if v_counter == jump_line(table) {
             if !self.v_counter_jumped {
                 return Raster {
                     v_counter: 0xD5,
                     v_counter_jumped: true,
                     line_interrupt_counter: self.line_interrupt_counter,
                     vertical_scroll: self.vertical_scroll,
+                    table: table,
                 };
             }
         }
@@ -46,6 +86,7 @@ impl Raster {
             v_counter_jumped: self.v_counter_jumped,
             line_interrupt_counter: self.line_interrupt_counter,
             vertical_scroll: self.vertical_scroll,
+            table: table,
         }
     }
 

@@ -11,6 +11,8 @@ use borrow.Author.Tests.{ne-eqb}
 use lib.Dec.{eqb}
 use lib.ListN.{length}
 use Rattle.laws.specs.Lists.{at}
+use Rattle.raster.specs.declared.LineTable.the-variants.{Steps261}
+use Rattle.block.specs.Block.{fits}
 use Rattle.face.proofs.Blocks.{new-on}
 use Rattle.face.specs.Face.{Called, Leaves, newCall, outCall, inputCall, rowStepCall}
 use Rattle.replay.specs.Replay.{sumOf, rowSum, agreed, World, world, turn, wrote, read, stepped, turned, Run, run, after, ran, start, tallied, replayed}
@@ -64,7 +66,9 @@ module _ (l m x : List ℕ) where
   -- from a fresh block on
   pub begun : (b : List ℕ) → length b ≡ 219 → {n : ℕ} {b′ : List ℕ} → Leaves (newCall b) n b′ [] → upTo 0 ≡ run 0 true (world b′ m x)
   unfolding ran
-  begun b h e = ap (λ (k : List ℕ). run 0 true (world k m x)) (sym (e .block ∙ ap (λ (c : Called). c .block) (new-on b h)))
+  begun b h e =
+      let room : fits Steps261 (length b) ≡ true = rw h in
+      ap (λ (k : List ℕ). run 0 true (world k m x)) (sym (e .block ∙ ap (λ (c : Called). c .block) (new-on b Steps261 room) ∙ rw h))
 
   -- after i records that agree, one more
   pub run-on : (i : ℕ) {w w′ : World} {t : Bool} → upTo i ≡ run i true w → turn t w′ ≡ turned l (16 * i) w → t ≡ true → upTo (i + 1) ≡ run (i + 1) true w′

@@ -11,7 +11,7 @@ use Rattle.laws.specs.Lists.{at}
 use Rattle.laws.specs.Paint.{ofBytes}
 use Rattle.picture.specs.Area.{rowSize}
 use Rattle.vdp.specs.Device.{fresh}
-use Rattle.block.specs.Block.{blockSize, blockOf}
+use Rattle.block.specs.Block.{oldSize, blockOf}
 use Rattle.picture.specs.Area.{areaFrom}
 use Rattle.face.specs.Face.{Called, outCall, inputCall, rowStepCall}
 use Rattle.replay.specs.declared.Tally.{Tally}
@@ -31,7 +31,7 @@ rowSum word area row = cond (bit word 24) (sumOf (rowSize (areaFrom area)) row) 
 
 -- the record at place k has this answer, this block and this row
 unfoldable pub agreed : List ℕ → ℕ → ℕ → List ℕ → ℕ → Bool
-agreed l k word block sum = eqb word (wordAt l (k + 4)) && eqb (sumOf blockSize block) (wordAt l (k + 8)) && eqb sum (wordAt l (k + 12))
+agreed l k word block sum = eqb word (wordAt l (k + 4)) && eqb (sumOf oldSize block) (wordAt l (k + 8)) && eqb sum (wordAt l (k + 12))
 
 -- what the calls are made on
 pub record World : Type 0 where
@@ -83,9 +83,9 @@ unfoldable pub ran : ℕ → List ℕ → Run → Run
 ran zero l r = r
 ran (suc n) l r = cond (ran n l r .same) (after (ran n l r) (turned l (16 * n) (ran n l r .left))) (ran n l r)
 
--- a fresh device, with the video memory and the row buffer that it is lent
+-- a fresh device in a block of the first version, with the video memory and the row buffer that it is lent
 abbrev pub start : List ℕ → List ℕ → Run
-start m x = run 0 true (world (blockOf fresh) m x)
+start m x = run 0 true (world (blockOf oldSize fresh) m x)
 
 -- WHAT A REPLAY FINDS: the answers of all whole records; a record that is cut differs
 unfoldable pub tallied : List ℕ → Run → Tally

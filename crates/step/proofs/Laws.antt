@@ -142,6 +142,10 @@ module _ (a : RenderArea) (vram : List ℕ) (d : VdpState) where
   pub stepped-raster : stepped a vram d .vdp .raster ≡ ticked (register d) (d .raster)
   stepped-raster = ap (λ (x : VdpState). x .raster) (stepped-vdp refl)
 
+  pub stepped-table : stepped a vram d .vdp .raster .table ≡ d .raster .table
+  unfolding ticked counted advanced
+  stepped-table = ap (λ (x : Raster). x .table) stepped-raster
+
   pub stepped-line : lineOf (stepped a vram d .vdp) ≡ lineOf (counterUp d)
   unfolding ticked counted
   stepped-line = ap (λ (x : Raster). x .«v_counter») stepped-raster
@@ -208,6 +212,12 @@ stepped-end a vram d =
     ap (λ (s : ℕ). bit s 7) (stepped-status a vram d {r = r} refl)
     ∙ end-bit (atEnd (counterUp d)) (statusDrawn r a vram (counterUp d))
     ∙ ap (λ (b : Bool). b || atEnd (counterUp d)) (drawn-end r a vram (counterUp d))
+
+-- ---- R4.8: no step changes the table, refused or not
+pub step-table : (ls : List Line) (a : RenderArea) (vram : List ℕ) (d : VdpState) → stepWith ls a vram d .vdp .raster .table ≡ d .raster .table
+unfolding stepWith
+step-table ls a vram d =
+    under-either (λ (s : Stepped). s .vdp .raster .table ≡ d .raster .table) ls (λ r. refusedStep r d) (stepped a vram d) (λ r. refl) (λ p. stepped-table a vram d)
 
 -- ---- the bytes of a row
 pub drawn-length : (a : RenderArea) (vram : List ℕ) (d : VdpState) (y : ℕ) → length (drawnBytes a vram d y) ≡ rowSize a

@@ -4,3 +4,4 @@ pub mod Steps
 pub mod Views
 pub mod Dumps
 pub mod Laws
+pub mod Kept

@@ -5,6 +5,8 @@ use mathlib.Core.List.{List, [], _∷_}
 use mathlib.Core.Bool.{Bool, true, false}
 use lib.ListN.{replicate}
 use Rattle.raster.specs.declared.Raster.{Raster}
+use Rattle.raster.specs.declared.LineTable.{LineTable}
+use Rattle.raster.specs.declared.LineTable.the-variants.{Steps261}
 use Rattle.laws.specs.Sizes.{cramSize}
 use Rattle.vdp.specs.declared.VdpState.{VdpState}
 use Rattle.vdp.specs.declared.WriteDest.{WriteDest}
@@ -29,12 +31,16 @@ device status reg raster addr buffer dest cram command half dirty cache =
       «color_cache» = cache;
     }
 
--- R3.2: as it is made
-abbrev pub fresh : VdpState
-fresh =
+-- R3.2: as it is made, with table t
+abbrev pub made : LineTable → VdpState
+made t =
     device 0 (0 ∷ 0 ∷ 0xFF ∷ 0xFF ∷ 0xFF ∷ 0xFF ∷ 0xFF ∷ 0 ∷ 0 ∷ 0 ∷ 1 ∷ [])
-    (record { «v_counter» = 0; «v_counter_jumped» = false; «line_interrupt_counter» = 0; «vertical_scroll» = 0 })
+    (record { «v_counter» = 0; «v_counter_jumped» = false; «line_interrupt_counter» = 0; «vertical_scroll» = 0; table = t })
     0 0 Chosen.None (replicate cramSize 0) Empty Empty true (replicate 32 0)
+
+-- R4.8: with no table named
+abbrev pub fresh : VdpState
+fresh = made Steps261
 
 -- ---- the same device with another command latch, and so on
 abbrev pub withCommand : VdpState → Latch → VdpState

@@ -3,9 +3,10 @@ ghost use mathlib.Core.Path.{_≡_};
 ghost use Prim.Native.Nat.{ℕ, _+_, _-_, _*_, _%_, _/_, _<_, _≤_};
 ghost use lib.ListN.{length};
 ghost use Rattle.laws.specs.Sizes.{vramSize};
-ghost use Rattle.vdp.specs.Device.{fresh, withCommand, withDest, withPaletteByte, withRaster, withCache};
+ghost use Rattle.vdp.specs.Device.{made, fresh, withCommand, withDest, withPaletteByte, withRaster, withCache};
 ghost use Rattle.vdp.specs.Refusals.{refusalNumber};
 ghost use Rattle.vdp.specs.Ports.{commandWrite, paletteWrite, dataWrite, dataRead, statusRead, WriteLeaves, portRead};
+use raster::LineTable;
 use raster::Raster;
 
 // The ports, known by their low byte (R3.3), and the bytes of video memory and of the palette.
@@ -108,9 +109,16 @@ pub struct ReadBack {
 }
 
 impl VdpState {
-    // A fresh device (R3.2).
+    // A fresh device, with no table named (R3.2).
     pub fn new() -> Self
         ensures { λ r. ⌜ r ≡ fresh ⌝ }
+    {
+        VdpState::with_table(LineTable::Steps261)
+    }
+
+    // The same with this table.
+    pub fn with_table(table: LineTable) -> Self
+        ensures { λ r. ⌜ r ≡ made table ⌝ }
     {
         VdpState {
             status: 0,
@@ -120,6 +128,7 @@ impl VdpState {
                 v_counter_jumped: false,
                 line_interrupt_counter: 0,
                 vertical_scroll: 0,
+                table: table,
             },
             addr: 0,
             vram_buffer: 0,

@@ -13,7 +13,7 @@ slice-write-block c = search needs
 
 -- src/lib.rt:299:5
 slice-write-block-2 : tie.Need-slice-write-block-2
-slice-write-block-2 c = search needs
+slice-write-block-2 c = simp length-set (omega arith)
 
 -- src/lib.rt:300:17
 flag-of-requires : tie.Need-flag-of-requires
@@ -21,11 +21,11 @@ flag-of-requires c κs = search needs
 
 -- src/lib.rt:300:5
 slice-write-block-3 : tie.Need-slice-write-block-3
-slice-write-block-3 c = search needs
+slice-write-block-3 c = simp length-set (omega arith)
 
 -- src/lib.rt:301:5
 slice-write-block-4 : tie.Need-slice-write-block-4
-slice-write-block-4 c = search needs
+slice-write-block-4 c = simp length-set (omega arith)
 
 -- src/lib.rt:302:5
 slice-write-block-5 : tie.Need-slice-write-block-5

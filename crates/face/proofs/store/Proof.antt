@@ -1,9 +1,9 @@
 use borrow.Author.Needs.{needs}
-use mathlib.Core.Path.{_∙_}
+use mathlib.Core.Path.{sym, _∙_}
 use Rattle.step.specs.Points.{cleaned}
 use Rattle.step.specs.Step.{coloursNow}
 use Rattle.block.proofs.Stores.{raster-stored}
-use Rattle.face.proofs.Laws.{cleaned-sized}
+use Rattle.face.proofs.Laws.{cleaned-sized, cleaned-table}
 use Rattle.face.proofs.store.Statement.{statement}
 use Rattle.face.proofs.store.Tie as tie
 use Rattle.face.proofs.store.Reads as reads
@@ -26,11 +26,11 @@ same-length c = search needs
 -- src/lib.rt:163:1
 returns : tie.Need-returns
 returns c =
-    λ s g k e.
+    λ k s g t q e.
     let a = c .before .before .before .before .before .before .before .before .before .before .args in
     let r = a .points .row in
-    let h = rw k at (c .before .before .before .before .before .before .store-colours .ensures s g e) in
-    c .before .before .store-raster .ensures ∙ raster-stored (cleaned r s (coloursNow s)) (cleaned-sized r s (coloursNow s) g) _ (a .points .status) (a .points .raster) h
+    let h = rw q at (c .before .before .before .before .before .before .store-colours .ensures k s g e) in
+    c .before .before .store-raster .ensures ∙ raster-stored k (cleaned r s (coloursNow s)) (cleaned-sized r s (coloursNow s) g) _ (a .points .status) (a .points .raster) (t ∙ sym (cleaned-table r s (coloursNow s))) h
 
 pub store-spec : {M : Type 1} → statement M
 store-spec = tie.close (tie.spec store-colours-requires store-raster-requires same-length returns)

@@ -20,7 +20,7 @@ store-cache-requires c κs = search needs
 
 -- src/lib.rt:152:1
 returns : tie.Need-returns
-returns c = λ s g e. rw (c .enum-told .given .1) e
+returns c = λ k s g e. rw (c .enum-told .given .1) e
 
 -- src/lib.rt:152:1
 same-length : tie.Need-same-length
@@ -28,7 +28,7 @@ same-length c = search needs
 
 -- src/lib.rt:152:1
 returns-2 : tie.Need-returns-2
-returns-2 c = λ s g e. rw (c .before .before .before .before .enum-told2 .given .1) (c .before .before .store-cache .ensures ∙ cache-stored s g (c .before .before .before .before .before .before .before .args .state .now) (c .before .before .before .before .before .before .before .args .colours .now) e)
+returns-2 c = λ k s g e. rw (c .before .before .before .before .enum-told2 .given .1) (c .before .before .store-cache .ensures ∙ cache-stored k s g (c .before .before .before .before .before .before .before .args .state .now) (c .before .before .before .before .before .before .before .args .colours .now) e)
 
 pub store-colours-spec : {M : Type 1} → statement M
 store-colours-spec =

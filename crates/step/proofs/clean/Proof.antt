@@ -19,7 +19,7 @@ with-cache-requires c κs = search needs
 
 -- src/lib.rt:303:1
 returns : tie.Need-returns
-returns c = search needs
+returns c = rw (c .enum-told .given .1)
 
 -- src/lib.rt:303:1
 returns-2 : tie.Need-returns-2
