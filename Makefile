@@ -7,13 +7,14 @@ CALLS ?= 1000000
 SEED ?= 1
 ROUNDS ?= 400
 PREFIX ?= /usr/local
-PROGRAMS := trace snapshot sheet
-BINS := $(PROGRAMS:%=build/bin/%)
+PROGRAMS := trace snapshot trace_261 snapshot_261 sheet
+# A program's file has a hyphen where its crate has a line.
+BINS := $(addprefix build/bin/,$(subst _,-,$(PROGRAMS)))
 
 .PHONY: all build native install test compare memcheck damaged bench bus gears setup setup-rust setup-bus prove clean help FORCE
 
-all: build ## build build/libvdp.a and the programs trace, snapshot and sheet in build/bin, and show the trace program at work
-	@echo "build/libvdp.a (header include/vdp.h), build/bin/trace, build/bin/snapshot and build/bin/sheet are built."
+all: build ## build build/libvdp.a and the programs in build/bin, and show the trace program at work
+	@echo "build/libvdp.a (header include/vdp.h) and $(BINS) are built."
 	@echo "The trace of crates/trace/stdin (docs/TRACES.md says what its lines mean):"
 	@sh tools/cross.sh run build/bin/trace crates/trace/stdin
 
@@ -23,7 +24,7 @@ build: $(BINS) build/libvdp.a ## prove and build them, and no more
 $(BINS): $(shell sh tools/sources.sh $(PROGRAMS)) build/toolchain | setup
 	@rt check $(PROGRAMS)
 	@mkdir -p build/bin
-	@cp $(PROGRAMS:%=target/bin/%) build/bin/
+	@$(foreach name,$(PROGRAMS),cp target/bin/$(name) build/bin/$(subst _,-,$(name)) &&) true
 
 # What the library depends on, side by side; rt staticlib proves the library itself.
 build/libvdp.a: $(shell sh tools/sources.sh face) build/toolchain | setup

@@ -130,7 +130,7 @@ static void draw_a_frame(void)
         out(VDP_PORT_DATA, (uint8_t)(48 + 16 * n));
         out(VDP_PORT_DATA, 2);
     }
-    for (unsigned n = 0; n < VDP_OLD_PASS_STEPS; n++) {
+    for (unsigned n = 0; n < VDP_CHART_PASS_STEPS; n++) {
         uint32_t answer = step();
         refused += vdp_refusal(answer) != VDP_OK;
         ends += vdp_report(answer) == VDP_SCREEN_DONE;
@@ -139,7 +139,7 @@ static void draw_a_frame(void)
     }
     for (unsigned y = 0; y < VDP_VISIBLE_HEIGHT; y++)
         once += drawn[y] == 1;
-    check(refused == 0, "261 steps accepted");
+    check(refused == 0, "262 steps accepted");
     check(once == VDP_VISIBLE_HEIGHT, "each of the 144 rows drawn exactly once");
     check(ends == 1, "the screen's end reported exactly once");
     check(pixel_is(100, 4, 2, 4, 8) && pixel_is(96, 4, 3, 6, 12), "the background: inside and edge of a tile");
@@ -157,7 +157,7 @@ static void authors_question(void)
     framed_tile(1, 3, 3);
     set_colour(3, 15, 0, 0);
     memset(frame, 0, sizeof frame);
-    for (unsigned n = 0; n < VDP_OLD_PASS_STEPS; n++) {
+    for (unsigned n = 0; n < VDP_CHART_PASS_STEPS; n++) {
         step();
         uint32_t answer = vdp_input(state, sizeof state, vram, sizeof vram, VDP_PORT_LINE);
         if (vdp_refusal(answer) == VDP_OK && vdp_byte(answer) == 90) {
@@ -214,7 +214,7 @@ static void refusals(void)
 {
     uint8_t kept[VDP_STATE_SIZE];
 
-    check(vdp_new(state, sizeof state - 2) == VDP_REFUSED_BLOCK, "a block that is too short is refused (10)");
+    check(vdp_new(state, VDP_OLD_STATE_SIZE) == VDP_REFUSED_BLOCK, "a block that has no room for a table is refused (10)");
     vdp_new(state, sizeof state);
     memcpy(kept, state, sizeof state);
     check(vdp_step(state, sizeof state, vram, sizeof vram, frame, sizeof frame, 2) == VDP_REFUSED_AREA, "area 2 is refused (11)");

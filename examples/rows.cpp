@@ -15,7 +15,7 @@ int main()
 
     if (vdp_version() != VDP_VERSION || vdp_new(state.data(), state.size()) != VDP_OK)
         return 1;
-    for (unsigned step = 0; step < VDP_OLD_PASS_STEPS; step++)
+    for (unsigned step = 0; step < VDP_CHART_PASS_STEPS; step++)
         drawn += vdp_drawn(vdp_row_step(state.data(), state.size(), vram.data(), vram.size(), row.data(), row.size(), VDP_VISIBLE)) ? 1 : 0;
     std::printf("%u rows of %u bytes\n", drawn, row_size);
     return drawn == VDP_VISIBLE_HEIGHT ? 0 : 1;

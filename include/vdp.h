@@ -40,7 +40,7 @@ extern "C" {
 
 /* The number of this face, 65536 * major + 256 * minor + small; vdp_version() gives that of the library at hand. Major goes
  * up where a program that was right may have to change, minor where calls are added, small where neither is so. */
-#define VDP_VERSION_MAJOR 3
+#define VDP_VERSION_MAJOR 4
 #define VDP_VERSION_MINOR 0
 #define VDP_VERSION_SMALL 0
 #define VDP_VERSION (65536 * VDP_VERSION_MAJOR + 256 * VDP_VERSION_MINOR + VDP_VERSION_SMALL)
@@ -137,7 +137,7 @@ extern "C" {
  * VDP_STATE_SIZE. Refusal: 10 for anything else (what the block held does not matter). No other call changes a block's version or its table. */
 uint32_t vdp_new_table(uint8_t *state, size_t state_len, uint8_t table);
 
-/* The same with no table named: VDP_OLD_TABLE. */
+/* The same with no table named: VDP_CHART_TABLE, and so VDP_STATE_SIZE bytes; 10 for any other length. */
 uint32_t vdp_new(uint8_t *state, size_t state_len);
 
 /* Writes a byte to a port. Refusals, in this order: 10, 8, 1, 3, 4, 7, 6. */

@@ -70,7 +70,7 @@ pub enum Table {
 }
 
 /// The table of a device that is made with none named.
-pub const DEFAULT_TABLE: Table = Table::Steps261;
+pub const DEFAULT_TABLE: Table = Table::Steps262;
 
 impl Table {
     pub fn from_number(n: u8) -> Option<Table> {

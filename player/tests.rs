@@ -126,10 +126,13 @@ mod tests {
         assert_eq!(vdp.last_refusal(), 0);
         write_refused(&vdp, COMMAND, 0x8B, 3);
         // P7
-        for (count, line) in [(217, 0xD9), (218, 0xD5), (260, 0xFF), (261, 0x00)] {
-            let vdp = Vdp::new();
-            steps(&vdp, count);
-            assert_eq!(vdp.input(LINE, 0), Ok(line));
+        let tables = [[(217, 0xD9), (218, 0xD5), (260, 0xFF), (261, 0x00)], [(218, 0xDA), (219, 0xD5), (261, 0xFF), (262, 0x00)]];
+        for (table, row) in (0..).zip(tables) {
+            for (count, line) in row {
+                let vdp = Vdp::with_table(table).expect("a table");
+                steps(&vdp, count);
+                assert_eq!(vdp.input(LINE, 0), Ok(line));
+            }
         }
     }
 
@@ -150,6 +153,15 @@ mod tests {
     }
 
     #[test]
+    fn with_no_table_named_it_is_the_chart() {
+        for vdp in [Vdp::new(), Vdp::default()] {
+            assert_eq!(format!("{:?}", vdp), format!("{:?}", Vdp::with_table(1).expect("a table")));
+            steps(&vdp, 262);
+            assert_eq!(vdp.input(LINE, 0), Ok(0));
+        }
+    }
+
+    #[test]
     fn a_colour_is_drawn() {
         // P4: colour 3, here as the background of every row, is AA 55 33 FF
         let vdp = Vdp::new();
@@ -158,7 +170,7 @@ mod tests {
         commands(&vdp, &[0x06, 0xC0]);
         writes(&vdp, &[0x5A, 0xF3]);
         let mut frame = vec![0; VISIBLE];
-        for _ in 0..261 {
+        for _ in 0..262 {
             vdp.step(&mut frame, RenderArea::VisibleOnly);
         }
         assert!(frame.chunks(4).all(|pixel| *pixel == [0xAA, 0x55, 0x33, 0xFF]));
@@ -169,7 +181,7 @@ mod tests {
         // P12: on, register 10 at 3: from line 0 on, lines 2, 6, 10 come first
         let vdp = Vdp::new();
         commands(&vdp, &[0x10, 0x80, 0x03, 0x8A]);
-        steps(&vdp, 260);
+        steps(&vdp, 261);
         let mut frame = vec![0; VISIBLE];
         let mut lines = Vec::new();
         for line in 0..12 {
@@ -188,7 +200,7 @@ mod tests {
             commands(&vdp, &[register, 0x81]);
             let mut frame = vec![0; VISIBLE];
             let mut ends = Vec::new();
-            for _ in 0..261 {
+            for _ in 0..262 {
                 match vdp.step(&mut frame, RenderArea::VisibleOnly).1 {
                     DisplayRefresh::NoDisplay => {}
                     DisplayRefresh::ScreenDone => ends.push(true),
@@ -240,7 +252,7 @@ mod tests {
         ] {
             let (vdp, other) = (used(), used());
             let mut frame = vec![7; lent];
-            for _ in 0..261 {
+            for _ in 0..262 {
                 let answer = vdp.step(&mut frame, area);
                 assert!(matches!(answer, (VdpInt::NoInterrupt, DisplayRefresh::NoDisplay)));
                 assert_eq!(vdp.last_refusal(), number);
@@ -296,7 +308,7 @@ mod tests {
             commands(&vdp, &[0x3E, 0xC0]);
             writes(&vdp, &[0xFF, 0x0F]);
             let mut frame = vec![7; VISIBLE];
-            for _ in 0..261 {
+            for _ in 0..262 {
                 vdp.step(&mut frame, RenderArea::VisibleOnly);
             }
             assert_eq!(frame.chunks(4).filter(|pixel| **pixel == [0xFF; 4]).count(), shown);

@@ -7,6 +7,7 @@
 //! - A refused `step` answers no interrupt and no display report and moves nothing; a refused `dump_tileset` leaves the sheet. That is
 //!   so where the buffer has a wrong length, for a step on every line, and not only on one that it draws. A frame is exactly
 //!   160 x 144 (or 256 x 224) x 4 bytes, the tile sheet exactly 131,072.
+//! - `Vdp::new` goes by the line table of the counter chart, 262 steps to a pass; `Vdp::with_table(0)` by the one of the file before, 261.
 //! - A sprite at X 41 to 48 under the early clock no longer stops the player, and nothing is drawn past the right edge.
 
 use crate::io;

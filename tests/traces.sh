@@ -1,5 +1,6 @@
 #!/usr/bin/env bash
-# traces.sh: build/bin/trace and build/bin/snapshot on whole, damaged, empty and long recordings, and the split at line 90.
+# traces.sh: build/bin/trace and build/bin/snapshot on whole, damaged, empty and long recordings, and the split at line 90; and their twins, which go by
+# the other line table.
 # What is expected: of the traces in tests/traces/ the text beside each; of the others what docs/RULES.md says (R7.8, R7.11, R7.13), said again here.
 set -u
 cd "$(dirname "$0")/.."
@@ -22,10 +23,40 @@ says() {
     tell "$1" $?
 }
 
-# Whole traces.
+# Whole traces, by the chart's table and by the one with 261 steps.
 for trace in tests/traces/*.trace; do
     name=$(basename "$trace" .trace)
     prints "trace $name" "$trace" "${trace%.trace}.text"
+    other=${trace%.trace}.261.text
+    [ -e "$other" ] || other=${trace%.trace}.text
+    $RUN build/bin/trace-261 < "$trace" | cmp "$other" -
+    tell "trace-261 $name" $?
+done
+
+# 262 steps and a read of the counter, in both: a table that is not the program's own tells itself here.
+# lines JUMP STEPS: what so many steps print where the counter jumps instead of becoming JUMP.
+lines() {
+    awk -v jump="$1" -v steps="$2" 'BEGIN {
+        for (n = 1; n <= steps; n++) {
+            line = (line + 1) % 256
+            if (line == 0) jumped = 0
+            if (line == jump && !jumped) { jumped = 1; line = 213 }
+            printf "s 0 %02X 0 %d\n", line, line == 193 ? 2 : 0
+        }
+    }'
+}
+for both in "trace 219 00" "trace-261 218 01"; do
+    read -r program jump last <<<"$both"
+    { lines "$jump" 262; echo "r 0 $last"; echo 'end 263'; } > $work/expected
+    $RUN build/bin/$program < tests/traces/p7.trace | cmp $work/expected -
+    tell "262 steps: $program goes by its own table" $?
+done
+# After 285 steps the one has drawn a row of its second pass, and the other has not.
+$RUN build/bin/snapshot tests/traces/late.trace > $work/late.ppm && $RUN build/bin/snapshot-261 tests/traces/late.trace > $work/late-261.ppm
+for both in "late 0" "late-261 1"; do
+    read -r picture rows <<<"$both"
+    [ "$(tail -c 69120 $work/$picture.ppm | od -An -v -tx1 -w480 | grep -c ' ff 00 00')" = "$rows" ]
+    tell "285 steps, $picture: $rows rows of the second pass" $?
 done
 
 # The stored traces are those that the scripts beside them write.
@@ -77,15 +108,7 @@ yes 'PR~' | tr -d '\n' | head -c 65535 > $work/reads
 { yes 'r 0 00' | head -n 21845; echo 'end 21845'; } > $work/expected
 prints '65,535 bytes: 21,845 reads' $work/reads $work/expected
 yes 'LS0' | tr -d '\n' | tr 0 '\000' | head -c 65535 > $work/steps
-awk 'BEGIN {
-    for (n = 1; n <= 21845; n++) {
-        line = (line + 1) % 256
-        if (line == 0) jumped = 0
-        if (line == 218 && !jumped) { jumped = 1; line = 213 }
-        printf "s 0 %02X 0 %d\n", line, line == 193 ? 2 : 0
-    }
-    print "end 21845"
-}' > $work/expected
+{ lines 219 21845; echo 'end 21845'; } > $work/expected
 prints '65,535 bytes: 21,845 steps' $work/steps $work/expected
 { yes "$(printf 'PW\277@')" | tr -d '\n' | head -c 65532; printf 'PR~'; } > $work/writes
 { yes 'w 0' | head -n 16383; echo 'r 0 00'; echo 'end 16384'; } > $work/expected

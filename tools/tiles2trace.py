@@ -30,4 +30,4 @@ for n in range(len(tiles) // 32):
     entries[64 * y + 2 * x : 64 * y + 2 * x + 2] = n.to_bytes(2, "little")
 
 palette = open(sys.argv[2], "rb").read()
-sys.stdout.buffer.write(send(0, 0x40, tiles) + send(MAP, 0x40, entries) + send(0, 0xC0, palette) + bytes([0x4C, 0x53, 0]) * 261)
+sys.stdout.buffer.write(send(0, 0x40, tiles) + send(MAP, 0x40, entries) + send(0, 0xC0, palette) + bytes([0x4C, 0x53, 0]) * 262)

@@ -1,7 +1,8 @@
 #!/usr/bin/env python3
 """Writes the traces beside this file, but for split90.trace, which split90.py writes.
 
-The text beside each is what it must print, as the rules written a second time in oracle/ have it: build/oracle/traces text < NAME.trace > NAME.text
+The text beside each is what `trace` must print, as the rules written a second time in oracle/ have it: build/oracle/traces text < NAME.trace > NAME.text
+Where `trace-261` prints something else, NAME.261.text has that: build/oracle/traces text --table=0 < NAME.trace > NAME.261.text
 """
 import pathlib
 
@@ -33,8 +34,11 @@ traces = {
     "p3": write(BF, 0xFE, 0x7F) + write(BE, 0xA1, 0xB2) + write(BF, 0xFE, 0x3F) + read(BE, 2),
     "p5": write(BF, 0x01, 0xC0) + write(BE, 0x77),
     "p6": write(BF, 0x00, 0x8A) + write(BF, 0x00, 0x8B),
-    "p7": steps(261) + read(LINE),
-    "p12": write(BF, 0x10, 0x80) + write(BF, 0x03, 0x8A) + steps(261 + 14),
+    # (the counter over a pass: 262 steps by the chart's table, which the twins go by 261 in)
+    "p7": steps(262) + read(LINE),
+    "p12": write(BF, 0x10, 0x80) + write(BF, 0x03, 0x8A) + steps(262 + 14),
+    # all tiles in colour 3, which is red from step 263 on: after 285 steps the table with 261 has drawn row 0 of the second pass, the chart's has not
+    "late": write(BF, 0x00, 0x40) + write(BE, *[0xFF, 0xFF, 0x00, 0x00] * 8) + steps(262) + write(BF, 0x06, 0xC0) + write(BE, 0x0F, 0x00) + steps(23),
     # every refusal that a trace can meet, 1 to 6, and ports by their low byte
     "refusals": write(0x00, 0x00)
     + read(0x00)

@@ -39,7 +39,7 @@ read(LINE_COUNTER)
 # Colour 3 is blue from here on.
 write(COMMAND, 0x06, 0xC0)
 write(DATA, 0x00, 0x0F)
-# The rest of the pass of 261 steps.
-steps(171)
+# The rest of the pass of 262 steps.
+steps(172)
 
 pathlib.Path(__file__).with_suffix(".trace").write_bytes(trace)

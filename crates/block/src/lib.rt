@@ -100,7 +100,11 @@ pub fn has_room(table: LineTable, len: usize) -> bool
 fn table_byte(block: &[u8]) -> u8
     ensures { λ r. ⌜ r ≡ at (now (block .entry)) 219 ⌝ }
 {
-    if OLD_SIZE < block.len() { block[219] } else { 0 }
+    if OLD_SIZE < block.len() {
+        block[219]
+    } else {
+        0
+    }
 }
 
 // The n bytes of src from `from` on, into dst at `at`.

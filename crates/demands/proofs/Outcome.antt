@@ -331,7 +331,7 @@ record-at-once κs a q z z′ w w′ e f = (e ∙ sym f, refl)
 pub trace-once : OneOutcome 4 trace.Kinds.ps trace.Kinds.r trace.Reads.Asked trace.Reads.Learnt
 trace-once κs a q z z′ w w′ e f = (
   e .0 .count ∙ sym (f .0 .count),
-  λ i. (tt, ((e .0 .memory ∙ sym (f .0 .memory)) i, ((e .0 .pixels ∙ sym (f .0 .pixels)) i, ((e .0 .bytes ∙ sym (f .0 .bytes)) i, tt)))),
+  λ i. (tt, (tt, ((e .0 .memory ∙ sym (f .0 .memory)) i, ((e .0 .pixels ∙ sym (f .0 .pixels)) i, ((e .0 .bytes ∙ sym (f .0 .bytes)) i, tt))))),
 )
 
 pub snapshot-once : OneOutcome 5 snapshot.Kinds.ps snapshot.Kinds.r snapshot.Reads.Asked snapshot.Reads.Learnt
@@ -340,8 +340,11 @@ snapshot-once κs a q z z′ w w′ e f = (
   λ i. (
     tt,
     (
-      (e .0 .memory ∙ sym (f .0 .memory)) i,
-      ((e .0 .pixels ∙ sym (f .0 .pixels)) i, ((e .0 .picture ∙ sym (f .0 .picture)) i, ((e .0 .bytes ∙ sym (f .0 .bytes)) i, tt))),
+      tt,
+      (
+        (e .0 .memory ∙ sym (f .0 .memory)) i,
+        ((e .0 .pixels ∙ sym (f .0 .pixels)) i, ((e .0 .picture ∙ sym (f .0 .picture)) i, ((e .0 .bytes ∙ sym (f .0 .bytes)) i, tt))),
+      ),
     ),
   ),
 )

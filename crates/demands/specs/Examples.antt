@@ -16,7 +16,7 @@ use Rattle.picture.specs.View.{visibleEnd, visibleSeen, visibleStand}
 use Rattle.picture.specs.Picture.{bare, solid, heldBack, marked, struck, drawn, laid}
 use Rattle.picture.specs.Examples.{spot, places}
 use Rattle.raster.specs.declared.LineTable.{LineTable}
-use Rattle.raster.specs.declared.LineTable.the-variants.{Steps261}
+use Rattle.raster.specs.declared.LineTable.the-variants.{Steps261, Steps262}
 use Rattle.raster.specs.Raster.{passLength, jumps, starts, advanced, lineInterrupt, counted}
 use Rattle.vdp.specs.declared.VdpState.{VdpState}
 use Rattle.vdp.specs.Device.{made, fresh}
@@ -90,8 +90,9 @@ examples =
     -- P5, P6 refusals
     ∷ refusals (answers start (write 0xBF 0x01 ∷ write 0xBF 0xC0 ∷ write 0xBE 0x77 ∷ []))
     ∷ refusals (answers start (write 0xBF 0x00 ∷ write 0xBF 0x8A ∷ write 0xBF 0x00 ∷ write 0xBF 0x8B ∷ []))
-    -- P7 the counter after so many steps
+    -- P7 the counter after so many steps, by table 0 and by table 1
     ∷ (lineAfter Steps261 217 ∷ lineAfter Steps261 218 ∷ lineAfter Steps261 260 ∷ lineAfter Steps261 261 ∷ [])
+    ∷ (lineAfter Steps262 218 ∷ lineAfter Steps262 219 ∷ lineAfter Steps262 261 ∷ lineAfter Steps262 262 ∷ [])
     -- P8 X 45, P9 X 203, P10 early clock X 49: x, start, end
     ∷ spot (visibleStand 0 45)
     ∷ spot (visibleStand 0 203)
@@ -99,7 +100,7 @@ examples =
     -- P11 unseen X 208, then 209
     ∷ (marks 208 ∷ marks 209 ∷ [])
     -- P12 line interrupts on, N = 3: the first of the next 12 steps, lines 0 to 11
-    ∷ interruptLines 12 (beforeLine0 Steps261 3)
+    ∷ interruptLines 12 (beforeLine0 Steps262 3)
     -- P13 frame 92,159, then 92,160
     ∷ (refusedOn 92159 ∷ refusedOn 92160 ∷ [])
     ∷ []
@@ -113,6 +114,7 @@ pub table :
     ∷ (0 ∷ 0 ∷ 6 ∷ [])
     ∷ (0 ∷ 0 ∷ 0 ∷ 3 ∷ [])
     ∷ (0xD9 ∷ 0xD5 ∷ 0xFF ∷ 0 ∷ [])
+    ∷ (0xDA ∷ 0xD5 ∷ 0xFF ∷ 0 ∷ [])
     ∷ (0 ∷ 3 ∷ 8 ∷ [])
     ∷ (155 ∷ 0 ∷ 5 ∷ [])
     ∷ (0 ∷ 7 ∷ 8 ∷ [])

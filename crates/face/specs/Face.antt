@@ -61,9 +61,9 @@ newTableCall b t =
     (record { word = refusalNumber Accepted; block = blockOf (length b) (made (lineTableFrom t)); lent = [] })
     (refused BlockMalformed b [])
 
--- R4.8: with no table named
+-- R4.8: with no table named, the chart's, and so into a block of the second version alone
 abbrev pub newCall : List ℕ → Called
-newCall b = newTableCall b 0
+newCall b = newTableCall b 1
 
 -- the other calls leave a block in its own version, that of its length k
 abbrev pub outOn : List ℕ → ℕ → ℕ → ℕ → VdpState → Called

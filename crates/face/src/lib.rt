@@ -75,12 +75,12 @@ pub extern "C" fn vdp_new_table(state: &mut [u8], table: u8) -> u32
     number(Refusal::Accepted)
 }
 
-// The same with no table named.
+// The same with no table named: the chart's.
 #[no_mangle]
 pub extern "C" fn vdp_new(state: &mut [u8]) -> u32
     ensures { λ r. ⌜ Leaves (newCall (now (state .entry))) r (now (state .exit)) [] ⌝ }
 {
-    vdp_new_table(state, 0)
+    vdp_new_table(state, 1)
 }
 
 // A port write.
@@ -218,7 +218,7 @@ pub extern "C" fn vdp_dump_tileset(state: &[u8], vram: &[u8], pixels: &mut [u8])
 pub extern "C" fn vdp_version() -> u32
     ensures { λ r. ⌜ r ≡ version ⌝ }
 {
-    196608
+    262144
 }
 
 // The tile of these 64 codes into video memory; no device is asked.

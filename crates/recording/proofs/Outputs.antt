@@ -13,6 +13,7 @@ use lib.ListN.{length, take, length-append}
 use lib.Seq.{length-take-le}
 use Rattle.laws.specs.Lists.{at, written}
 use Rattle.picture.specs.declared.RenderArea.{RenderArea}
+use Rattle.vdp.specs.declared.VdpState.{VdpState}
 use Rattle.recording.specs.declared.run.Run.{Run}
 use Rattle.recording.specs.Text.{numbered, endLine, badLine, longLine}
 use Rattle.recording.specs.Run.{World, Turn, start, rowTurn, frameTurn, after, lines, ran}
@@ -166,8 +167,8 @@ module _ (s : List ℕ) (w : World) (o : List ℕ) where
           whole (leb 69135 (length o) && eqb (length (w .frame)) 92160) frameTurn (pictured s w) s w o enough k ex (p .0 ∙ ap length b) (p .1 ∙ ap (written o 0) b)
 
 pub trace-leaves :
-    {s vram row o : List ℕ} (x : World) {n : ℕ} {o′ : List ℕ} → left x n o′ ≡ traced s (start vram row []) o
-    → TraceLeaves s vram row o n (x .vram) (x .row) o′
+    {d : VdpState} {s vram row o : List ℕ} (x : World) {n : ℕ} {o′ : List ℕ} → left x n o′ ≡ traced s (start d vram row []) o
+    → TraceLeaves d s vram row o n (x .vram) (x .row) o′
 trace-leaves x e =
     record {
       count = ap (λ (l : Left). l .len) e;
@@ -177,8 +178,8 @@ trace-leaves x e =
     }
 
 pub snapshot-leaves :
-    {s vram row frame o : List ℕ} (x : World) {n : ℕ} {o′ : List ℕ} → left x n o′ ≡ snapped s (start vram row frame) o
-    → SnapshotLeaves s vram row frame o n (x .vram) (x .row) (x .frame) o′
+    {d : VdpState} {s vram row frame o : List ℕ} (x : World) {n : ℕ} {o′ : List ℕ} → left x n o′ ≡ snapped s (start d vram row frame) o
+    → SnapshotLeaves d s vram row frame o n (x .vram) (x .row) (x .frame) o′
 snapshot-leaves x e =
     record {
       count = ap (λ (l : Left). l .len) e;

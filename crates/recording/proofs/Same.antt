@@ -167,10 +167,10 @@ unfolding lines
 same-lines zero s h = refl
 same-lines (suc n) s h = λ i. same-lines n s h i ++ lineOf (same-turn s (alike n s h) .answer i)
 
--- the two programs, as they start: 16,384 bytes of video memory, a row buffer of 1,024 and a frame of 92,160
+-- the two programs, as they start on any device: 16,384 bytes of video memory, a row buffer of 1,024 and a frame of 92,160
 pub programs :
-    (n : ℕ) (s vram row frame : List ℕ) → length vram ≡ 16384 → length row ≡ 1024 → length frame ≡ 92160
-    → Alike (after rowTurn n s (start vram row [])) (after frameTurn n s (start vram row frame))
-programs n s vram row frame v r f =
+    (d : VdpState) (n : ℕ) (s vram row frame : List ℕ) → length vram ≡ 16384 → length row ≡ 1024 → length frame ≡ 92160
+    → Alike (after rowTurn n s (start d vram row [])) (after frameTurn n s (start d vram row frame))
+programs d n s vram row frame v r f =
     alike n s
     (record { runs = refl; memory = refl; vram = v; rows = omega arith; rows′ = omega arith; frame = omega arith })

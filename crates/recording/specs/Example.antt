@@ -6,7 +6,10 @@ use Prim.Native.Nat.{ℕ}
 use lib.ListN.{replicate}
 use Rattle.laws.specs.Sizes.{vramSize}
 use Rattle.laws.specs.Bits.{bit}
+use Rattle.raster.specs.declared.LineTable.{LineTable}
+use Rattle.raster.specs.declared.LineTable.the-variants.{Steps261, Steps262}
 use Rattle.raster.specs.Raster.{jumps, starts, advanced, lineInterrupt, counted}
+use Rattle.vdp.specs.Device.{made}
 use Rattle.vdp.specs.Ports.{portWrite, portRead}
 use Rattle.step.specs.Step.{rowOn, drawnBy, endScreen, reportOf, interruptOf, stepped, stepWith}
 use Rattle.recording.specs.Record.{recordAt, marked}
@@ -27,12 +30,12 @@ output =
     ∷ 0x30 ∷ 0x0A ∷ 0x72 ∷ 0x20 ∷ 0x30 ∷ 0x20 ∷ 0x41 ∷ 0x42 ∷ 0x0A ∷ 0x73 ∷ 0x20 ∷ 0x30 ∷ 0x20 ∷ 0x30 ∷ 0x31 ∷ 0x20 ∷ 0x30 ∷ 0x20
     ∷ 0x30 ∷ 0x0A ∷ 0x72 ∷ 0x20 ∷ 0x32 ∷ 0x20 ∷ 0x30 ∷ 0x30 ∷ 0x0A ∷ 0x65 ∷ 0x6E ∷ 0x64 ∷ 0x20 ∷ 0x38 ∷ 0x0A ∷ []
 
--- the one is printed for the other, from 16,384 zeroed bytes of video memory and a row buffer of 1,024
-pub worked : printed input (start (replicate vramSize 0) (replicate 1024 0) []) ≡ output
+-- the one is printed for the other, by either table, from 16,384 zeroed bytes of video memory and a row buffer of 1,024
+pub worked : (printed input (start (made Steps261) (replicate vramSize 0) (replicate 1024 0) []) ≡ output) × (printed input (start (made Steps262) (replicate vramSize 0) (replicate 1024 0) []) ≡ output)
 unfolding input output recordAt marked decimal lineOf endLine badLine longLine rowTurn turnBy turnOf after lines ran lastLine text printed portWrite portRead jumps starts advanced lineInterrupt counted bit rowOn drawnBy endScreen reportOf interruptOf stepped stepWith
-worked = refl
+worked = (refl, refl)
 
 -- no input: `end 0`
-pub none : printed [] (start (replicate vramSize 0) (replicate 1024 0) []) ≡ 0x65 ∷ 0x6E ∷ 0x64 ∷ 0x20 ∷ 0x30 ∷ 0x0A ∷ []
+pub none : (t : LineTable) → printed [] (start (made t) (replicate vramSize 0) (replicate 1024 0) []) ≡ 0x65 ∷ 0x6E ∷ 0x64 ∷ 0x20 ∷ 0x30 ∷ 0x0A ∷ []
 unfolding decimal endLine badLine longLine after lines ran lastLine text printed
-none = refl
+none t = refl

@@ -10,6 +10,7 @@ use Rattle.laws.specs.Lists.{at, written}
 use Rattle.picture.specs.declared.RenderArea.{RenderArea}
 use Rattle.picture.specs.declared.RenderArea.the-variants.{VisibleOnly}
 use Rattle.picture.specs.Area.{frameSize}
+use Rattle.vdp.specs.declared.VdpState.{VdpState}
 use Rattle.recording.specs.declared.run.Run.{Run}
 use Rattle.recording.specs.Text.{endLine, badLine, longLine}
 use Rattle.recording.specs.Run.{World, Turn, rowTurn, frameTurn, lines, ran, start}
@@ -86,16 +87,16 @@ traced s w out = leaves (leb textRoom (length out)) rowTurn (printed s w) s w ou
 unfoldable pub snapped : List ℕ → World → List ℕ → Left
 snapped s w out = leaves (leb pictureRoom (length out) && eqb (length (w .frame)) (frameSize VisibleOnly)) frameTurn (pictured s w) s w out
 
--- What `trace` promises of its answer n and of the buffers after it, and what `snapshot` does.
-pub record TraceLeaves (s vram row out : List ℕ) (n : ℕ) (vram′ row′ out′ : List ℕ) : Type 0 where
-  pub count : n ≡ traced s (start vram row []) out .len
-  pub bytes : out′ ≡ traced s (start vram row []) out .out
-  pub memory : vram′ ≡ traced s (start vram row []) out .vram
-  pub pixels : row′ ≡ traced s (start vram row []) out .row
+-- What `trace`, from device d on, promises of its answer n and of the buffers after it, and what `snapshot` does.
+pub record TraceLeaves (d : VdpState) (s vram row out : List ℕ) (n : ℕ) (vram′ row′ out′ : List ℕ) : Type 0 where
+  pub count : n ≡ traced s (start d vram row []) out .len
+  pub bytes : out′ ≡ traced s (start d vram row []) out .out
+  pub memory : vram′ ≡ traced s (start d vram row []) out .vram
+  pub pixels : row′ ≡ traced s (start d vram row []) out .row
 
-pub record SnapshotLeaves (s vram row frame out : List ℕ) (n : ℕ) (vram′ row′ frame′ out′ : List ℕ) : Type 0 where
-  pub count : n ≡ snapped s (start vram row frame) out .len
-  pub bytes : out′ ≡ snapped s (start vram row frame) out .out
-  pub memory : vram′ ≡ snapped s (start vram row frame) out .vram
-  pub pixels : row′ ≡ snapped s (start vram row frame) out .row
-  pub picture : frame′ ≡ snapped s (start vram row frame) out .frame
+pub record SnapshotLeaves (d : VdpState) (s vram row frame out : List ℕ) (n : ℕ) (vram′ row′ frame′ out′ : List ℕ) : Type 0 where
+  pub count : n ≡ snapped s (start d vram row frame) out .len
+  pub bytes : out′ ≡ snapped s (start d vram row frame) out .out
+  pub memory : vram′ ≡ snapped s (start d vram row frame) out .vram
+  pub pixels : row′ ≡ snapped s (start d vram row frame) out .row
+  pub picture : frame′ ≡ snapped s (start d vram row frame) out .frame

@@ -7,7 +7,6 @@ use lib.ListN.{length}
 use Rattle.picture.specs.declared.RenderArea.{RenderArea}
 use Rattle.picture.specs.declared.RenderArea.the-variants.{VisibleOnly, EffectiveArea}
 use Rattle.vdp.specs.declared.VdpState.{VdpState}
-use Rattle.vdp.specs.Device.{fresh}
 use Rattle.vdp.specs.Ports.{portWrite, portRead}
 use Rattle.step.specs.declared.Stepped.{Stepped}
 use Rattle.step.specs.Step.{rowStep, frameStep}
@@ -31,8 +30,9 @@ pub record World : Type 0 where
 abbrev pub held : Run → List ℕ → List ℕ → List ℕ → World
 held run vram row frame = record { run = run; vram = vram; row = row; frame = frame }
 
-abbrev pub start : List ℕ → List ℕ → List ℕ → World
-start vram row frame = held (record { vdp = fresh; at = 0; count = 0 }) vram row frame
+-- this device, at the recording's first byte
+abbrev pub start : VdpState → List ℕ → List ℕ → List ℕ → World
+start d vram row frame = held (record { vdp = d; at = 0; count = 0 }) vram row frame
 
 -- What a record does: the answer of its call, and the world after it.
 pub record Turn : Type 0 where

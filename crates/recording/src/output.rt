@@ -37,9 +37,9 @@ fn put_last(out: &mut [u8], at: usize, input: &[u8], run: Run) -> usize
     put_numbered(out, at, b"bad ", run.at)
 }
 
-// R7.8: the text of a recording, at the start of out, and how long it is. At most 65,535 bytes are taken; without room for what they may print nothing happens.
-pub fn trace(input: &[u8], vram: &mut [u8], row: &mut [u8], out: &mut [u8]) -> usize
-    ensures { λ n. ⌜ TraceLeaves (now (input .entry)) (now (vram .entry)) (now (row .entry)) (now (out .entry)) n (now (vram .exit)) (now (row .exit)) (now (out .exit)) ⌝ }
+// R7.8: the text of a recording, run on this device, at the start of out, and how long it is. At most 65,535 bytes are taken; without room for what they may print nothing happens.
+pub fn trace(vdp: VdpState, input: &[u8], vram: &mut [u8], row: &mut [u8], out: &mut [u8]) -> usize
+    ensures { λ n. ⌜ TraceLeaves vdp (now (input .entry)) (now (vram .entry)) (now (row .entry)) (now (out .entry)) n (now (vram .exit)) (now (row .exit)) (now (out .exit)) ⌝ }
     ensures { λ n. ⌜ (n ≤ length (now (out .exit))) × (n ≡ length (take n (now (out .exit)))) ⌝ }
 {
     if out.len() < TEXT_ROOM {
@@ -49,7 +49,7 @@ pub fn trace(input: &[u8], vram: &mut [u8], row: &mut [u8], out: &mut [u8]) -> u
         return put_all(out, 0, b"long\n");
     }
     let mut run = Run {
-        vdp: VdpState::new(),
+        vdp: vdp,
         at: 0,
         count: 0,
     };
@@ -93,16 +93,17 @@ fn put_picture(out: &mut [u8], input: &[u8], run: Run, frame: &[u8]) -> usize
     put_numbered(out, 0, b"bad ", run.at)
 }
 
-// R7.13: the picture that a recording's visible steps draw into the frame, at the start of out, and how long it is; of a bad or long recording, only
+// R7.13: the picture that a recording's visible steps draw into the frame, run on this device, at the start of out, and how long it is; of a bad or long recording, only
 // the line that says so. Without room for a picture, or with a frame of another length, nothing happens.
 pub fn snapshot(
+    vdp: VdpState,
     input: &[u8],
     vram: &mut [u8],
     row: &mut [u8],
     frame: &mut [u8],
     out: &mut [u8],
 ) -> usize
-    ensures { λ n. ⌜ SnapshotLeaves (now (input .entry)) (now (vram .entry)) (now (row .entry)) (now (frame .entry)) (now (out .entry)) n (now (vram .exit)) (now (row .exit)) (now (frame .exit)) (now (out .exit)) ⌝ }
+    ensures { λ n. ⌜ SnapshotLeaves vdp (now (input .entry)) (now (vram .entry)) (now (row .entry)) (now (frame .entry)) (now (out .entry)) n (now (vram .exit)) (now (row .exit)) (now (frame .exit)) (now (out .exit)) ⌝ }
     ensures { λ n. ⌜ (n ≤ length (now (out .exit))) × (n ≡ length (take n (now (out .exit)))) ⌝ }
 {
     if out.len() < PICTURE_ROOM {
@@ -115,7 +116,7 @@ pub fn snapshot(
         return put_all(out, 0, b"long\n");
     }
     let mut run = Run {
-        vdp: VdpState::new(),
+        vdp: vdp,
         at: 0,
         count: 0,
     };

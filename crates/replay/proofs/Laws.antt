@@ -14,7 +14,7 @@ use Rattle.laws.specs.Lists.{at}
 use Rattle.raster.specs.declared.LineTable.the-variants.{Steps261}
 use Rattle.block.specs.Block.{fits}
 use Rattle.face.proofs.Blocks.{new-on}
-use Rattle.face.specs.Face.{Called, Leaves, newCall, outCall, inputCall, rowStepCall}
+use Rattle.face.specs.Face.{Called, Leaves, newTableCall, outCall, inputCall, rowStepCall}
 use Rattle.replay.specs.Replay.{sumOf, rowSum, agreed, World, world, turn, wrote, read, stepped, turned, Run, run, after, ran, start, tallied, replayed}
 
 -- ---- checksums
@@ -64,7 +64,7 @@ module _ (l m x : List ℕ) where
   upTo n = ran n l (start m x)
 
   -- from a fresh block on
-  pub begun : (b : List ℕ) → length b ≡ 219 → {n : ℕ} {b′ : List ℕ} → Leaves (newCall b) n b′ [] → upTo 0 ≡ run 0 true (world b′ m x)
+  pub begun : (b : List ℕ) → length b ≡ 219 → {n : ℕ} {b′ : List ℕ} → Leaves (newTableCall b 0) n b′ [] → upTo 0 ≡ run 0 true (world b′ m x)
   unfolding ran
   begun b h e =
       let room : fits Steps261 (length b) ≡ true = rw h in

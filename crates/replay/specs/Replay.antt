@@ -10,7 +10,8 @@ use Rattle.laws.specs.Bits.{bit}
 use Rattle.laws.specs.Lists.{at}
 use Rattle.laws.specs.Paint.{ofBytes}
 use Rattle.picture.specs.Area.{rowSize}
-use Rattle.vdp.specs.Device.{fresh}
+use Rattle.raster.specs.declared.LineTable.the-variants.{Steps261}
+use Rattle.vdp.specs.Device.{made}
 use Rattle.block.specs.Block.{oldSize, blockOf}
 use Rattle.picture.specs.Area.{areaFrom}
 use Rattle.face.specs.Face.{Called, outCall, inputCall, rowStepCall}
@@ -83,9 +84,9 @@ unfoldable pub ran : ℕ → List ℕ → Run → Run
 ran zero l r = r
 ran (suc n) l r = cond (ran n l r .same) (after (ran n l r) (turned l (16 * n) (ran n l r .left))) (ran n l r)
 
--- a fresh device in a block of the first version, with the video memory and the row buffer that it is lent
+-- a fresh device of table 0, as the Rust's is, in a block of the first version, with the video memory and the row buffer that it is lent
 abbrev pub start : List ℕ → List ℕ → Run
-start m x = run 0 true (world (blockOf oldSize fresh) m x)
+start m x = run 0 true (world (blockOf oldSize (made Steps261)) m x)
 
 -- WHAT A REPLAY FINDS: the answers of all whole records; a record that is cut differs
 unfoldable pub tallied : List ℕ → Run → Tally

@@ -109,12 +109,12 @@ fn call(list: &[u8], at: usize, state: &mut [u8], vram: &mut [u8], row: &mut [u8
     }
 }
 
-// All records in order, from a fresh device in a block of the first version on, up to the first that differs. A record that is cut differs.
+// All records in order, from a fresh device of table 0 in a block of the first version on, up to the first that differs. A record that is cut differs.
 fn replay(list: &[u8], state: &mut [u8], vram: &mut [u8], row: &mut [u8]) -> Tally
     requires { ⌜ (length (now state) ≡ 219) × (length (now row) ≡ 1024) ⌝ }
     ensures { λ r. ⌜ r ≡ replayed (now (list .entry)) (now (vram .entry)) (now (row .entry)) ⌝ }
 {
-    face::vdp_new(state);
+    face::vdp_new_table(state, 0);
     let n = list.len() / 16;
     let mut i = 0;
     while i < n {

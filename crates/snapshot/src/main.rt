@@ -1,6 +1,7 @@
-// Writes the picture that a recording draws, as a binary PPM.
+// Writes the picture that a recording draws on a fresh device, one of the chart's line table, as a binary PPM.
 ghost use mathlib.Core.Path.{_≡_};
 ghost use lib.ListN.{length, replicate};
+use vdp::VdpState;
 
 // A visible frame, zeroed: the contract says so, and gives its length, which the caller's check then need not compute.
 fn blank() -> [u8; 92_160]
@@ -26,7 +27,7 @@ fn main() {
     let taken = program::input(
         b"snapshot",
         b"usage: snapshot [FILE] > PICTURE.ppm\n\
-            Runs the trace in FILE, or on standard input, on a fresh device, and writes what its visible steps drew.\n\
+            Runs the trace in FILE, or on standard input, on a fresh device (262 steps to a pass; snapshot-261 has 261), and writes what its visible steps drew.\n\
             The picture is a binary PPM of 160 x 144 pixels, black where nothing was drawn; tools/ppm2png.py makes a PNG of it.\n\
             Of a trace that is bad or too long it writes only a line, as trace does: 'bad' and an offset, or 'long'.\n\
             The exit status is always 0: what cannot be read or written is told on standard error.\n",
@@ -36,6 +37,13 @@ fn main() {
         return;
     }
     let n = taken.len;
-    let k = recording::snapshot(&input[..n], &mut vram, &mut row, &mut frame, &mut picture);
+    let k = recording::snapshot(
+        VdpState::new(),
+        &input[..n],
+        &mut vram,
+        &mut row,
+        &mut frame,
+        &mut picture,
+    );
     program::output(b"snapshot", &picture[..k]);
 }

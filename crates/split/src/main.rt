@@ -63,11 +63,11 @@ fn turn(vdp: VdpState, vram: &mut [u8], frame: &mut [u8]) -> VdpState {
     next
 }
 
-// A whole pass: 261 steps.
+// A whole pass: 262 steps.
 fn pass(vdp: VdpState, vram: &mut [u8], frame: &mut [u8]) {
     let mut next = vdp;
     let mut i: usize = 0;
-    while i < 261 {
+    while i < 262 {
         next = turn(next, vram, frame);
         i += 1;
     }

@@ -1,6 +1,7 @@
-// Prints what a recording does, call by call.
+// Prints what a recording does, call by call, on a fresh device: one of the chart's line table.
 ghost use mathlib.Core.Path.{_≡_};
 ghost use lib.ListN.{length};
+use vdp::VdpState;
 
 // Room for the text of any recording. The contract gives only the length: so long an array then costs its caller's check nothing.
 fn room() -> [u8; 327_700]
@@ -17,7 +18,7 @@ fn main() {
     let taken = program::input(
         b"trace",
         b"usage: trace [FILE]\n\
-            Runs the trace in FILE, or on standard input, on a fresh device, and prints a line for each call.\n\
+            Runs the trace in FILE, or on standard input, on a fresh device (262 steps to a pass; trace-261 has 261), and prints a line for each call.\n\
             A trace has at most 65,535 bytes. Its records: PW port value, PR port, LS area (docs/TRACES.md).\n\
             The last line is 'end' and the number of records; or 'bad' and the offset of a bad record; or 'long'.\n\
             The exit status is always 0: what cannot be read or written is told on standard error.\n",
@@ -27,6 +28,6 @@ fn main() {
         return;
     }
     let n = taken.len;
-    let k = recording::trace(&input[..n], &mut vram, &mut row, &mut text);
+    let k = recording::trace(VdpState::new(), &input[..n], &mut vram, &mut row, &mut text);
     program::output(b"trace", &text[..k]);
 }

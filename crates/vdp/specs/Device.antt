@@ -6,7 +6,7 @@ use mathlib.Core.Bool.{Bool, true, false}
 use lib.ListN.{replicate}
 use Rattle.raster.specs.declared.Raster.{Raster}
 use Rattle.raster.specs.declared.LineTable.{LineTable}
-use Rattle.raster.specs.declared.LineTable.the-variants.{Steps261}
+use Rattle.raster.specs.declared.LineTable.the-variants.{Steps262}
 use Rattle.laws.specs.Sizes.{cramSize}
 use Rattle.vdp.specs.declared.VdpState.{VdpState}
 use Rattle.vdp.specs.declared.WriteDest.{WriteDest}
@@ -38,9 +38,9 @@ made t =
     (record { «v_counter» = 0; «v_counter_jumped» = false; «line_interrupt_counter» = 0; «vertical_scroll» = 0; table = t })
     0 0 Chosen.None (replicate cramSize 0) Empty Empty true (replicate 32 0)
 
--- R4.8: with no table named
+-- R4.8: with no table named, that of the chart
 abbrev pub fresh : VdpState
-fresh = made Steps261
+fresh = made Steps262
 
 -- ---- the same device with another command latch, and so on
 abbrev pub withCommand : VdpState → Latch → VdpState

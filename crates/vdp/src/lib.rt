@@ -113,7 +113,7 @@ impl VdpState {
     pub fn new() -> Self
         ensures { λ r. ⌜ r ≡ fresh ⌝ }
     {
-        VdpState::with_table(LineTable::Steps261)
+        VdpState::with_table(LineTable::Steps262)
     }
 
     // The same with this table.

@@ -11,7 +11,7 @@ use Rattle.replay.proofs.replay.Statement.{statement}
 use Rattle.replay.proofs.replay.Tie as tie
 use Rattle.replay.proofs.replay.Reads as reads
 use Rattle.replay.proofs.replay.Lts as lts
-use Rattle.face.proofs.vdp_new.Reads as vdp-new-reads
+use Rattle.face.proofs.vdp_new_table.Reads as vdp-new-table-reads
 use Rattle.replay.proofs.call.Reads as call-reads
 
 abbrev Inv-loop : tie.InvT-loop
@@ -21,12 +21,12 @@ abbrev μ-loop : tie.MeasureT-loop
 μ-loop list state₀ vram₀ row₀ n i₀ state vram row i = n - i
 
 -- src/main.rt:117:5
-vdp-new-requires : tie.Need-vdp-new-requires Inv-loop μ-loop
-vdp-new-requires c κs = search needs
+vdp-new-table-requires : tie.Need-vdp-new-table-requires Inv-loop μ-loop
+vdp-new-table-requires c κs = search needs
 
 -- src/main.rt:120:5
 loop-holds : tie.Need-loop-holds Inv-loop μ-loop
-loop-holds c = (omega arith, begun (c .before .before .before .before .before .before .before .before .args .list .now) (c .before .before .before .before .before .before .before .before .args .vram .now) (c .before .before .before .before .before .before .before .before .args .row .now) (c .before .before .before .before .before .before .before .before .args .state .now) (search needs) (c .before .before .vdp-new .ensures), search needs, search needs, search needs, search needs)
+loop-holds c = (omega arith, begun (c .before .before .before .before .before .before .before .before .args .list .now) (c .before .before .before .before .before .before .before .before .args .vram .now) (c .before .before .before .before .before .before .before .before .args .row .now) (c .before .before .before .before .before .before .before .before .args .state .now) (search needs) (c .before .before .vdp-new-table .ensures), search needs, search needs, search needs, search needs)
 
 -- src/main.rt:121:24
 mul-call : tie.Need-mul-call Inv-loop μ-loop
@@ -97,7 +97,7 @@ replay-spec =
     (tie.spec
     Inv-loop
     μ-loop
-    vdp-new-requires
+    vdp-new-table-requires
     loop-holds
     mul-call
     call-requires

@@ -9,10 +9,10 @@ use Rattle.split.proofs.pass.Lts as lts
 use Rattle.split.proofs.turn.Reads as turn-reads
 
 abbrev Inv-loop : tie.InvT-loop
-Inv-loop vram₀ frame₀ next₀ i₀ vram frame next i = (i ≤ 261) × (length vram ≡ length vram₀) × (length frame ≡ length frame₀)
+Inv-loop vram₀ frame₀ next₀ i₀ vram frame next i = (i ≤ 262) × (length vram ≡ length vram₀) × (length frame ≡ length frame₀)
 
 abbrev μ-loop : tie.MeasureT-loop
-μ-loop vram₀ frame₀ next₀ i₀ vram frame next i = 261 - i
+μ-loop vram₀ frame₀ next₀ i₀ vram frame next i = 262 - i
 
 -- src/main.rt:70:5
 loop-holds : tie.Need-loop-holds Inv-loop μ-loop

@@ -14,11 +14,10 @@ use Rattle.recording.proofs.output.snapshot.Lts as lts
 use Rattle.recording.proofs.output.put_picture.Reads as put-picture-reads
 use Rattle.recording.proofs.run.frame_turn.Reads as frame-turn-reads
 use Rattle.recording.proofs.text.put_all.Reads as put-all-reads
-use Rattle.vdp.proofs.VdpState.new.Reads as new-reads
 
 abbrev Inv-loop : tie.InvT-loop
 Inv-loop input vram₀ row₀ frame₀ out run₀ i₀ vram row frame run i =
-    (i ≤ length input) × (held run vram row frame ≡ after frameTurn i input (start vram₀ row₀ frame₀))
+    (i ≤ length input) × (held run vram row frame ≡ after frameTurn i input (held run₀ vram₀ row₀ frame₀))
     × (length vram ≡ length vram₀) × (length row ≡ length row₀) × (length frame ≡ length frame₀)
 
 abbrev μ-loop : tie.MeasureT-loop
@@ -30,7 +29,7 @@ returns c =
     let a = c .before .before .before .before .before .before .args in
     let s = a .input .now in
     let o = a .out .now in
-    let w = start (a .vram .now) (a .row .now) (a .frame .now) in
+    let w = start (a .vdp) (a .vram .now) (a .row .now) (a .frame .now) in
     (snapshot-leaves w (snapshot-no-room s w o (c .if1 .taken)), lent 0 o (omega arith))
 
 -- src/output.rt:95:9
@@ -39,7 +38,7 @@ returns-2 c =
     let a = c .before .before .before .before .before .before .before .args in
     let s = a .input .now in
     let o = a .out .now in
-    let w = start (a .vram .now) (a .row .now) (a .frame .now) in
+    let w = start (a .vdp) (a .vram .now) (a .row .now) (a .frame .now) in
     (snapshot-leaves w (snapshot-no-frame s w o (c .before .if1 .left) (c .if2 .taken)), lent 0 o (omega arith))
 
 -- src/output.rt:98:32
@@ -61,35 +60,31 @@ returns-3 c =
     let a = c .before .before .before .before .before .before .before .before .before .before .before .before .before .args in
     let s = a .input .now in
     let o = a .out .now in
-    let w = start (a .vram .now) (a .row .now) (a .frame .now) in
+    let w = start (a .vdp) (a .vram .now) (a .row .now) (a .frame .now) in
     let big : 69135 ≤ length o = c .before .before .before .before .before .before .before .if1 .left in
     let p = c .before .before .put-all .ensures in
     (snapshot-leaves w (snapshot-long s w o big (c .before .before .before .before .before .before .if2 .left) (c .before .before .before .before .before .if3 .taken) (p .0) (p .1)), lent (c .before .before .put-all .result) (c .before .before .put-all .last .0) (omega (arith, p .0, c .before .before .put-all .kept .0)))
-
--- src/output.rt:101:14
-new-requires : tie.Need-new-requires Inv-loop μ-loop
-new-requires c κs = search needs
 
 -- src/output.rt:106:5
 loop-holds : tie.Need-loop-holds Inv-loop μ-loop
 unfolding after
 loop-holds c =
-    let a = c .before .before .before .before .before .before .before .before .before .args in
+    let a = c .before .before .before .before .before .before .before .before .args in
     let s = a .input .now in
     let o = a .out .now in
-    let w = start (a .vram .now) (a .row .now) (a .frame .now) in
-    (omega arith, (λ j. held (record { vdp = c .new .ensures j; at = 0; count = 0 }) (a .vram .now) (a .row .now) (a .frame .now)), refl, refl, refl)
+    let w = start (a .vdp) (a .vram .now) (a .row .now) (a .frame .now) in
+    (omega arith, (λ j. held (record { vdp = a .vdp; at = 0; count = 0 }) (a .vram .now) (a .row .now) (a .frame .now)), refl, refl, refl)
 
 -- src/output.rt:107:13
 frame-turn-requires : tie.Need-frame-turn-requires Inv-loop μ-loop
 frame-turn-requires c κs =
-    let a = c .before .before .before .before .before .before .before .before .before .before .before .before .before .before .args in
+    let a = c .before .before .before .before .before .before .before .before .before .before .before .before .before .args in
     let s = a .input .now in
     let o = a .out .now in
-    let w = start (a .vram .now) (a .row .now) (a .frame .now) in
-    let short : length s ≤ 65535 = c .before .before .before .before .before .before .if3 .left in
-    let frames : length (a .frame .now) ≡ 92160 = c .before .before .before .before .before .before .before .if2 .left in
-    let big : 69135 ≤ length o = c .before .before .before .before .before .before .before .before .if1 .left in
+    let w = start (a .vdp) (a .vram .now) (a .row .now) (a .frame .now) in
+    let short : length s ≤ 65535 = c .before .before .before .before .before .if3 .left in
+    let frames : length (a .frame .now) ≡ 92160 = c .before .before .before .before .before .before .if2 .left in
+    let big : 69135 ≤ length o = c .before .before .before .before .before .before .before .if1 .left in
     let l = c .before .before .before .before .loop in
     let e = l .inv .1 in
     let g = ran-small frame-moves (l .i) s w e refl refl in
@@ -106,13 +101,13 @@ loop-less c = search needs
 -- src/output.rt:106:5
 loop-again : tie.Need-loop-again Inv-loop μ-loop
 loop-again c =
-    let a = c .before .before .before .before .before .before .before .before .before .before .before .before .before .before .before .before .before .before .before .before .before .before .args in
+    let a = c .before .before .before .before .before .before .before .before .before .before .before .before .before .before .before .before .before .before .before .before .before .args in
     let s = a .input .now in
     let o = a .out .now in
-    let w = start (a .vram .now) (a .row .now) (a .frame .now) in
-    let short : length s ≤ 65535 = c .before .before .before .before .before .before .before .before .before .before .before .before .before .before .if3 .left in
-    let frames : length (a .frame .now) ≡ 92160 = c .before .before .before .before .before .before .before .before .before .before .before .before .before .before .before .if2 .left in
-    let big : 69135 ≤ length o = c .before .before .before .before .before .before .before .before .before .before .before .before .before .before .before .before .if1 .left in
+    let w = start (a .vdp) (a .vram .now) (a .row .now) (a .frame .now) in
+    let short : length s ≤ 65535 = c .before .before .before .before .before .before .before .before .before .before .before .before .before .if3 .left in
+    let frames : length (a .frame .now) ≡ 92160 = c .before .before .before .before .before .before .before .before .before .before .before .before .before .before .if2 .left in
+    let big : 69135 ≤ length o = c .before .before .before .before .before .before .before .before .before .before .before .before .before .before .before .if1 .left in
     let l = c .before .before .before .before .before .before .before .before .before .before .before .before .loop in
     let e = l .inv .1 in
     let g = ran-small frame-moves (l .i) s w e refl refl in
@@ -122,11 +117,11 @@ loop-again c =
 -- src/output.rt:111:5
 put-picture-requires : tie.Need-put-picture-requires Inv-loop μ-loop
 put-picture-requires c κs =
-    let a = c .before .before .before .before .before .before .before .before .before .before .before .before .before .args in
+    let a = c .before .before .before .before .before .before .before .before .before .before .before .before .args in
     let s = a .input .now in
     let o = a .out .now in
-    let w = start (a .vram .now) (a .row .now) (a .frame .now) in
-    (omega (arith, c .before .before .before .before .before .before .before .if1 .left), omega (arith, c .before .before .before .before .before .before .if2 .left, c .before .before .before .loop .inv .4))
+    let w = start (a .vdp) (a .vram .now) (a .row .now) (a .frame .now) in
+    (omega (arith, c .before .before .before .before .before .before .if1 .left), omega (arith, c .before .before .before .before .before .if2 .left, c .before .before .before .loop .inv .4))
 
 -- src/output.rt:87:1
 same-length-2 : tie.Need-same-length-2 Inv-loop μ-loop
@@ -147,13 +142,13 @@ same-length-5 c = search needs
 -- src/output.rt:87:1
 returns-4 : tie.Need-returns-4 Inv-loop μ-loop
 returns-4 c =
-    let a = c .before .before .before .before .before .before .before .before .before .before .before .before .before .before .before .before .args in
+    let a = c .before .before .before .before .before .before .before .before .before .before .before .before .before .before .before .args in
     let s = a .input .now in
     let o = a .out .now in
-    let w = start (a .vram .now) (a .row .now) (a .frame .now) in
-    let short : length s ≤ 65535 = c .before .before .before .before .before .before .before .before .if3 .left in
-    let frames : length (a .frame .now) ≡ 92160 = c .before .before .before .before .before .before .before .before .before .if2 .left in
-    let big : 69135 ≤ length o = c .before .before .before .before .before .before .before .before .before .before .if1 .left in
+    let w = start (a .vdp) (a .vram .now) (a .row .now) (a .frame .now) in
+    let short : length s ≤ 65535 = c .before .before .before .before .before .before .before .if3 .left in
+    let frames : length (a .frame .now) ≡ 92160 = c .before .before .before .before .before .before .before .before .if2 .left in
+    let big : 69135 ≤ length o = c .before .before .before .before .before .before .before .before .before .if1 .left in
     let l = c .before .before .before .before .before .before .loop in
     let f = c .before .before .put-picture in
     let all : l .i ≡ length s = omega (arith, l .inv .0, c .before .before .before .before .before .loop-test .left) in
@@ -173,7 +168,6 @@ snapshot-spec =
     put-all-requires
     same-length
     returns-3
-    new-requires
     loop-holds
     frame-turn-requires
     add-i

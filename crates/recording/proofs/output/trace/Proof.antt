@@ -18,12 +18,11 @@ use Rattle.recording.proofs.output.put_last.Reads as put-last-reads
 use Rattle.recording.proofs.run.row_turn.Reads as row-turn-reads
 use Rattle.recording.proofs.text.put_all.Reads as put-all-reads
 use Rattle.recording.proofs.text.put_answer.Reads as put-answer-reads
-use Rattle.vdp.proofs.VdpState.new.Reads as new-reads
 
 abbrev Inv-loop : tie.InvT-loop
 Inv-loop input vram₀ row₀ out₀ run₀ len₀ i₀ vram row out run len i =
-    (i ≤ length input) × (held run vram row [] ≡ after rowTurn i input (start vram₀ row₀ []))
-    × (len ≡ length (lines rowTurn i input (start vram₀ row₀ []))) × (out ≡ written out₀ 0 (lines rowTurn i input (start vram₀ row₀ [])))
+    (i ≤ length input) × (held run vram row [] ≡ after rowTurn i input (held run₀ vram₀ row₀ []))
+    × (len ≡ length (lines rowTurn i input (held run₀ vram₀ row₀ []))) × (out ≡ written out₀ 0 (lines rowTurn i input (held run₀ vram₀ row₀ [])))
     × (length vram ≡ length vram₀) × (length row ≡ length row₀) × (length out ≡ length out₀)
 
 abbrev μ-loop : tie.MeasureT-loop
@@ -35,7 +34,7 @@ returns c =
     let a = c .before .before .before .before .before .args in
     let s = a .input .now in
     let o = a .out .now in
-    let w = start (a .vram .now) (a .row .now) [] in
+    let w = start (a .vdp) (a .vram .now) (a .row .now) [] in
     (trace-leaves w (trace-no-room s w o (c .if1 .taken)), lent 0 o (omega arith))
 
 -- src/output.rt:38:32
@@ -57,34 +56,30 @@ returns-2 c =
     let a = c .before .before .before .before .before .before .before .before .before .before .before .args in
     let s = a .input .now in
     let o = a .out .now in
-    let w = start (a .vram .now) (a .row .now) [] in
+    let w = start (a .vdp) (a .vram .now) (a .row .now) [] in
     let big : 327700 ≤ length o = c .before .before .before .before .before .before .if1 .left in
     let p = c .before .before .put-all .ensures in
     (trace-leaves w (trace-long s w o big (c .before .before .before .before .before .if2 .taken) (p .0) (p .1)), lent (c .before .before .put-all .result) (c .before .before .put-all .last .0) (omega (arith, p .0, c .before .before .put-all .kept .0)))
-
--- src/output.rt:41:14
-new-requires : tie.Need-new-requires Inv-loop μ-loop
-new-requires c κs = search needs
 
 -- src/output.rt:47:5
 loop-holds : tie.Need-loop-holds Inv-loop μ-loop
 unfolding after lines
 loop-holds c =
-    let a = c .before .before .before .before .before .before .before .args in
+    let a = c .before .before .before .before .before .before .args in
     let s = a .input .now in
     let o = a .out .now in
-    let w = start (a .vram .now) (a .row .now) [] in
-    (omega arith, (λ j. held (record { vdp = c .new .ensures j; at = 0; count = 0 }) (a .vram .now) (a .row .now) []), refl, sym (written-nil o 0), refl, refl, refl)
+    let w = start (a .vdp) (a .vram .now) (a .row .now) [] in
+    (omega arith, (λ j. held (record { vdp = a .vdp; at = 0; count = 0 }) (a .vram .now) (a .row .now) []), refl, sym (written-nil o 0), refl, refl, refl)
 
 -- src/output.rt:48:13
 row-turn-requires : tie.Need-row-turn-requires Inv-loop μ-loop
 row-turn-requires c κs =
-    let a = c .before .before .before .before .before .before .before .before .before .before .before .args in
+    let a = c .before .before .before .before .before .before .before .before .before .before .args in
     let s = a .input .now in
     let o = a .out .now in
-    let w = start (a .vram .now) (a .row .now) [] in
-    let short : length s ≤ 65535 = c .before .before .before .before .before .if2 .left in
-    let big : 327700 ≤ length o = c .before .before .before .before .before .before .if1 .left in
+    let w = start (a .vdp) (a .vram .now) (a .row .now) [] in
+    let short : length s ≤ 65535 = c .before .before .before .before .if2 .left in
+    let big : 327700 ≤ length o = c .before .before .before .before .before .if1 .left in
     let l = c .before .before .before .loop in
     let e = l .inv .1 in
     let g = ran-small row-moves (l .i) s w e refl refl in
@@ -93,12 +88,12 @@ row-turn-requires c κs =
 -- src/output.rt:50:9
 put-answer-requires : tie.Need-put-answer-requires Inv-loop μ-loop
 put-answer-requires c κs =
-    let a = c .before .before .before .before .before .before .before .before .before .before .before .before .before .before .before .before .before .args in
+    let a = c .before .before .before .before .before .before .before .before .before .before .before .before .before .before .before .before .args in
     let s = a .input .now in
     let o = a .out .now in
-    let w = start (a .vram .now) (a .row .now) [] in
-    let short : length s ≤ 65535 = c .before .before .before .before .before .before .before .before .before .before .before .if2 .left in
-    let big : 327700 ≤ length o = c .before .before .before .before .before .before .before .before .before .before .before .before .if1 .left in
+    let w = start (a .vdp) (a .vram .now) (a .row .now) [] in
+    let short : length s ≤ 65535 = c .before .before .before .before .before .before .before .before .before .before .if2 .left in
+    let big : 327700 ≤ length o = c .before .before .before .before .before .before .before .before .before .before .before .if1 .left in
     let l = c .before .before .before .before .before .before .before .before .before .loop in
     let e = l .inv .1 in
     let g = ran-small row-moves (l .i) s w e refl refl in
@@ -115,12 +110,12 @@ loop-less c = search needs
 -- src/output.rt:47:5
 loop-again : tie.Need-loop-again Inv-loop μ-loop
 loop-again c =
-    let a = c .before .before .before .before .before .before .before .before .before .before .before .before .before .before .before .before .before .before .before .before .before .args in
+    let a = c .before .before .before .before .before .before .before .before .before .before .before .before .before .before .before .before .before .before .before .before .args in
     let s = a .input .now in
     let o = a .out .now in
-    let w = start (a .vram .now) (a .row .now) [] in
-    let short : length s ≤ 65535 = c .before .before .before .before .before .before .before .before .before .before .before .before .before .before .before .if2 .left in
-    let big : 327700 ≤ length o = c .before .before .before .before .before .before .before .before .before .before .before .before .before .before .before .before .if1 .left in
+    let w = start (a .vdp) (a .vram .now) (a .row .now) [] in
+    let short : length s ≤ 65535 = c .before .before .before .before .before .before .before .before .before .before .before .before .before .before .if2 .left in
+    let big : 327700 ≤ length o = c .before .before .before .before .before .before .before .before .before .before .before .before .before .before .before .if1 .left in
     let l = c .before .before .before .before .before .before .before .before .before .before .before .before .before .loop in
     let e = l .inv .1 in
     let g = ran-small row-moves (l .i) s w e refl refl in
@@ -133,12 +128,12 @@ loop-again c =
 -- src/output.rt:54:5
 put-last-requires : tie.Need-put-last-requires Inv-loop μ-loop
 put-last-requires c κs =
-    let a = c .before .before .before .before .before .before .before .before .before .before .args in
+    let a = c .before .before .before .before .before .before .before .before .before .args in
     let s = a .input .now in
     let o = a .out .now in
-    let w = start (a .vram .now) (a .row .now) [] in
-    let short : length s ≤ 65535 = c .before .before .before .before .if2 .left in
-    let big : 327700 ≤ length o = c .before .before .before .before .before .if1 .left in
+    let w = start (a .vdp) (a .vram .now) (a .row .now) [] in
+    let short : length s ≤ 65535 = c .before .before .before .if2 .left in
+    let big : 327700 ≤ length o = c .before .before .before .before .if1 .left in
     let l = c .before .before .loop in
     let e = l .inv .1 in
     let g = ran-small row-moves (l .i) s w e refl refl in
@@ -159,12 +154,12 @@ same-length-4 c = search needs
 -- src/output.rt:30:1
 returns-3 : tie.Need-returns-3 Inv-loop μ-loop
 returns-3 c =
-    let a = c .before .before .before .before .before .before .before .before .before .before .before .before .before .args in
+    let a = c .before .before .before .before .before .before .before .before .before .before .before .before .args in
     let s = a .input .now in
     let o = a .out .now in
-    let w = start (a .vram .now) (a .row .now) [] in
-    let short : length s ≤ 65535 = c .before .before .before .before .before .before .before .if2 .left in
-    let big : 327700 ≤ length o = c .before .before .before .before .before .before .before .before .if1 .left in
+    let w = start (a .vdp) (a .vram .now) (a .row .now) [] in
+    let short : length s ≤ 65535 = c .before .before .before .before .before .before .if2 .left in
+    let big : 327700 ≤ length o = c .before .before .before .before .before .before .before .if1 .left in
     let l = c .before .before .before .before .before .loop in
     let e = l .inv .1 in
     let g = ran-small row-moves (l .i) s w e refl refl in
@@ -190,7 +185,6 @@ trace-spec =
     put-all-requires
     same-length
     returns-2
-    new-requires
     loop-holds
     row-turn-requires
     put-answer-requires

@@ -1,0 +1,51 @@
+// Writes the picture that a recording draws on a fresh device of the line table with 261 steps, as a binary PPM: the twin of `snapshot`, for recordings
+// kept from before the chart.
+ghost use mathlib.Core.Path.{_≡_};
+ghost use lib.ListN.{length, replicate};
+use raster::LineTable;
+use vdp::VdpState;
+
+// A visible frame, zeroed: the contract says so, and gives its length, which the caller's check then need not compute.
+fn blank() -> [u8; 92_160]
+    ensures { λ r. ⌜ r ≡ replicate 92160 0 ⌝ }
+    ensures { λ r. ⌜ 92160 ≡ length r ⌝ }
+{
+    [0; 92_160]
+}
+
+// Room for a picture.
+fn room() -> [u8; 69_135]
+    ensures { λ r. ⌜ 69135 ≡ length r ⌝ }
+{
+    [0; 69_135]
+}
+
+fn main() {
+    let mut vram = [0u8; 16384];
+    let mut row = [0u8; 1024];
+    let mut frame = blank();
+    let mut picture = room();
+    let mut input = io::large_buffer();
+    let taken = program::input(
+        b"snapshot-261",
+        b"usage: snapshot-261 [FILE] > PICTURE.ppm\n\
+            Runs the trace in FILE, or on standard input, on a fresh device (261 steps to a pass; snapshot has 262), and writes what its visible steps drew.\n\
+            The picture is a binary PPM of 160 x 144 pixels, black where nothing was drawn; tools/ppm2png.py makes a PNG of it.\n\
+            Of a trace that is bad or too long it writes only a line, as trace does: 'bad' and an offset, or 'long'.\n\
+            The exit status is always 0: what cannot be read or written is told on standard error.\n",
+        &mut input,
+    );
+    if !taken.ready {
+        return;
+    }
+    let n = taken.len;
+    let k = recording::snapshot(
+        VdpState::with_table(LineTable::Steps261),
+        &input[..n],
+        &mut vram,
+        &mut row,
+        &mut frame,
+        &mut picture,
+    );
+    program::output(b"snapshot-261", &picture[..k]);
+}
