@@ -36,15 +36,18 @@ struct Line {
 enum Call {
     Frame,
     Row,
+    /// By frame steps with layers; the Rust tells none.
+    Layers,
 }
 
 const fn line(name: &'static str, call: Call, area: Area, list: List) -> Line {
     Line { name, call, area, list }
 }
 
-const LINES: [Line; 13] = [
+const LINES: [Line; 14] = [
     line("visible, 8 on each of 128 rows", Call::Frame, Area::Visible, List::Each(8)),
     line("the same by row steps", Call::Row, Area::Visible, List::Each(8)),
+    line("the same with layers", Call::Layers, Area::Visible, List::Each(8)),
     line("visible, 7 on each", Call::Frame, Area::Visible, List::Each(7)),
     line("visible, 6 on each", Call::Frame, Area::Visible, List::Each(6)),
     line("visible, 5 on each", Call::Frame, Area::Visible, List::Each(5)),
@@ -65,6 +68,7 @@ impl Line {
         let ours: Box<dyn Engine> = match self.call {
             Call::Frame => Box::new(engine::Frame::new(self.area, &block, &video)),
             Call::Row => Box::new(engine::Row::new(self.area, &block, &video)),
+            Call::Layers => Box::new(engine::Layers::new(self.area, &block, &video)),
         };
         (ours, Box::new(engine::Rust::new(self.area, &block, &video)))
     }

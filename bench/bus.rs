@@ -21,7 +21,7 @@ mod io {
 }
 mod workload;
 
-use rules::call::{Call, Kind};
+use rules::call::{Call, Kind, EXTRA};
 use rules::model::{Area, BLOCK_SIZE, VIDEO_SIZE};
 use rules::random::Random;
 use rules::{sessions, turns};
@@ -81,6 +81,12 @@ fn workload_named(name: &str, seed: u64) -> Option<Vec<Part>> {
                 video[SPRITES + n] = 23 + (n / 2) as u8;
             }
         })],
+        // the pass of `make bench`, with layers
+        "layers" => {
+            let plain = pass(Area::Visible, List::Each(8), seed);
+            let calls = plain.calls.iter().map(|call| call.clone().with_layers(Area::Visible.width())).collect();
+            vec![Part { calls, ..plain }]
+        }
         "dump" => {
             let (block, video) = workload::make(List::Each(8), seed);
             vec![Part { block, video, calls: vec![Call::dump()] }]
@@ -96,6 +102,7 @@ fn workload_named(name: &str, seed: u64) -> Option<Vec<Part>> {
                 }
                 if random.chance(1, 20) {
                     sessions::spoil(&mut random, &mut call);
+                    sessions::spoil_layers(&mut random, &mut call);
                 }
                 Part { block, video, calls: vec![call] }
             })
@@ -108,6 +115,9 @@ const NEW_PART: u8 = 0;
 const CALL: u8 = 1;
 const KINDS: [Kind; 7] = [Kind::New, Kind::NewTable, Kind::Out, Kind::Input, Kind::Step, Kind::RowStep, Kind::Dump];
 
+/// Stands for the length of a layer buffer where there is none.
+const NO_LAYERS: usize = u32::MAX as usize;
+
 /// The calls as bytes.
 fn write(parts: &[Part]) -> Vec<u8> {
     let mut bytes = Vec::new();
@@ -119,7 +129,7 @@ fn write(parts: &[Part]) -> Vec<u8> {
             let kind = KINDS.iter().position(|kind| *kind == call.kind).expect("a kind of call");
             bytes.extend_from_slice(&[CALL, kind as u8, call.value]);
             bytes.extend_from_slice(&call.port.to_le_bytes());
-            for length in [part.lent(call), call.video_len, call.pixels_len] {
+            for length in [part.lent(call), call.video_len, call.pixels_len, call.layers_len.unwrap_or(NO_LAYERS)] {
                 bytes.extend_from_slice(&(length as u32).to_le_bytes());
             }
         }
@@ -132,7 +142,7 @@ trait Side {
     /// Takes this device and this video memory.
     fn load(&mut self, block: &[u8], video: &[u8]);
     fn video_at(&self) -> *const u8;
-    fn call(&mut self, call: &Call, pixels: &mut [u8]);
+    fn call(&mut self, call: &Call, pixels: &mut [u8], layers: &mut [u8]);
 }
 
 /// The library. Blocks and video memories of other lengths are parts of longer ones.
@@ -149,7 +159,7 @@ impl Side for Ours {
     fn video_at(&self) -> *const u8 {
         self.video.as_ptr()
     }
-    fn call(&mut self, call: &Call, pixels: &mut [u8]) {
+    fn call(&mut self, call: &Call, pixels: &mut [u8], layers: &mut [u8]) {
         let size = call.state_len.expect("a length that was written");
         let (block, video) = (&mut self.block[..size], &mut self.video[..call.video_len]);
         match call.kind {
@@ -157,6 +167,8 @@ impl Side for Ours {
             Kind::NewTable => face::vdp_new_table(block, call.value),
             Kind::Out => face::vdp_out(block, video, call.port, call.value),
             Kind::Input => face::vdp_input(block, video, call.port),
+            Kind::Step if call.layers_len.is_some() => face::vdp_layer_step(block, video, pixels, layers, call.value),
+            Kind::RowStep if call.layers_len.is_some() => face::vdp_layer_row_step(block, video, pixels, layers, call.value),
             Kind::Step => face::vdp_step(block, video, pixels, call.value),
             Kind::RowStep => face::vdp_row_step(block, video, pixels, call.value),
             Kind::Dump => face::vdp_dump_tileset(block, video, pixels),
@@ -175,7 +187,7 @@ impl Side for Each {
     fn video_at(&self) -> *const u8 {
         self.video.as_ptr() as *const u8
     }
-    fn call(&mut self, _: &Call, _: &mut [u8]) {
+    fn call(&mut self, _: &Call, _: &mut [u8], _: &mut [u8]) {
         // a load of which nothing comes is not told of
         let mut sum = 0;
         for at in 0..VIDEO_SIZE {
@@ -202,7 +214,7 @@ impl Side for Rust {
     fn video_at(&self) -> *const u8 {
         gears::video_at(&self.vdp)
     }
-    fn call(&mut self, call: &Call, pixels: &mut [u8]) {
+    fn call(&mut self, call: &Call, pixels: &mut [u8], _: &mut [u8]) {
         let area = if call.value == 0 { gears::RenderArea::VisibleOnly } else { gears::RenderArea::EffectiveArea };
         match call.kind {
             Kind::Step => {
@@ -227,6 +239,7 @@ fn rust() -> Option<Box<dyn Side>> {
 /// Does the calls, each between two stores.
 fn run(side: &mut dyn Side, bytes: &[u8]) {
     let mut pixels = vec![0; 1 << 18];
+    let mut layers = vec![0; 256 + EXTRA];
     // addresses that nothing else ever stores to
     let [before, behind] = Box::leak(Box::new([0u64; 2]));
     let video = side.video_at() as usize;
@@ -248,11 +261,13 @@ fn run(side: &mut dyn Side, bytes: &[u8]) {
             state_len: Some(word(at + 5)),
             video_len: word(at + 9),
             pixels_len: word(at + 13),
+            layers_len: Some(word(at + 17)).filter(|len| *len != NO_LAYERS),
             poke: None,
         };
-        at += 17;
+        at += 21;
+        let layers = &mut layers[..call.layers_len.unwrap_or(0)];
         unsafe { write_volatile(before, 1) };
-        side.call(&call, &mut pixels[..call.pixels_len]);
+        side.call(&call, &mut pixels[..call.pixels_len], layers);
         unsafe { write_volatile(behind, 1) };
     }
     println!("bus: done");

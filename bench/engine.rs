@@ -79,6 +79,35 @@ impl Engine for Row {
     }
 }
 
+/// Ours by frame steps with layers, each into the same layer buffer.
+pub struct Layers {
+    plain: Frame,
+    layers: Vec<u8>,
+}
+
+impl Layers {
+    pub fn new(area: Area, block: &[u8], video: &[u8]) -> Layers {
+        Layers { plain: Frame::new(area, block, video), layers: vec![0; area.width()] }
+    }
+}
+
+impl Engine for Layers {
+    fn pass(&mut self) {
+        let Frame { area, block, video, frame } = &mut self.plain;
+        for _ in 0..STEPS {
+            face::vdp_layer_step(block, video, frame, &mut self.layers, *area as u8);
+        }
+    }
+    fn drawn(&mut self) -> Vec<u8> {
+        self.plain.frame.fill(0);
+        self.pass();
+        self.plain.frame.clone()
+    }
+    fn state(&self) -> Vec<u8> {
+        self.plain.state()
+    }
+}
+
 /// The published Rust, by its only step.
 pub struct Rust {
     area: Area,

@@ -175,6 +175,53 @@ static void authors_question(void)
     check(old_rows == 67 && new_rows == 77, "rows 0 to 66 are old, rows 67 to 143 are new");
 }
 
+/* The layers of row 0: sprite 0 in front of a plain tile, sprite 1 behind a tile of priority, and sprite 2 half behind it. */
+static void layers_of_a_row(void)
+{
+    uint8_t layers[VDP_VISIBLE_LAYERS_SIZE + 1], row[VDP_VISIBLE_ROW_SIZE];
+    unsigned right = 0;
+    uint32_t answer;
+
+    set_up();
+    framed_tile(1, 1, 1);
+    framed_tile(2, 3, 3);
+    set_colour(1, 2, 4, 8);   /* background */
+    set_colour(19, 15, 3, 3); /* sprites */
+    /* columns 16 to 23 of row 0 are those of name 8 of the map's row 3; its priority bit */
+    at_video(0x3800 + 64 * 3 + 2 * 8 + 1);
+    out(VDP_PORT_DATA, 0x10);
+    at_video(0x3F00);
+    for (unsigned n = 0; n < 3; n++)
+        out(VDP_PORT_DATA, 23);
+    out(VDP_PORT_DATA, 0xD0);
+    at_video(0x3F80);
+    for (unsigned n = 0; n < 3; n++) {
+        out(VDP_PORT_DATA, (uint8_t)(48 + (n == 0 ? 0 : n == 1 ? 16 : 20)));
+        out(VDP_PORT_DATA, 2);
+    }
+    memset(layers, 0xEE, sizeof layers);
+    memset(frame, 0, sizeof frame);
+    do
+        answer = vdp_layer_step(state, sizeof state, vram, sizeof vram, frame, sizeof frame, layers, sizeof layers, VDP_VISIBLE);
+    while (vdp_refusal(answer) == VDP_OK && !vdp_drawn(answer) && layers[0] == 0xEE);
+    check(vdp_drawn(answer) && vdp_row(answer) == 0, "a step with layers: row 0 is drawn, and no layer is told before");
+    for (unsigned x = 0; x < VDP_VISIBLE_WIDTH; x++) {
+        unsigned layer = x < 8               ? VDP_LAYER_SPRITE + 0
+                         : x >= 16 && x < 24 ? VDP_LAYER_HELD_BACK
+                         : x >= 24 && x < 28 ? VDP_LAYER_SPRITE + 2
+                                             : VDP_LAYER_BACKGROUND;
+        int sprite = layer >= VDP_LAYER_SPRITE;
+        right += layers[x] == layer && pixel_is(x, 0, sprite ? 15 : 2, sprite ? 3 : 4, sprite ? 3 : 8);
+    }
+    check(right == VDP_VISIBLE_WIDTH && layers[VDP_VISIBLE_WIDTH] == 0xEE, "each column's layer: drawn, held back, background");
+    check(vdp_layer_row_step(state, sizeof state, vram, sizeof vram, row, sizeof row, layers, VDP_VISIBLE_LAYERS_SIZE - 1, VDP_VISIBLE)
+              == VDP_REFUSED_LAYERS_LENGTH,
+          "a short layer buffer is refused (16)");
+    answer = vdp_layer_row_step(state, sizeof state, vram, sizeof vram, row, sizeof row, layers, VDP_VISIBLE_LAYERS_SIZE, VDP_VISIBLE);
+    check(vdp_row(answer) == 1 && layers[16] == VDP_LAYER_HELD_BACK && layers[27] == VDP_LAYER_SPRITE + 2 && row[4 * 27] == 17 * 15,
+          "the same by a row step");
+}
+
 /* The lines that the counter reads in a pass of this many steps, from line 0 on: are they those of the table? */
 static int pass_is(unsigned steps, unsigned last_before_the_jump)
 {
@@ -248,6 +295,7 @@ int main(int count, char **words)
     if (count > 1)
         check(write_picture(words[1]), "the frame is written as a picture");
     authors_question();
+    layers_of_a_row();
     tables();
     refusals();
     printf("frame: %s\n", mistakes ? "mistakes were found" : "all as it should be");

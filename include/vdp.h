@@ -3,7 +3,7 @@
  * The library keeps nothing of its own. The caller owns and lends
  *   - the state block: 220 bytes, or 219 of the first version: the whole device but its video memory (layout below);
  *   - the video memory: exactly 16,384 bytes;
- *   - a frame, a row or a tile sheet that a call draws into; the codes of a tile.
+ *   - a frame, a row or a tile sheet that a call draws into; the layers of a row; the codes of a tile.
  * A lent buffer is a pointer and a length in bytes. The buffers of one call must not overlap, and each must be
  * readable (and writable, where it is not const) over its whole length. A buffer of length 0 may have any pointer.
  *
@@ -41,14 +41,14 @@ extern "C" {
 /* The number of this face, 65536 * major + 256 * minor + small; vdp_version() gives that of the library at hand. Major goes
  * up where a program that was right may have to change, minor where calls are added, small where neither is so. */
 #define VDP_VERSION_MAJOR 4
-#define VDP_VERSION_MINOR 0
+#define VDP_VERSION_MINOR 1
 #define VDP_VERSION_SMALL 0
 #define VDP_VERSION (65536 * VDP_VERSION_MAJOR + 256 * VDP_VERSION_MINOR + VDP_VERSION_SMALL)
 
 /* Stack in bytes: the deepest that was measured (tests/stack.c) is about 2,100, on x86-64 and on Arm. */
 #define VDP_STACK_NEED 4096
 
-/* Sizes in bytes. A row may be longer (the bytes past its size never change); all others are exact. */
+/* Sizes in bytes. A row and its layers may be longer (the bytes past their size never change); all others are exact. */
 #define VDP_STATE_SIZE           220    /* a state block of the second version */
 #define VDP_OLD_STATE_SIZE       219    /* of the first, which holds a device of VDP_OLD_TABLE alone */
 #define VDP_VRAM_SIZE            16384
@@ -56,6 +56,8 @@ extern "C" {
 #define VDP_EFFECTIVE_FRAME_SIZE 229376 /* 256 x 224 pixels of 4 bytes */
 #define VDP_VISIBLE_ROW_SIZE     640
 #define VDP_EFFECTIVE_ROW_SIZE   1024
+#define VDP_VISIBLE_LAYERS_SIZE  160    /* a byte for each pixel of a row */
+#define VDP_EFFECTIVE_LAYERS_SIZE 256
 #define VDP_TILESET_SIZE         131072 /* 128 x 256 pixels of 4 bytes: 512 tiles, 16 across */
 #define VDP_TILE_CODES           64     /* the codes of a tile, 0 to 15, row by row */
 
@@ -88,6 +90,11 @@ extern "C" {
 #define VDP_PORT_DATA    0xBE /* read, write: the chosen memory */
 #define VDP_PORT_COMMAND 0xBF /* write: command bytes; read: the status, which clears it */
 
+/* Layers: which of them owns a pixel of the row. Where sprite n, 0 to 63, was the last one drawn it is VDP_LAYER_SPRITE + n. */
+#define VDP_LAYER_BACKGROUND 0  /* the background, and no sprite was held back behind it */
+#define VDP_LAYER_HELD_BACK  1  /* the background, whose priority held back a pixel of one sprite or more; none was drawn */
+#define VDP_LAYER_SPRITE     64
+
 /* Refusals. "Unchanged" means every byte of every buffer; "latch empty" means that only the command latch is emptied. */
 #define VDP_OK                    0  /* accepted */
 #define VDP_REFUSED_PORT          1  /* the port is unknown: unchanged */
@@ -105,6 +112,7 @@ extern "C" {
 #define VDP_REFUSED_TILE          13 /* tile number above 511: unchanged */
 #define VDP_REFUSED_CODES_LENGTH  14 /* codes not exactly VDP_TILE_CODES bytes: unchanged */
 #define VDP_REFUSED_CODE          15 /* a code above 15: unchanged */
+#define VDP_REFUSED_LAYERS_LENGTH 16 /* layer buffer with fewer bytes than a row of the area has pixels: unchanged */
 
 /* Display reports of a step. */
 #define VDP_NO_DISPLAY             0
@@ -154,6 +162,16 @@ uint32_t vdp_step(uint8_t *state, size_t state_len, const uint8_t *vram, size_t 
 /* The same step, with the row drawn at the start of a row buffer. Refusals, in this order: 10, 11, 8, 9. */
 uint32_t vdp_row_step(uint8_t *state, size_t state_len, const uint8_t *vram, size_t vram_len, uint8_t *row,
                       size_t row_len, uint8_t area);
+
+/* The step on a frame, with the layers of its row, if it draws one, at the start of the layer buffer: VDP_VISIBLE_LAYERS_SIZE or
+ * VDP_EFFECTIVE_LAYERS_SIZE bytes of it. The bytes past them never change, and with no row drawn none does. All else is as vdp_step has it:
+ * answer, state and frame. Refusals, in this order: 10, 11, 8, 9, 12, 16. */
+uint32_t vdp_layer_step(uint8_t *state, size_t state_len, const uint8_t *vram, size_t vram_len, uint8_t *frame,
+                        size_t frame_len, uint8_t *layers, size_t layers_len, uint8_t area);
+
+/* The same of the step on a row buffer, as vdp_row_step has it. Refusals, in this order: 10, 11, 8, 9, 16. */
+uint32_t vdp_layer_row_step(uint8_t *state, size_t state_len, const uint8_t *vram, size_t vram_len, uint8_t *row,
+                            size_t row_len, uint8_t *layers, size_t layers_len, uint8_t area);
 
 /* Draws tiles 0 to 255 as background, then the same numbers as sprites, with the cached colours as they stand.
  * A sprite pixel of code 0 leaves the sheet's bytes. Refusals, in this order: 10, 8, 9. */

@@ -31,6 +31,8 @@ pub struct Call {
     pub video_len: usize,
     /// The length of the frame, row or sheet.
     pub pixels_len: usize,
+    /// The length of the layer buffer; none is a step without layers.
+    pub layers_len: Option<usize>,
     /// A byte of the block that is set just before the call.
     pub poke: Option<(usize, u8)>,
 }
@@ -38,7 +40,7 @@ pub struct Call {
 impl Call {
     /// A call with right lengths, and no pixels.
     pub fn plain(kind: Kind, port: u16, value: u8) -> Call {
-        Call { kind, port, value, state_len: None, video_len: VIDEO_SIZE, pixels_len: 0, poke: None }
+        Call { kind, port, value, state_len: None, video_len: VIDEO_SIZE, pixels_len: 0, layers_len: None, poke: None }
     }
     pub fn out(port: u16, value: u8) -> Call {
         Call::plain(Kind::Out, port, value)
@@ -52,21 +54,29 @@ impl Call {
     pub fn row_step(area: Area, extra: usize) -> Call {
         Call { pixels_len: area.row_size() + extra, ..Call::plain(Kind::RowStep, 0, area as u8) }
     }
+    /// The same step with layers, in a buffer of this many bytes.
+    pub fn with_layers(self, layers_len: usize) -> Call {
+        Call { layers_len: Some(layers_len), ..self }
+    }
     pub fn dump() -> Call {
         Call { pixels_len: SHEET_SIZE, ..Call::plain(Kind::Dump, 0, 0) }
     }
     /// The kind and area by name, for the counts.
     pub fn name(&self) -> &'static str {
-        match (self.kind, self.value) {
-            (Kind::New, _) => "new",
-            (Kind::NewTable, _) => "new with a table",
-            (Kind::Out, _) => "port writes",
-            (Kind::Input, _) => "port reads",
-            (Kind::Step, 0) => "visible steps",
-            (Kind::Step, 1) => "effective steps",
-            (Kind::RowStep, 0) => "visible row steps",
-            (Kind::RowStep, 1) => "effective row steps",
-            (Kind::Dump, _) => "dumps",
+        match (self.kind, self.value, self.layers_len.is_some()) {
+            (Kind::New, _, _) => "new",
+            (Kind::NewTable, _, _) => "new with a table",
+            (Kind::Out, _, _) => "port writes",
+            (Kind::Input, _, _) => "port reads",
+            (Kind::Step, 0, false) => "visible steps",
+            (Kind::Step, 1, false) => "effective steps",
+            (Kind::RowStep, 0, false) => "visible row steps",
+            (Kind::RowStep, 1, false) => "effective row steps",
+            (Kind::Step, 0, true) => "visible steps with layers",
+            (Kind::Step, 1, true) => "effective steps with layers",
+            (Kind::RowStep, 0, true) => "visible row steps with layers",
+            (Kind::RowStep, 1, true) => "effective row steps with layers",
+            (Kind::Dump, _, _) => "dumps",
             _ => "steps of no area",
         }
     }

@@ -27,6 +27,9 @@ use std::collections::BTreeMap;
 use std::time::{Duration, Instant};
 use world::{Met, Ours, World};
 
+/// What these calls can answer: 13 to 15 are of the calls on tiles (tiles.rs).
+const ANSWERS: [usize; 14] = [0, 1, 2, 3, 4, 5, 6, 7, 8, 9, 10, 11, 12, 16];
+
 /// What was met in a run.
 #[derive(Default)]
 pub struct Counts {
@@ -34,9 +37,9 @@ pub struct Counts {
     beside_rust: u64,
     kinds: BTreeMap<&'static str, u64>,
     /// By number, 0 where the call was accepted.
-    refusals: [u64; 13],
+    refusals: [u64; 17],
     rows: [u64; 2],
-    /// Departures from the Rust, and what was met of tables and versions, by name.
+    /// Departures from the Rust, and what was met of tables, versions and layers, by name.
     met: BTreeMap<&'static str, u64>,
     told: Option<Instant>,
 }
@@ -50,7 +53,7 @@ impl Counts {
         if met.word >> 24 == 1 {
             self.rows[call.value as usize] += 1;
         }
-        for name in met.departure.iter().chain(&met.tables) {
+        for name in met.departure.iter().chain(&met.tables).chain(&met.layers) {
             *self.met.entry(name).or_insert(0) += 1;
         }
     }
@@ -74,10 +77,10 @@ impl Counts {
         }
         println!("{:>10}  visible rows drawn", self.rows[0]);
         println!("{:>10}  effective rows drawn", self.rows[1]);
-        for (number, count) in self.refusals.iter().enumerate() {
-            println!("{:>10}  answered {}", count, number);
+        for number in ANSWERS {
+            println!("{:>10}  answered {}", self.refusals[number], number);
         }
-        for name in world::TABLES {
+        for name in world::TABLES.iter().chain(&world::LAYERS) {
             println!("{:>10}  {}", self.met.get(name).unwrap_or(&0), name);
         }
         println!("{:>10}  calls also beside the Rust", self.beside_rust);
@@ -89,12 +92,12 @@ impl Counts {
     /// What a long run must have met and this one has not.
     fn unmet(&self) -> Vec<String> {
         let mut unmet = Vec::new();
-        for (number, count) in self.refusals.iter().enumerate() {
-            if *count == 0 {
+        for number in ANSWERS {
+            if self.refusals[number] == 0 {
                 unmet.push(format!("answer {}", number));
             }
         }
-        for name in world::DEPARTURES.iter().chain(&world::TABLES) {
+        for name in world::DEPARTURES.iter().chain(&world::TABLES).chain(&world::LAYERS) {
             if !self.met.contains_key(name) {
                 unmet.push(name.to_string());
             }
@@ -103,7 +106,7 @@ impl Counts {
     }
 }
 
-/// A run of this many calls or more must meet every refusal, every departure, and all that there is of tables and versions.
+/// A run of this many calls or more must meet every refusal, every departure, and all that there is of tables, versions and layers.
 const LONG_RUN: u64 = 100_000;
 
 /// Random sessions; answers the number of differences (it stops at the first).
@@ -166,8 +169,12 @@ fn hand_session(world: &mut World, counts: &mut Counts, left: u64, random: &mut 
     let mut done = Vec::new();
     for _ in 0..left.min(1 + random.below(6) as u64) {
         let mut call = rules::sessions::any_call(random);
-        if random.chance(1, 25) {
+        let spoiled = random.chance(1, 25);
+        if spoiled {
             rules::sessions::spoil(random, &mut call);
+        }
+        if random.chance(1, if spoiled { 2 } else { 25 }) {
+            rules::sessions::spoil_layers(random, &mut call);
         }
         done.push(call.clone());
         match world.call(&call) {

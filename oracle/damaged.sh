@@ -41,6 +41,9 @@ damage "a block of the first version has table 1 and not 0" block::table_byte 's
 damage "the list of sprites ends at D1 and not at D0" sprites::next_on 's/(icmp eq i8 %[ar][0-9]+), -48$/\1, -47/'
 damage "status bit 7 is set at C2 and not at C1" step::ended 's/(icmp eq i8 %[ar][0-9]+), -63$/\1, -62/'
 damage "the screen's end is reported at C2 and not at C1" step::report_of 's/(icmp ne i8 %[ar][0-9]+), -63$/\1, -62/'
+damage "a sprite's layer is 65 + n and not 64 + n" tile::owner_of 's/(add nuw i64) 64,/\1 65,/'
+damage "a pixel that is held back takes its column from a sprite that was drawn there" tile::owner_of 's/icmp eq i8 (%[ar][0-9]+), 0$/icmp ne i8 \1, 1/'
+damage "159 bytes are enough for the layers of a visible row" step::column_count 's/store i64 160,/store i64 159,/'
 
 [ $failed -eq 0 ] && echo "damaged: every damaged copy was caught" || echo "damaged: FAILED"
 exit $failed

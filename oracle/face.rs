@@ -12,6 +12,14 @@ mod raw {
         pub fn vdp_row_step(
             state: *mut u8, state_len: usize, vram: *const u8, vram_len: usize, row: *mut u8, row_len: usize, area: u8,
         ) -> u32;
+        pub fn vdp_layer_step(
+            state: *mut u8, state_len: usize, vram: *const u8, vram_len: usize, frame: *mut u8, frame_len: usize, layers: *mut u8,
+            layers_len: usize, area: u8,
+        ) -> u32;
+        pub fn vdp_layer_row_step(
+            state: *mut u8, state_len: usize, vram: *const u8, vram_len: usize, row: *mut u8, row_len: usize, layers: *mut u8,
+            layers_len: usize, area: u8,
+        ) -> u32;
         pub fn vdp_dump_tileset(
             state: *const u8, state_len: usize, vram: *const u8, vram_len: usize, pixels: *mut u8, pixels_len: usize,
         ) -> u32;
@@ -42,6 +50,20 @@ pub fn vdp_step(state: &mut [u8], vram: &[u8], frame: &mut [u8], area: u8) -> u3
 
 pub fn vdp_row_step(state: &mut [u8], vram: &[u8], row: &mut [u8], area: u8) -> u32 {
     unsafe { raw::vdp_row_step(state.as_mut_ptr(), state.len(), vram.as_ptr(), vram.len(), row.as_mut_ptr(), row.len(), area) }
+}
+
+pub fn vdp_layer_step(state: &mut [u8], vram: &[u8], frame: &mut [u8], layers: &mut [u8], area: u8) -> u32 {
+    let (at, len) = (layers.as_mut_ptr(), layers.len());
+    unsafe {
+        raw::vdp_layer_step(state.as_mut_ptr(), state.len(), vram.as_ptr(), vram.len(), frame.as_mut_ptr(), frame.len(), at, len, area)
+    }
+}
+
+pub fn vdp_layer_row_step(state: &mut [u8], vram: &[u8], row: &mut [u8], layers: &mut [u8], area: u8) -> u32 {
+    let (at, len) = (layers.as_mut_ptr(), layers.len());
+    unsafe {
+        raw::vdp_layer_row_step(state.as_mut_ptr(), state.len(), vram.as_ptr(), vram.len(), row.as_mut_ptr(), row.len(), at, len, area)
+    }
 }
 
 pub fn vdp_dump_tileset(state: &[u8], vram: &[u8], pixels: &mut [u8]) -> u32 {

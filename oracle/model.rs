@@ -137,6 +137,25 @@ pub struct Notes {
     pub stray: Vec<usize>,
     /// A sprite pixel of any fate stood past that edge.
     pub past_edge: bool,
+    /// What was met of layers (R15.1, R15.2).
+    pub owners: Owners,
+}
+
+/// Columns of a drawn row that are nobody's alone.
+#[derive(Clone, Default, Debug)]
+pub struct Owners {
+    /// One where a sprite was held back and a later one was drawn.
+    pub held_then_drawn: bool,
+    /// One where a sprite was drawn and a later one held back.
+    pub drawn_then_held: bool,
+    /// One where a sprite was drawn and a later one drawn over it.
+    pub drawn_twice: bool,
+    /// A pixel was held back that would have met another sprite.
+    pub held_where_met: bool,
+    /// A pixel was held back that stands off the row.
+    pub held_off_the_row: bool,
+    /// A pixel was held back that is tested at another place than its column.
+    pub tested_elsewhere: bool,
 }
 
 impl Device {
@@ -316,12 +335,24 @@ impl Device {
 
     /// The row step (R7.1): the row, if there is one, goes to the start of the row buffer. `Err` is the refusal.
     pub fn row_step(&mut self, video: &[u8], row: &mut [u8], area: Area, notes: &mut Notes) -> Result<Stepped, u32> {
-        if video.len() != VIDEO_SIZE {
-            return Err(8);
-        }
-        if row.len() < area.row_size() {
-            return Err(9);
-        }
+        row_lengths(video, row, area)?;
+        Ok(self.step_into(video, row, area, notes).0)
+    }
+
+    /// The row step with layers (R15.3, R15.4): those of the row, if there is one, go to the start of the layer buffer.
+    pub fn layer_row_step(
+        &mut self, video: &[u8], row: &mut [u8], layers: &mut [u8], area: Area, notes: &mut Notes,
+    ) -> Result<Stepped, u32> {
+        row_lengths(video, row, area)?;
+        layers_length(layers, area)?;
+        let (stepped, owners) = self.step_into(video, row, area, notes);
+        layers[..owners.len()].copy_from_slice(&owners);
+        Ok(stepped)
+    }
+
+    /// A step whose buffers are long enough: what it answers, and the layers of the row's columns, none where no row is drawn.
+    fn step_into(&mut self, video: &[u8], row: &mut [u8], area: Area, notes: &mut Notes) -> (Stepped, Vec<u8>) {
+        let mut owners = Vec::new();
         self.count_up();
         let drawn = area.row_at(self.counter);
         if let Some(number) = drawn {
@@ -334,34 +365,43 @@ impl Device {
             for x in 0..area.width() {
                 row[4 * x..4 * x + 4].copy_from_slice(&self.cache[picture.colour[x] as usize]);
             }
+            owners.extend_from_slice(&picture.layer[..area.width()]);
         }
         let (interrupt, report) = self.report();
-        Ok(Stepped { interrupt, report, row: drawn })
+        (Stepped { interrupt, report, row: drawn }, owners)
     }
 
     /// The frame step (R7.2): the row goes to its place in the frame.
     pub fn frame_step(&mut self, video: &[u8], frame: &mut [u8], area: Area, notes: &mut Notes) -> Result<Stepped, u32> {
-        if video.len() != VIDEO_SIZE {
-            return Err(8);
-        }
-        if frame.len() < area.frame_size() {
-            return Err(9);
-        }
-        if frame.len() > area.frame_size() {
-            return Err(12);
-        }
+        frame_lengths(video, frame, area)?;
+        Ok(self.step_in_frame(video, frame, area, notes).0)
+    }
+
+    /// The frame step with layers (R15.3, R15.4).
+    pub fn layer_frame_step(
+        &mut self, video: &[u8], frame: &mut [u8], layers: &mut [u8], area: Area, notes: &mut Notes,
+    ) -> Result<Stepped, u32> {
+        frame_lengths(video, frame, area)?;
+        layers_length(layers, area)?;
+        let (stepped, owners) = self.step_in_frame(video, frame, area, notes);
+        layers[..owners.len()].copy_from_slice(&owners);
+        Ok(stepped)
+    }
+
+    /// As `step_into`, with the row at its place in a frame of its area's size.
+    fn step_in_frame(&mut self, video: &[u8], frame: &mut [u8], area: Area, notes: &mut Notes) -> (Stepped, Vec<u8>) {
         let mut row = [0; 1024];
-        let stepped = self.row_step(video, &mut row, area, notes)?;
+        let (stepped, owners) = self.step_into(video, &mut row, area, notes);
         if let Some(number) = stepped.row {
             let at = number * area.row_size();
             frame[at..at + area.row_size()].copy_from_slice(&row[..area.row_size()]);
         }
-        Ok(stepped)
+        (stepped, owners)
     }
 
-    /// The colour numbers of one row, and the status after it (R5.1 to R5.12).
+    /// The colour numbers of one row, the status after it (R5.1 to R5.12), and who owns its columns (R15.1, R15.2).
     fn picture(&self, video: &[u8], area: Area, row: usize, notes: &mut Notes) -> Picture {
-        let mut picture = Picture { colour: [0; 256], status: self.status };
+        let mut picture = Picture { colour: [0; 256], layer: [0; 256], status: self.status };
         let mut priority = [false; 256];
         self.background(video, area, row, &mut picture, &mut priority);
         self.sprites(video, area, row, &mut picture, &priority, notes);
@@ -451,16 +491,31 @@ impl Device {
                 if shown > 255 {
                     notes.past_edge = true;
                 }
-                if priority[(stand.x + 256 - stand.start + column) % 256] {
+                let tested = (stand.x + 256 - stand.start + column) % 256;
+                let place = (x_byte + column) % 256;
+                let owners = &mut notes.owners;
+                if priority[tested] {
+                    // Of the column where it would have shown, whatever the sprite mask has; a sprite that was drawn there keeps it.
+                    owners.tested_elsewhere |= tested != shown;
+                    owners.held_where_met |= mask[place];
+                    if shown >= area.width() {
+                        owners.held_off_the_row = true;
+                    } else if picture.layer[shown] == 0 {
+                        picture.layer[shown] = 1;
+                    } else if picture.layer[shown] != 1 {
+                        owners.drawn_then_held = true;
+                    }
                     continue;
                 }
-                let place = (x_byte + column) % 256;
                 if mask[place] {
                     picture.status |= 0x20;
                 } else if shown > 255 {
                     notes.stray.push(shown - 256);
                 } else {
+                    owners.held_then_drawn |= picture.layer[shown] == 1;
+                    owners.drawn_twice |= picture.layer[shown] > 1;
                     picture.colour[shown] = 16 + code_at(pixel);
+                    picture.layer[shown] = 64 + n as u8;
                 }
                 marks.push(place);
             }
@@ -585,7 +640,41 @@ impl Device {
 
 struct Picture {
     colour: [u8; 256],
+    layer: [u8; 256],
     status: u8,
+}
+
+/// The refusals of a row step by its lengths (R7.1).
+fn row_lengths(video: &[u8], row: &[u8], area: Area) -> Result<(), u32> {
+    if video.len() != VIDEO_SIZE {
+        Err(8)
+    } else if row.len() < area.row_size() {
+        Err(9)
+    } else {
+        Ok(())
+    }
+}
+
+/// Of a frame step (R7.2).
+fn frame_lengths(video: &[u8], frame: &[u8], area: Area) -> Result<(), u32> {
+    if video.len() != VIDEO_SIZE {
+        Err(8)
+    } else if frame.len() < area.frame_size() {
+        Err(9)
+    } else if frame.len() > area.frame_size() {
+        Err(12)
+    } else {
+        Ok(())
+    }
+}
+
+/// And what comes last in a step with layers (R15.4).
+fn layers_length(layers: &[u8], area: Area) -> Result<(), u32> {
+    if layers.len() < area.width() {
+        Err(16)
+    } else {
+        Ok(())
+    }
 }
 
 struct Stand {
@@ -722,6 +811,14 @@ pub fn vdp_step(state: &mut [u8], video: &[u8], frame: &mut [u8], area: u8, note
 
 pub fn vdp_row_step(state: &mut [u8], video: &[u8], row: &mut [u8], area: u8, notes: &mut Notes) -> u32 {
     stepped(state, area, |device, area| device.row_step(video, row, area, notes))
+}
+
+pub fn vdp_layer_step(state: &mut [u8], video: &[u8], frame: &mut [u8], layers: &mut [u8], area: u8, notes: &mut Notes) -> u32 {
+    stepped(state, area, |device, area| device.layer_frame_step(video, frame, layers, area, notes))
+}
+
+pub fn vdp_layer_row_step(state: &mut [u8], video: &[u8], row: &mut [u8], layers: &mut [u8], area: u8, notes: &mut Notes) -> u32 {
+    stepped(state, area, |device, area| device.layer_row_step(video, row, layers, area, notes))
 }
 
 pub fn vdp_dump_tileset(state: &[u8], video: &[u8], sheet: &mut [u8]) -> u32 {

@@ -1,6 +1,6 @@
-//! What the programs `trace` and `snapshot` write for an input (R7.8 to R7.13), by the model.
+//! What the programs `trace`, `snapshot` and `layers` write for an input (R7.8 to R7.13, R15.5), by the model.
 
-use crate::model::{Area, Device, Notes, Table, VIDEO_SIZE};
+use crate::model::{Area, Device, Notes, Stepped, Table, VIDEO_SIZE};
 
 /// The longest input that the programs read.
 pub const LIMIT: usize = 65_535;
@@ -29,13 +29,16 @@ struct Run {
     device: Device,
     video: Vec<u8>,
     row: [u8; 1024],
+    /// The picture of the layers, three bytes a pixel.
+    owners: Vec<u8>,
     text: String,
     records: usize,
 }
 
 impl Run {
     fn new(table: Table) -> Run {
-        Run { device: Device::made(table), video: vec![0; VIDEO_SIZE], row: [0; 1024], text: String::new(), records: 0 }
+        let owners = vec![0; 3 * Area::Visible.width() * Area::Visible.height()];
+        Run { device: Device::made(table), video: vec![0; VIDEO_SIZE], row: [0; 1024], owners, text: String::new(), records: 0 }
     }
 
     /// One record; a visible step draws in the frame where there is one.
@@ -51,7 +54,15 @@ impl Run {
             Record::Step { area } => {
                 let mut notes = Notes::default();
                 let stepped = match (area, frame) {
-                    (Area::Visible, Some(frame)) => self.device.frame_step(&self.video, frame, area, &mut notes),
+                    (Area::Visible, Some(frame)) => {
+                        let mut layers = [0; 160];
+                        let stepped = self.device.layer_frame_step(&self.video, frame, &mut layers, area, &mut notes);
+                        if let Ok(Stepped { row: Some(row), .. }) = stepped {
+                            let pixels = layers.iter().flat_map(|layer| layer_colour(*layer));
+                            self.owners.splice(3 * 160 * row..3 * 160 * (row + 1), pixels);
+                        }
+                        stepped
+                    }
                     _ => self.device.row_step(&self.video, &mut self.row, area, &mut notes),
                 };
                 match stepped {
@@ -94,18 +105,36 @@ pub fn trace_text(table: Table, input: &[u8]) -> Vec<u8> {
     run.text.into_bytes()
 }
 
-/// The bytes that `snapshot` writes: a PPM picture of the visible frame, or the one line of a bad or long input.
-pub fn snapshot_bytes(table: Table, input: &[u8]) -> Vec<u8> {
+/// The colour of a layer in the picture of the layers: the background, one that is held back, sprite n.
+fn layer_colour(layer: u8) -> [u8; 3] {
+    match layer {
+        0 => [32, 32, 32],
+        1 => [255, 0, 255],
+        _ => [4 * (layer - 64), 255 - 4 * (layer - 64), 128],
+    }
+}
+
+/// A PPM picture of 160 x 144 pixels, three bytes each, of an input run on a device of this table; or the one line of a bad or long input.
+fn picture(table: Table, input: &[u8], pixels: impl FnOnce(Run, Vec<u8>) -> Vec<u8>) -> Vec<u8> {
     if input.len() > LIMIT {
         return b"long\n".to_vec();
     }
+    let mut run = Run::new(table);
     let mut frame = vec![0; Area::Visible.frame_size()];
-    if let Some(at) = Run::new(table).all(input, Some(&mut frame)) {
+    if let Some(at) = run.all(input, Some(&mut frame)) {
         return format!("bad {}\n", at).into_bytes();
     }
     let mut bytes = b"P6\n160 144\n255\n".to_vec();
-    for pixel in frame.chunks(4) {
-        bytes.extend_from_slice(&pixel[..3]);
-    }
+    bytes.extend_from_slice(&pixels(run, frame));
     bytes
+}
+
+/// The bytes that `snapshot` writes: the picture of the visible frame.
+pub fn snapshot_bytes(table: Table, input: &[u8]) -> Vec<u8> {
+    picture(table, input, |_, frame| frame.chunks(4).flat_map(|pixel| pixel[..3].to_vec()).collect())
+}
+
+/// The bytes that `layers` writes: the same with each pixel in the colour of the layer that owns it, black where no step has drawn.
+pub fn layers_bytes(table: Table, input: &[u8]) -> Vec<u8> {
+    picture(table, input, |run, _| run.owners)
 }

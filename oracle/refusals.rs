@@ -1,10 +1,10 @@
-//! Every length near a right one, every area, every table, every value of each byte that a block can be malformed by, and all of these at once
+//! Every length near a right one, of layers too, every area, every table, every value of each byte that a block can be malformed by, and all of these at once
 //! in each order, on blocks of both versions and both tables: refused or accepted as the model says, with every byte in place.
 
 use crate::shrink::{self, Start};
 use crate::world::{Ours, World};
 use crate::Counts;
-use rules::call::{Call, Kind, VERY_LONG};
+use rules::call::{Call, Kind, EXTRA, VERY_LONG};
 use rules::model::{Area, BLOCK_SIZE, OLD_SIZE, SHEET_SIZE, VIDEO_SIZE};
 use rules::random::Random;
 use rules::sessions::{made_by_hand, SHAPES};
@@ -22,6 +22,8 @@ fn right_calls() -> Vec<Call> {
     for area in [Area::Visible, Area::Effective] {
         calls.push(Call::step(area));
         calls.push(Call::row_step(area, 0));
+        calls.push(Call::step(area).with_layers(area.width()));
+        calls.push(Call::row_step(area, 0).with_layers(area.width()));
     }
     calls
 }
@@ -65,6 +67,17 @@ fn spoiled_calls() -> Vec<Call> {
                 }
             }
         }
+        if let Some(right_len) = right.layers_len {
+            for layers_len in (0..300).chain([1024, 256 + EXTRA]) {
+                calls.push(Call { layers_len: Some(layers_len), ..right.clone() });
+            }
+            // at each line, those that draw nothing too
+            for layers_len in [0, right_len - 1, right_len, right_len + 1] {
+                for line in 0..=255 {
+                    calls.push(Call { layers_len: Some(layers_len), poke: Some((14, line)), ..right.clone() });
+                }
+            }
+        }
         if steps {
             for area in 2..=255 {
                 // a buffer that does for the visible area
@@ -73,7 +86,10 @@ fn spoiled_calls() -> Vec<Call> {
             }
         }
         // several at once: the order of the refusals
-        for several in 0..64 {
+        for several in 0..128 {
+            if several & 64 != 0 && right.layers_len.is_none() {
+                continue;
+            }
             let mut call = right.clone();
             if several & 1 != 0 {
                 call.poke = Some((15, 2));
@@ -94,6 +110,9 @@ fn spoiled_calls() -> Vec<Call> {
             if several & 32 != 0 {
                 // of a block of the first version this is no byte
                 call.poke = Some((219, 2));
+            }
+            if several & 64 != 0 {
+                call.layers_len = right.layers_len.map(|len| len - 1);
             }
             calls.push(call);
         }

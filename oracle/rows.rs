@@ -1,6 +1,6 @@
 //! Rows made to meet every rule of the picture: each X with and without the early clock, both heights, both pattern bases,
 //! every scroll modulo 8, with sprites that overlap and priority tiles under them; each in one of the block's versions with table 0,
-//! and every fourth also with table 1.
+//! and every fourth also with table 1. Each is drawn without layers and with them.
 
 use rules::model::{self, Area, Device, VIDEO_SIZE};
 use rules::random::Random;
@@ -15,7 +15,7 @@ pub fn run(seed: u64, side: Ours) -> u64 {
     let mut random = Random::new(seed);
     let mut world = World::new(side, seed);
     let mut counts = Counts::default();
-    let total = 2 * 256 * 2 * 2 * 2 * 8 / 4 * 5;
+    let total = 2 * (2 * 256 * 2 * 2 * 2 * 8 / 4 * 5);
     for area in [Area::Visible, Area::Effective] {
         for x in 0..=255u8 {
             for shape in 0..64u8 {
@@ -24,18 +24,20 @@ pub fn run(seed: u64, side: Ours) -> u64 {
                 let other = if x.wrapping_add(shape) % 4 == 0 { &SHAPES[2..] } else { &[] };
                 for kind in one.iter().chain(other) {
                     let (block, video) = scene(&mut random, *kind, area, x, [early, tall, high, scroll]);
-                    world.start(&block, &video);
-                    let call = Call::row_step(area, 0);
-                    match world.call(&call) {
-                        Ok(met) => counts.add(&call, &met),
-                        Err(text) => {
-                            println!("difference: {}", text);
-                            shrink::report(side, Start { block, video }, vec![call]);
-                            println!("compare: rows, seed {}, 1 difference", seed);
-                            return 1;
+                    let plain = Call::row_step(area, 0);
+                    for call in [plain.clone(), plain.with_layers(area.width())] {
+                        world.start(&block, &video);
+                        match world.call(&call) {
+                            Ok(met) => counts.add(&call, &met),
+                            Err(text) => {
+                                println!("difference: {}", text);
+                                shrink::report(side, Start { block, video }, vec![call]);
+                                println!("compare: rows, seed {}, 1 difference", seed);
+                                return 1;
+                            }
                         }
+                        counts.progress(total);
                     }
-                    counts.progress(total);
                 }
             }
         }

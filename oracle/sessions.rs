@@ -178,9 +178,21 @@ fn any_area(random: &mut Random) -> Area {
 /// A call to follow a state made by hand.
 pub fn any_call(random: &mut Random) -> Call {
     if random.chance(1, 50) {
-        any_new(random)
+        return any_new(random);
+    }
+    let call = usual_call(random);
+    if random.chance(2, 5) {
+        layered(random, call)
     } else {
-        usual_call(random)
+        call
+    }
+}
+
+/// The same call; if a step, with layers, in a buffer that is long enough.
+fn layered(random: &mut Random, call: Call) -> Call {
+    match (call.kind, Area::from_number(call.value)) {
+        (Kind::Step | Kind::RowStep, Some(area)) => call.with_layers(area.width() + any_extra(random)),
+        _ => call,
     }
 }
 
@@ -281,10 +293,19 @@ pub fn spoil(random: &mut Random, call: &mut Call) {
     }
 }
 
+/// Gives a step a layer buffer of another length, most often one that is too short. (By itself: a session's random numbers for `spoil` stay as
+/// they are.)
+pub fn spoil_layers(random: &mut Random, call: &mut Call) {
+    if let Some(right) = call.layers_len {
+        let lengths = [0, 1, 159, 160, 161, 255, 256, 257, right.saturating_sub(1), random.below(right + 1), 256 + EXTRA];
+        call.layers_len = Some(lengths[random.below(lengths.len())]);
+    }
+}
+
 /// The calls of a long session from a fresh device, made a few at a time.
 pub struct Session {
     random: Random,
-    /// What devices are made anew by, apart from all else.
+    /// What devices are made anew by, and which steps ask for layers, apart from all else.
     anew: Random,
     queue: VecDeque<Call>,
 }
@@ -302,6 +323,12 @@ impl Session {
         let mut call = self.queue.pop_front().expect("a planned call");
         if self.random.chance(1, 200) {
             spoil(&mut self.random, &mut call);
+        }
+        if self.anew.chance(1, 3) {
+            call = layered(&mut self.anew, call);
+            if self.anew.chance(1, 100) {
+                spoil_layers(&mut self.anew, &mut call);
+            }
         }
         call
     }

@@ -130,6 +130,9 @@ fn print(start: &Start, calls: &[Call]) {
             Kind::Dump => format!("dump, sheet of {} bytes", call.pixels_len),
         };
         println!("  {}", what);
+        if let Some(size) = call.layers_len {
+            println!("    with a layer buffer of {} bytes", size);
+        }
         if let Some(size) = call.state_len {
             println!("    with a state block of {} bytes", size);
         }

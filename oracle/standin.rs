@@ -59,6 +59,24 @@ pub unsafe extern "C" fn vdp_row_step(
 }
 
 #[no_mangle]
+pub unsafe extern "C" fn vdp_layer_step(
+    state: *mut u8, state_len: usize, vram: *const u8, vram_len: usize, frame: *mut u8, frame_len: usize, layers: *mut u8,
+    layers_len: usize, area: u8,
+) -> u32 {
+    let (frame, layers) = (lent_mut(frame, frame_len), lent_mut(layers, layers_len));
+    model::vdp_layer_step(lent_mut(state, state_len), lent(vram, vram_len), frame, layers, area, &mut Notes::default())
+}
+
+#[no_mangle]
+pub unsafe extern "C" fn vdp_layer_row_step(
+    state: *mut u8, state_len: usize, vram: *const u8, vram_len: usize, row: *mut u8, row_len: usize, layers: *mut u8,
+    layers_len: usize, area: u8,
+) -> u32 {
+    let (row, layers) = (lent_mut(row, row_len), lent_mut(layers, layers_len));
+    model::vdp_layer_row_step(lent_mut(state, state_len), lent(vram, vram_len), row, layers, area, &mut Notes::default())
+}
+
+#[no_mangle]
 pub unsafe extern "C" fn vdp_dump_tileset(
     state: *const u8, state_len: usize, vram: *const u8, vram_len: usize, pixels: *mut u8, pixels_len: usize,
 ) -> u32 {

@@ -22,6 +22,8 @@ build/oracle/traces trace "${TRACES:-1000}" "${SEED:-1}" build/bin/trace
 tell "traces beside the model" $?
 build/oracle/traces snapshot $((${TRACES:-1000} / 5)) "${SEED:-1}" build/bin/snapshot
 tell "snapshots beside the model" $?
+build/oracle/traces layers $((${TRACES:-1000} / 5)) "${SEED:-1}" build/bin/layers
+tell "layers of traces beside the model" $?
 build/oracle/traces trace $((${TRACES:-1000} / 5)) "${SEED:-1}" build/bin/trace-261 --table=0
 tell "traces by the table with 261 steps beside the model" $?
 build/oracle/traces snapshot $((${TRACES:-1000} / 10)) "${SEED:-1}" build/bin/snapshot-261 --table=0

@@ -1,10 +1,12 @@
-//! Holds the programs `trace` and `snapshot` beside the model; needs neither the library nor the published Rust.
+//! Holds the programs `trace`, `snapshot` and `layers` beside the model; needs neither the library nor the published Rust.
 //!
 //!   traces trace N SEED PROGRAM      runs PROGRAM on the fixed traces and on N random ones, and compares all that it writes
 //!   traces snapshot N SEED PROGRAM   the same for the picture
+//!   traces layers N SEED PROGRAM     the same for the picture of the layers
 //!   traces write N SEED FOLDER       writes the traces with the text and the picture that the model gives
 //!   traces text < TRACE              the text that the model gives for one trace
 //!   traces picture < TRACE           the picture that the model gives for one trace
+//!   traces owners < TRACE            the picture of the layers that the model gives for one trace
 //!
 //! PROGRAM is started by the words of the variable RUN, if it is set (an emulator). A last word --table=0 or --table=1 names the table of the
 //! device; without it, it is that of a device made with none named. Exit status 1 on any difference, 2 on bad usage.
@@ -12,7 +14,7 @@
 use rules::call::Kind;
 use rules::model::{self, Table};
 use rules::random::Random;
-use rules::recording::{snapshot_bytes, trace_text, Record, LIMIT};
+use rules::recording::{layers_bytes, snapshot_bytes, trace_text, Record, LIMIT};
 use rules::sessions::Session;
 use std::fs::{self, File};
 use std::io::{Read, Write};
@@ -87,6 +89,9 @@ fn fixed(random: &mut Random, table: Table) -> Vec<Vec<u8>> {
         }
     }
     all.push(split());
+    for _ in 0..4 {
+        all.push(scene(random));
+    }
     all.push(b"LS\x00".repeat(LIMIT / 3));
     all.push(b"LS\x01".repeat(LIMIT / 3));
     all.push(b"PR\x7F".repeat(LIMIT / 3));
@@ -126,6 +131,52 @@ fn split() -> Vec<u8> {
         trace.extend_from_slice(&[b'P', b'W', port, value]);
     }
     for _ in 0..171 {
+        trace.extend_from_slice(b"LS\x00");
+    }
+    trace
+}
+
+/// A pass over a screen with tiles of priority and all 64 sprites, spread over the lines of the visible area.
+fn scene(random: &mut Random) -> Vec<u8> {
+    let mut trace = Vec::new();
+    let mut write = |port: u8, value: u8| trace.extend_from_slice(&[b'P', b'W', port, value]);
+    for (number, value) in [(0, random.byte() & 8), (1, 0x40 | random.byte() & 2), (2, 0x0E), (5, 0x7E), (6, 0), (8, random.byte()), (9, random.byte())] {
+        write(0xBF, value);
+        write(0xBF, 0x80 + number);
+    }
+    // 32 tiles of any pixels, half of them clear; colours
+    write(0xBF, 0);
+    write(0xBF, 0x40);
+    for _ in 0..32 * 8 {
+        let shown = random.byte();
+        for _ in 0..4 {
+            write(0xBE, shown & random.byte());
+        }
+    }
+    write(0xBF, 0);
+    write(0xBF, 0xC0);
+    for _ in 0..64 {
+        write(0xBE, random.byte());
+    }
+    // names with any flags, and the sprites
+    write(0xBF, 0);
+    write(0xBF, 0x78);
+    for _ in 0..28 * 32 {
+        write(0xBE, random.below(32) as u8);
+        write(0xBE, random.byte() & 0x1E);
+    }
+    write(0xBF, 0);
+    write(0xBF, 0x7F);
+    for n in 0..64 {
+        write(0xBE, (22 + 144 * n / 64 + random.below(4)) as u8);
+    }
+    write(0xBF, 0x80);
+    write(0xBF, 0x7F);
+    for _ in 0..64 {
+        write(0xBE, (36 + random.below(176)) as u8);
+        write(0xBE, random.below(32) as u8);
+    }
+    for _ in 0..262 {
         trace.extend_from_slice(b"LS\x00");
     }
     trace
@@ -257,7 +308,7 @@ fn print(expected: Expected, table: Table) -> u64 {
 }
 
 fn usage() -> ! {
-    eprintln!("usage: traces trace|snapshot N SEED PROGRAM | traces write N SEED FOLDER | traces text|picture < TRACE; each with a last word --table=0 or --table=1");
+    eprintln!("usage: traces trace|snapshot|layers N SEED PROGRAM | traces write N SEED FOLDER | traces text|picture|owners < TRACE; each with a last word --table=0 or --table=1");
     std::process::exit(2)
 }
 
@@ -281,9 +332,11 @@ fn main() {
     let differences = match words[..] {
         ["trace", n, seed, program] => compare("trace", trace_text, table, number(n) as usize, number(seed), program),
         ["snapshot", n, seed, program] => compare("snapshot", snapshot_bytes, table, number(n) as usize, number(seed), program),
+        ["layers", n, seed, program] => compare("layer-picture", layers_bytes, table, number(n) as usize, number(seed), program),
         ["write", n, seed, folder] => write(table, number(n) as usize, number(seed), folder),
         ["text"] => print(trace_text, table),
         ["picture"] => print(snapshot_bytes, table),
+        ["owners"] => print(layers_bytes, table),
         _ => usage(),
     };
     std::process::exit(if differences == 0 { 0 } else { 1 });

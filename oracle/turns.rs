@@ -9,12 +9,16 @@ use crate::model::{self, Area, Device, Notes};
 pub fn of_call(call: &Call, block: &mut [u8], video: &mut [u8]) -> usize {
     let before = Device::decode(block);
     let mut pixels = vec![0; call.pixels_len];
+    let mut layers = vec![0; call.layers_len.unwrap_or(0)];
     let mut notes = Notes::default();
+    // Layers are told by what the row needs anyway.
     let word = match call.kind {
         Kind::New => model::vdp_new(block),
         Kind::NewTable => model::vdp_new_table(block, call.value),
         Kind::Out => model::vdp_out(block, video, call.port, call.value),
         Kind::Input => model::vdp_input(block, video, call.port),
+        Kind::Step if call.layers_len.is_some() => model::vdp_layer_step(block, video, &mut pixels, &mut layers, call.value, &mut notes),
+        Kind::RowStep if call.layers_len.is_some() => model::vdp_layer_row_step(block, video, &mut pixels, &mut layers, call.value, &mut notes),
         Kind::Step => model::vdp_step(block, video, &mut pixels, call.value, &mut notes),
         Kind::RowStep => model::vdp_row_step(block, video, &mut pixels, call.value, &mut notes),
         Kind::Dump => model::vdp_dump_tileset(block, video, &mut pixels),

@@ -81,6 +81,7 @@ struct Memory {
     frames: Frames,
     row: Buffer,
     sheet: Buffer,
+    layers: Buffer,
 }
 
 impl Memory {
@@ -91,6 +92,7 @@ impl Memory {
             frames: Frames::new(random),
             row: Buffer::new(1024 + EXTRA, random),
             sheet: Buffer::new(SHEET_SIZE + 128, random),
+            layers: Buffer::new(256 + EXTRA, random),
         }
     }
 }
@@ -113,11 +115,18 @@ fn perform_model(m: &mut Memory, c: &Call, size: usize, notes: &mut Notes) -> u3
         Kind::Out => model::vdp_out(m.state.part_mut(size), m.video.part_mut(c.video_len), c.port, c.value),
         Kind::Input => model::vdp_input(m.state.part_mut(size), m.video.part(c.video_len), c.port),
         Kind::Step => {
-            let frame = m.frames.of_mut(c);
-            model::vdp_step(m.state.part_mut(size), m.video.part(c.video_len), frame.part_mut(n), c.value, notes)
+            let (state, video, frame) = (m.state.part_mut(size), m.video.part(c.video_len), m.frames.of_mut(c).part_mut(n));
+            match c.layers_len {
+                None => model::vdp_step(state, video, frame, c.value, notes),
+                Some(len) => model::vdp_layer_step(state, video, frame, m.layers.part_mut(len), c.value, notes),
+            }
         }
         Kind::RowStep => {
-            model::vdp_row_step(m.state.part_mut(size), m.video.part(c.video_len), m.row.part_mut(n), c.value, notes)
+            let (state, video, row) = (m.state.part_mut(size), m.video.part(c.video_len), m.row.part_mut(n));
+            match c.layers_len {
+                None => model::vdp_row_step(state, video, row, c.value, notes),
+                Some(len) => model::vdp_layer_row_step(state, video, row, m.layers.part_mut(len), c.value, notes),
+            }
         }
         Kind::Dump => model::vdp_dump_tileset(m.state.part(size), m.video.part(c.video_len), m.sheet.part_mut(n)),
     }
@@ -131,10 +140,19 @@ fn perform_library(m: &mut Memory, c: &Call, size: usize) -> u32 {
         Kind::Out => face::vdp_out(m.state.part_mut(size), m.video.part_mut(c.video_len), c.port, c.value),
         Kind::Input => face::vdp_input(m.state.part_mut(size), m.video.part(c.video_len), c.port),
         Kind::Step => {
-            let frame = m.frames.of_mut(c);
-            face::vdp_step(m.state.part_mut(size), m.video.part(c.video_len), frame.part_mut(n), c.value)
+            let (state, video, frame) = (m.state.part_mut(size), m.video.part(c.video_len), m.frames.of_mut(c).part_mut(n));
+            match c.layers_len {
+                None => face::vdp_step(state, video, frame, c.value),
+                Some(len) => face::vdp_layer_step(state, video, frame, m.layers.part_mut(len), c.value),
+            }
         }
-        Kind::RowStep => face::vdp_row_step(m.state.part_mut(size), m.video.part(c.video_len), m.row.part_mut(n), c.value),
+        Kind::RowStep => {
+            let (state, video, row) = (m.state.part_mut(size), m.video.part(c.video_len), m.row.part_mut(n));
+            match c.layers_len {
+                None => face::vdp_row_step(state, video, row, c.value),
+                Some(len) => face::vdp_layer_row_step(state, video, row, m.layers.part_mut(len), c.value),
+            }
+        }
         Kind::Dump => face::vdp_dump_tileset(m.state.part(size), m.video.part(c.video_len), m.sheet.part_mut(n)),
     }
 }
@@ -149,16 +167,21 @@ fn perform_tight(m: &mut Memory, c: &Call, size: usize) -> u32 {
         _ => &mut m.sheet,
     };
     let mut pixels = buffer.part(c.pixels_len).to_vec();
+    let layers_len = c.layers_len.unwrap_or(0);
+    let mut layers = m.layers.part(layers_len).to_vec();
     let word = match c.kind {
         Kind::New => face::vdp_new(&mut state),
         Kind::NewTable => face::vdp_new_table(&mut state, c.value),
         Kind::Out => face::vdp_out(&mut state, &mut video, c.port, c.value),
         Kind::Input => face::vdp_input(&mut state, &video, c.port),
+        Kind::Step if c.layers_len.is_some() => face::vdp_layer_step(&mut state, &video, &mut pixels, &mut layers, c.value),
+        Kind::RowStep if c.layers_len.is_some() => face::vdp_layer_row_step(&mut state, &video, &mut pixels, &mut layers, c.value),
         Kind::Step => face::vdp_step(&mut state, &video, &mut pixels, c.value),
         Kind::RowStep => face::vdp_row_step(&mut state, &video, &mut pixels, c.value),
         Kind::Dump => face::vdp_dump_tileset(&state, &video, &mut pixels),
     };
     buffer.part_mut(c.pixels_len).copy_from_slice(&pixels);
+    m.layers.part_mut(layers_len).copy_from_slice(&layers);
     m.state.part_mut(size).copy_from_slice(&state);
     m.video.part_mut(c.video_len).copy_from_slice(&video);
     word
@@ -220,6 +243,8 @@ pub struct Met {
     pub departure: Option<&'static str>,
     /// What there was of tables and of the block's versions.
     pub tables: Vec<&'static str>,
+    /// What there was of layers.
+    pub layers: Vec<&'static str>,
 }
 
 pub const EARLY_CLOCK: &str = "early clock, X 41 to 48 (Rust asserts)";
@@ -239,6 +264,37 @@ pub const BAD_TABLE: &str = "refused for the table's byte alone";
 pub const OTHER_MARK: &str = "refused for the mark of the other version alone";
 pub const TABLES: [&str; 10] =
     [ROW[0], ROW[1], JUMP[0], JUMP[1], MADE_OLD, MADE[0], MADE[1], NOT_MADE, BAD_TABLE, OTHER_MARK];
+
+pub const LAYERS: [&str; 10] = [
+    "layers: a column of the background",
+    "layers: a column that holds a sprite back",
+    "layers: a column of a sprite",
+    "layers: a column of sprite 63",
+    "layers: held back, then drawn over",
+    "layers: drawn, then a later sprite held back",
+    "layers: drawn, then drawn over",
+    "layers: held back where it would have met another sprite",
+    "layers: held back off the row",
+    "layers: held back by another place of the mask than its column",
+];
+
+/// What a row has met of layers, which are these bytes.
+fn of_layers(layers: &[u8], notes: &Notes) -> Vec<&'static str> {
+    let owners = &notes.owners;
+    let met = [
+        layers.contains(&0),
+        layers.contains(&1),
+        layers.iter().any(|layer| *layer >= 64),
+        layers.contains(&127),
+        owners.held_then_drawn,
+        owners.drawn_then_held,
+        owners.drawn_twice,
+        owners.held_where_met,
+        owners.held_off_the_row,
+        owners.tested_elsewhere,
+    ];
+    LAYERS.iter().zip(met).filter(|(_, met)| *met).map(|(name, _)| *name).collect()
+}
 
 /// What a call has met of tables and versions, on the bytes of state that it was lent.
 fn of_tables(c: &Call, word: u32, before: &Option<model::Device>, after: &Option<model::Device>, lent: &[u8]) -> Vec<&'static str> {
@@ -370,9 +426,17 @@ impl World {
             _ => {}
         }
 
+        if c.layers_len.is_some() {
+            same("layers", "model", &self.ours.layers.bytes, &self.model.layers.bytes, GUARD)?;
+        }
+
         let after = model::Device::decode(self.model.state.part(size));
         let tables = of_tables(c, word, &before, &after, self.model.state.part(size));
-        let mut met = Met { word, tables, ..Met::default() };
+        let layers = match (c.layers_len, Area::from_number(c.value)) {
+            (Some(_), Some(area)) if word >> 24 == 1 => of_layers(self.model.layers.part(area.width()), &notes),
+            _ => Vec::new(),
+        };
+        let mut met = Met { word, tables, layers, ..Met::default() };
         if word % 256 == 9 {
             met.departure = Some(SHORT);
         }
@@ -383,7 +447,7 @@ impl World {
             (Some(device), _) => {
                 // What was lent is the block that stands there now.
                 self.size = size;
-                // Refusals 8 to 12 have no counterpart in the Rust: what it has can be neither damaged nor of another length.
+                // Refusals 8 to 12 and 16 have no counterpart in the Rust: what it has can be neither damaged nor of another length.
                 if word % 256 < 8 && device.table == Table::Steps261 {
                     met.beside_rust = true;
                     met.departure = match &before {

@@ -208,6 +208,7 @@ fn refusal_text(number: u8) -> &'static str {
         13 => "no such tile",
         14 => "not the codes of one tile",
         15 => "a code above 15",
+        16 => "layer buffer too short",
         _ => "unknown refusal",
     }
 }

@@ -11,7 +11,7 @@ if ! make --no-print-directory build native; then
 fi
 if ! said=$(sh tools/setup.sh bus 2>&1 >/dev/null); then
     echo "SKIPPED: the turns of the bus: $said"
-    skipped=16
+    skipped=17
     total
     exit
 fi
@@ -29,7 +29,7 @@ least() {
     [ "${more:-1}" -eq 0 ] && [ "${turns:-0}" -gt 0 ]
     tell "$1, $2 $3: ${turns:-no} turns in ${calls:-no} calls, the least is ${least:-unknown}" $?
 }
-for workload in visible effective empty unscrolled ended ninth dump; do least optimised $workload 1; done
+for workload in visible effective empty unscrolled ended ninth layers dump; do least optimised $workload 1; done
 for seed in 1 2 3; do least optimised any $seed; done
 for workload in ended any; do least plain $workload 1; done
 

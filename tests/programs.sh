@@ -29,7 +29,7 @@ run() {
     status=$?
 }
 
-for program in trace snapshot; do
+for program in trace snapshot layers; do
     run $program <$trace
     mv "$work/out" "$work/expected"
     [ "$status" -eq 0 ] && [ ! -s "$work/err" ] && [ -s "$work/expected" ]
@@ -78,7 +78,7 @@ done
 
 # By name as on standard input: 65,536 bytes and more are too long, a bad record is told.
 head -c 65536 /dev/zero >"$work/long"
-for program in trace snapshot; do
+for program in trace snapshot layers; do
     run $program "$work/long"
     printf 'long\n' | cmp - "$work/out" && [ ! -s "$work/err" ]
     tell "$program: 65,536 bytes by name" $?

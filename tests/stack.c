@@ -12,7 +12,7 @@
 enum { STACK = 16384, FILL = 0xA5, TURNS = 5000 };
 
 static unsigned char stack[STACK] __attribute__((aligned(64)));
-static uint8_t state[VDP_STATE_SIZE], vram[VDP_VRAM_SIZE], pixels[VDP_EFFECTIVE_FRAME_SIZE];
+static uint8_t state[VDP_STATE_SIZE], vram[VDP_VRAM_SIZE], pixels[VDP_EFFECTIVE_FRAME_SIZE], layers[VDP_EFFECTIVE_LAYERS_SIZE];
 static ucontext_t here, there;
 static unsigned long used;
 static uint32_t word = 1;
@@ -51,6 +51,17 @@ static void make_step(void)
     vdp_step(state, sizeof state, vram, sizeof vram, pixels, area == VDP_VISIBLE ? VDP_VISIBLE_FRAME_SIZE : sizeof pixels, area);
 }
 static void make_row_step(void) { vdp_row_step(state, sizeof state, vram, sizeof vram, pixels, VDP_EFFECTIVE_ROW_SIZE, (uint8_t)(next() % 3)); }
+static void make_layer_step(void)
+{
+    uint8_t area = (uint8_t)(next() % 3);
+    size_t frame_len = area == VDP_VISIBLE ? VDP_VISIBLE_FRAME_SIZE : sizeof pixels;
+    vdp_layer_step(state, sizeof state, vram, sizeof vram, pixels, frame_len, layers, sizeof layers - (next() % 8 == 0), area);
+}
+static void make_layer_row_step(void)
+{
+    size_t layers_len = sizeof layers - (next() % 8 == 0);
+    vdp_layer_row_step(state, sizeof state, vram, sizeof vram, pixels, VDP_EFFECTIVE_ROW_SIZE, layers, layers_len, (uint8_t)(next() % 3));
+}
 static void make_dump(void) { vdp_dump_tileset(state, sizeof state, vram, sizeof vram, pixels, VDP_TILESET_SIZE - (next() % 8 == 0)); }
 static void make_version(void) { vdp_version(); }
 
@@ -79,13 +90,13 @@ static unsigned long measure(const char *name, void (*what)(void), unsigned turn
         makecontext(&there, run, 0);
         swapcontext(&here, &there);
     }
-    printf("%-17s %5lu bytes\n", name, used);
+    printf("%-18s %5lu bytes\n", name, used);
     return used;
 }
 
 int main(void)
 {
-    unsigned long most = 0, each[7];
+    unsigned long most = 0, each[9];
     for (unsigned n = 0; n < sizeof vram; n++)
         vram[n] = (uint8_t)next();
     each[0] = measure("vdp_new", make_new, TURNS);
@@ -95,7 +106,9 @@ int main(void)
     each[4] = measure("vdp_row_step", make_row_step, TURNS);
     each[5] = measure("vdp_dump_tileset", make_dump, TURNS / 50);
     each[6] = measure("vdp_version", make_version, TURNS);
-    for (unsigned n = 0; n < 7; n++)
+    each[7] = measure("vdp_layer_step", make_layer_step, TURNS);
+    each[8] = measure("vdp_layer_row_step", make_layer_row_step, TURNS);
+    for (unsigned n = 0; n < 9; n++)
         most = each[n] > most ? each[n] : most;
     printf("stack: %lu bytes at the most; the header allows %d\n", most, VDP_STACK_NEED);
     return most > VDP_STACK_NEED;

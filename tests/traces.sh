@@ -64,7 +64,7 @@ if command -v python3 > /dev/null; then
     rm -rf $work/made
     mkdir $work/made
     cp tests/traces/*.py $work/made/
-    python3 $work/made/make.py && python3 $work/made/split90.py
+    python3 $work/made/make.py && python3 $work/made/split90.py && python3 $work/made/layers.py
     status=$?
     for trace in tests/traces/*.trace; do cmp "$trace" "$work/made/$(basename "$trace")" || status=1; done
     tell "the traces are as their scripts write them" $status
@@ -149,5 +149,23 @@ for y in $(seq 0 143); do
     [ "$(row "$y")" = "$(plain $colour)" ] || { echo "row $y"; status=1; }
 done
 tell 'split at line 90: all other rows' $status
+
+# Layers: the scene of docs/TRACES.md, its picture and its layers as they stand there.
+$RUN build/bin/layers < tests/traces/layers.trace > $work/layers.ppm && cmp crates/layers/stdout $work/layers.ppm && cmp tests/traces/layers.trace crates/layers/data/layers.trace
+tell 'layers of the scene' $?
+for both in "picture -picture" "layers "; do
+    read -r what suffix <<<"$both"
+    program=layers
+    [ "$what" = picture ] && program=snapshot
+    if command -v python3 > /dev/null; then
+        $RUN build/bin/$program < tests/traces/layers.trace | python3 tools/ppm2png.py 2 | cmp docs/layers$suffix.png -
+        tell "docs/layers$suffix.png is what $program writes" $?
+    else
+        skipped=$((skipped + 1))
+    fi
+done
+printf 'long\n' > $work/long
+$RUN build/bin/layers < $work/longer | cmp $work/long -
+tell '65,536 bytes, layers' $?
 
 total

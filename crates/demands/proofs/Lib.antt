@@ -8,4 +8,5 @@ pub mod Demand3
 pub mod Always
 pub mod Split
 pub mod Author
+pub mod Layers
 pub mod Outcome

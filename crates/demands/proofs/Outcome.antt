@@ -23,11 +23,13 @@ use Rattle.small.proofs.smaller
 use Rattle.small.proofs.weight
 use Rattle.small.proofs.is_set
 use Rattle.small.proofs.both
+use Rattle.tile.proofs.pixel_set_full
 use Rattle.tile.proofs.character_line
 use Rattle.tile.proofs.character_whole
 use Rattle.tile.proofs.sprite_columns
 use Rattle.tile.proofs.character_line_sprite
 use Rattle.tile.proofs.character_line_sprite_bitmap
+use Rattle.tile.proofs.own_columns
 use Rattle.background.proofs.names_at
 use Rattle.background.proofs.render_background_line
 use Rattle.row.proofs.render_line
@@ -42,8 +44,12 @@ use Rattle.step.proofs.interrupt_number
 use Rattle.step.proofs.report_number
 use Rattle.step.proofs.row_points
 use Rattle.step.proofs.frame_points
+use Rattle.step.proofs.layer_row_points
+use Rattle.step.proofs.layer_frame_points
 use Rattle.step.proofs.row_step
 use Rattle.step.proofs.frame_step
+use Rattle.step.proofs.layer_row_step
+use Rattle.step.proofs.layer_frame_step
 use Rattle.step.proofs.row_view
 use Rattle.sprites.proofs.render_sprites_line
 use Rattle.dump.proofs.dump_tileset as dump_rows
@@ -67,6 +73,8 @@ use Rattle.face.proofs.vdp_out
 use Rattle.face.proofs.vdp_input
 use Rattle.face.proofs.vdp_step
 use Rattle.face.proofs.vdp_row_step
+use Rattle.face.proofs.vdp_layer_step
+use Rattle.face.proofs.vdp_layer_row_step
 use Rattle.face.proofs.vdp_dump_tileset
 use Rattle.face.proofs.vdp_version
 use Rattle.face.proofs.vdp_write_tile
@@ -74,6 +82,7 @@ use Rattle.face.proofs.vdp_read_tile
 use Rattle.recording.proofs.record_at
 use Rattle.recording.proofs.trace
 use Rattle.recording.proofs.snapshot
+use Rattle.recording.proofs.layers
 
 -- ---- bitmap
 pub bitmap-new-once : OneOutcome 0 bitmap-new.Kinds.ps bitmap-new.Kinds.r bitmap-new.Reads.Asked bitmap-new.Reads.Learnt
@@ -138,6 +147,9 @@ pub both-once : OneOutcome 0 both.Kinds.ps both.Kinds.r both.Reads.Asked both.Re
 both-once κs a q z z′ w w′ e f = (e ∙ sym f, refl)
 
 -- ---- tile
+pub pixel-set-full-once : OneOutcome 1 pixel_set_full.Kinds.ps pixel_set_full.Kinds.r pixel_set_full.Reads.Asked pixel_set_full.Reads.Learnt
+pixel-set-full-once κs a q z z′ w w′ e f = (refl, λ i. ((e ∙ sym f) i, w .1))
+
 pub character-line-once : OneOutcome 3 character_line.Kinds.ps character_line.Kinds.r character_line.Reads.Asked character_line.Reads.Learnt
 character-line-once κs a q z z′ w w′ e f = (e .1 ∙ sym (f .1), λ i. ((e .0 ∙ sym (f .0)) i, w .1))
 
@@ -167,6 +179,9 @@ sprite-columns-once κs a q z z′ w w′ e f = (
 pub character-line-sprite-bitmap-once : OneOutcome 1 character_line_sprite_bitmap.Kinds.ps character_line_sprite_bitmap.Kinds.r character_line_sprite_bitmap.Reads.Asked character_line_sprite_bitmap.Reads.Learnt
 character-line-sprite-bitmap-once κs a q z z′ w w′ e f = (e ∙ sym f, refl)
 
+pub own-columns-once : OneOutcome 1 own_columns.Kinds.ps own_columns.Kinds.r own_columns.Reads.Asked own_columns.Reads.Learnt
+own-columns-once κs a q z z′ w w′ e f = (refl, λ i. ((e ∙ sym f) i, w .1))
+
 -- ---- background
 pub names-at-once : OneOutcome 0 names_at.Kinds.ps names_at.Kinds.r names_at.Reads.Asked names_at.Reads.Learnt
 names-at-once κs a q z z′ w w′ e f = (e .0 ∙ sym (f .0), refl)
@@ -178,16 +193,19 @@ render-background-line-once κs a q z z′ w w′ e f =
 -- ---- sprites
 -- the contract speaks of a row that is painted in the colours, as `row` lends it
 pub render-sprites-line-once :
-    OneOutcome 3 render_sprites_line.Kinds.ps render_sprites_line.Kinds.r
-    (λ κs a. PaintedRow (now (a .0)) (now (a .1 .1 .0)) (a .1 .1 .1 .1 .1 .1 .0) (a .1 .1 .1 .1 .1 .1 .1 .0 .bits)) render_sprites_line.Reads.Learnt
+    OneOutcome 4 render_sprites_line.Kinds.ps render_sprites_line.Kinds.r
+    (λ κs a. PaintedRow (now (a .0)) (now (a .1 .0)) (now (a .1 .1 .1 .0)) (a .1 .1 .1 .1 .1 .1 .1 .0) (a .1 .1 .1 .1 .1 .1 .1 .1 .0 .bits)) render_sprites_line.Reads.Learnt
 render-sprites-line-once κs a q z z′ w w′ e f =
-    let x = e (q .row₀) (q .mask) (q .colour) (q .is-mask) (q .is-painted) in
-    let y = f (q .row₀) (q .mask) (q .colour) (q .is-mask) (q .is-painted) in
-    (λ i. record { hit = (x .struck ∙ sym (y .struck)) i; ninth = (x .many ∙ sym (y .many)) i }, λ i. ((x .bytes ∙ sym (y .bytes)) i, w .1))
+    let x = e (q .row₀) (q .layers₀) (q .mask) (q .colour) (q .is-mask) (q .is-painted) (q .is-clear) in
+    let y = f (q .row₀) (q .layers₀) (q .mask) (q .colour) (q .is-mask) (q .is-painted) (q .is-clear) in (
+      λ i. record { hit = (x .struck ∙ sym (y .struck)) i; ninth = (x .many ∙ sym (y .many)) i },
+      λ i. ((x .bytes ∙ sym (y .bytes)) i, ((x .owners ∙ sym (y .owners)) i, w .1 .1)),
+    )
 
 -- ---- row
-pub render-line-once : OneOutcome 3 render_line.Kinds.ps render_line.Kinds.r render_line.Reads.Asked render_line.Reads.Learnt
-render-line-once κs a q z z′ w w′ e f = (e .status ∙ sym (f .status), λ i. ((e .bytes ∙ sym (f .bytes)) i, w .1))
+pub render-line-once : OneOutcome 4 render_line.Kinds.ps render_line.Kinds.r render_line.Reads.Asked render_line.Reads.Learnt
+render-line-once κs a q z z′ w w′ e f =
+    (e .0 .status ∙ sym (f .0 .status), λ i. ((e .0 .bytes ∙ sym (f .0 .bytes)) i, ((e .1 ∙ sym (f .1)) i, w .1 .1)))
 
 -- ---- vdp
 pub refusal-number-once : OneOutcome 0 refusal_number.Kinds.ps refusal_number.Kinds.r refusal_number.Reads.Asked refusal_number.Reads.Learnt
@@ -233,11 +251,37 @@ frame-points-once κs a q z z′ w w′ e f =
     let y = f _ g in
     (same-points _ (x .answer ∙ sym (y .answer)), λ i. (tt, (tt, (tt, (tt, (tt, ((x .bytes ∙ sym (y .bytes)) i, w .1 .1 .1 .1 .1 .1)))))))
 
+pub layer-row-points-once : OneOutcome 4 layer_row_points.Kinds.ps layer_row_points.Kinds.r layer_row_points.Reads.Asked layer_row_points.Reads.Learnt
+layer-row-points-once κs a q z z′ w w′ e f =
+    let g = reads-so (a .0) (a .1 .0) (a .1 .1 .0) (now (a .1 .1 .1 .0)) in
+    let x = e _ g in
+    let y = f _ g in (
+      same-points _ (x .answer ∙ sym (y .answer)),
+      λ i. (tt, (tt, (tt, (tt, (tt, ((x .bytes ∙ sym (y .bytes)) i, ((x .owners ∙ sym (y .owners)) i, w .1 .1 .1 .1 .1 .1 .1))))))),
+    )
+
+pub layer-frame-points-once : OneOutcome 4 layer_frame_points.Kinds.ps layer_frame_points.Kinds.r layer_frame_points.Reads.Asked layer_frame_points.Reads.Learnt
+layer-frame-points-once κs a q z z′ w w′ e f =
+    let g = reads-so (a .0) (a .1 .0) (a .1 .1 .0) (now (a .1 .1 .1 .0)) in
+    let x = e _ g in
+    let y = f _ g in (
+      same-points _ (x .answer ∙ sym (y .answer)),
+      λ i. (tt, (tt, (tt, (tt, (tt, ((x .bytes ∙ sym (y .bytes)) i, ((x .owners ∙ sym (y .owners)) i, w .1 .1 .1 .1 .1 .1 .1))))))),
+    )
+
 pub row-step-once : OneOutcome 2 row_step.Kinds.ps row_step.Kinds.r row_step.Reads.Asked row_step.Reads.Learnt
 row-step-once κs a q z z′ w w′ e f = (e .answer ∙ sym (f .answer), λ i. (tt, (tt, ((e .bytes ∙ sym (f .bytes)) i, w .1 .1 .1))))
 
 pub frame-step-once : OneOutcome 2 frame_step.Kinds.ps frame_step.Kinds.r frame_step.Reads.Asked frame_step.Reads.Learnt
 frame-step-once κs a q z z′ w w′ e f = (e .answer ∙ sym (f .answer), λ i. (tt, (tt, ((e .bytes ∙ sym (f .bytes)) i, w .1 .1 .1))))
+
+pub layer-row-step-once : OneOutcome 3 layer_row_step.Kinds.ps layer_row_step.Kinds.r layer_row_step.Reads.Asked layer_row_step.Reads.Learnt
+layer-row-step-once κs a q z z′ w w′ e f =
+    (e .answer ∙ sym (f .answer), λ i. (tt, (tt, ((e .bytes ∙ sym (f .bytes)) i, ((e .owners ∙ sym (f .owners)) i, w .1 .1 .1 .1)))))
+
+pub layer-frame-step-once : OneOutcome 3 layer_frame_step.Kinds.ps layer_frame_step.Kinds.r layer_frame_step.Reads.Asked layer_frame_step.Reads.Learnt
+layer-frame-step-once κs a q z z′ w w′ e f =
+    (e .answer ∙ sym (f .answer), λ i. (tt, (tt, ((e .bytes ∙ sym (f .bytes)) i, ((e .owners ∙ sym (f .owners)) i, w .1 .1 .1 .1)))))
 
 pub dump-tileset-once : OneOutcome 2 dump_tileset.Kinds.ps dump_tileset.Kinds.r dump_tileset.Reads.Asked dump_tileset.Reads.Learnt
 dump-tileset-once κs a q z z′ w w′ e f = (e .refusal ∙ sym (f .refusal), λ i. (tt, (tt, ((e .bytes ∙ sym (f .bytes)) i, tt))))
@@ -312,6 +356,18 @@ pub vdp-row-step-once : OneOutcome 3 vdp_row_step.Kinds.ps vdp_row_step.Kinds.r 
 vdp-row-step-once κs a q z z′ w w′ e f =
     (e .word ∙ sym (f .word), λ i. ((e .block ∙ sym (f .block)) i, (tt, ((e .lent ∙ sym (f .lent)) i, w .1 .1 .1))))
 
+pub vdp-layer-step-once : OneOutcome 4 vdp_layer_step.Kinds.ps vdp_layer_step.Kinds.r vdp_layer_step.Reads.Asked vdp_layer_step.Reads.Learnt
+vdp-layer-step-once κs a q z z′ w w′ e f = (
+  e .call .word ∙ sym (f .call .word),
+  λ i. ((e .call .block ∙ sym (f .call .block)) i, (tt, ((e .call .lent ∙ sym (f .call .lent)) i, ((e .owners ∙ sym (f .owners)) i, w .1 .1 .1 .1)))),
+)
+
+pub vdp-layer-row-step-once : OneOutcome 4 vdp_layer_row_step.Kinds.ps vdp_layer_row_step.Kinds.r vdp_layer_row_step.Reads.Asked vdp_layer_row_step.Reads.Learnt
+vdp-layer-row-step-once κs a q z z′ w w′ e f = (
+  e .call .word ∙ sym (f .call .word),
+  λ i. ((e .call .block ∙ sym (f .call .block)) i, (tt, ((e .call .lent ∙ sym (f .call .lent)) i, ((e .owners ∙ sym (f .owners)) i, w .1 .1 .1 .1)))),
+)
+
 pub vdp-dump-tileset-once : OneOutcome 3 vdp_dump_tileset.Kinds.ps vdp_dump_tileset.Kinds.r vdp_dump_tileset.Reads.Asked vdp_dump_tileset.Reads.Learnt
 vdp-dump-tileset-once κs a q z z′ w w′ e f = (e .word ∙ sym (f .word), λ i. (tt, (tt, ((e .lent ∙ sym (f .lent)) i, tt))))
 
@@ -336,6 +392,21 @@ trace-once κs a q z z′ w w′ e f = (
 
 pub snapshot-once : OneOutcome 5 snapshot.Kinds.ps snapshot.Kinds.r snapshot.Reads.Asked snapshot.Reads.Learnt
 snapshot-once κs a q z z′ w w′ e f = (
+  e .0 .count ∙ sym (f .0 .count),
+  λ i. (
+    tt,
+    (
+      tt,
+      (
+        (e .0 .memory ∙ sym (f .0 .memory)) i,
+        ((e .0 .pixels ∙ sym (f .0 .pixels)) i, ((e .0 .picture ∙ sym (f .0 .picture)) i, ((e .0 .bytes ∙ sym (f .0 .bytes)) i, tt))),
+      ),
+    ),
+  ),
+)
+
+pub layers-once : OneOutcome 5 layers.Kinds.ps layers.Kinds.r layers.Reads.Asked layers.Reads.Learnt
+layers-once κs a q z z′ w w′ e f = (
   e .0 .count ∙ sym (f .0 .count),
   λ i. (
     tt,

@@ -5,6 +5,7 @@ pub mod Interrupts
 pub mod Always
 pub mod Split
 pub mod Author
+pub mod Layers
 pub mod Outcome
 pub mod Examples
 pub mod Further

@@ -11,6 +11,7 @@ use borrow.Fn.Kinds.{In, Out, Dens, resT, endedOf}
 use Rattle.laws.specs.Lists.{at}
 use Rattle.laws.specs.Paint.{painted}
 use Rattle.bitmap.specs.Mask.{bytesOf}
+use Rattle.picture.specs.Layers.{layersIn}
 
 module _ (n : ℕ) (ps : List (PK n)) (r : RK n) where
   -- For any arguments a that meet `asked`: two answers z, z′, each with what the lent buffers hold at exit, w, w′, of which a caller learns what the
@@ -30,10 +31,12 @@ module _ (n : ℕ) (ps : List (PK n)) (r : RK n) where
       learnt κs a z (atExit (endedOf n ps r) κs a w) → learnt κs a z′ (atExit (endedOf n ps r) κs a w′) →
       (see κs z ≡ see κs z′) × (w ≡ w′)
 
--- What the line of sprites is lent: a row that is painted in the colours, and a mask that is a mask's bytes.
-pub record PaintedRow (row colours : List ℕ) (width : ℕ) (prio : List ℕ) : Type 0 where
+-- What the line of sprites is lent: a row that is painted in the colours, layers that are all background's, and a mask that is a mask's bytes.
+pub record PaintedRow (row layers colours : List ℕ) (width : ℕ) (prio : List ℕ) : Type 0 where
   pub row₀ : List ℕ
+  pub layers₀ : List ℕ
   pub colour : ℕ → ℕ
   pub mask : ℕ → Bool
   pub is-mask : prio ≡ bytesOf mask
   pub is-painted : row ≡ painted row₀ 0 width (λ x. at colours (colour x))
+  pub is-clear : layers ≡ layersIn layers₀ width (λ x. 0)

@@ -16,7 +16,7 @@ use Rattle.picture.specs.declared.RenderArea.{RenderArea}
 use Rattle.raster.specs.Raster.{lineTableFrom}
 use Rattle.vdp.specs.declared.VdpState.{VdpState}
 use Rattle.vdp.specs.declared.Refusal.{Refusal}
-use Rattle.vdp.specs.declared.Refusal.the-variants.{Accepted, UnknownPort, HorizontalCounter, HighRegister, NothingChosen, PaletteRead, NoPaletteByte, OutsideMemory, VramLength, PixelLength, BlockMalformed, UnknownArea, FrameTooLong, UnknownTile, CodesLength, HighCode}
+use Rattle.vdp.specs.declared.Refusal.the-variants.{Accepted, UnknownPort, HorizontalCounter, HighRegister, NothingChosen, PaletteRead, NoPaletteByte, OutsideMemory, VramLength, PixelLength, BlockMalformed, UnknownArea, FrameTooLong, UnknownTile, CodesLength, HighCode, LayerLength}
 use Rattle.vdp.specs.Device.{unlatched}
 use Rattle.vdp.specs.Refusals.{refusalNumber, leftBehind, Line, under, whole}
 use Rattle.vdp.specs.Ports.{portWrite, portRead}
@@ -28,6 +28,10 @@ use Rattle.step.specs.Step.{stepped, refusedStep, rowLines, frameLines, stepWit
 use Rattle.step.specs.Dump.{dumpRefusal, dumpAfter}
 use Rattle.step.specs.Frame.{rowAfter, frameAfter}
 use Rattle.picture.specs.Area.{areaFrom}
+use Rattle.vdp.proofs.Tables.{under-refused}
+use Rattle.step.specs.Layers.{layersAfter}
+use Rattle.step.proofs.Laws as Steps
+use Rattle.face.specs.Layers.{layerLines, layerCall, layersLeft}
 use Rattle.face.specs.Face.{stepWord, refused, newTableCall, outCall, inputCall, steppedTo, stepCall, rowStepCall, dumpCall}
 use Rattle.face.specs.Refused.{refusalIn, blockLeft, LeftBehind}
 use Rattle.face.proofs.Exact.{number-low, alone, low-byte, step-byte}
@@ -83,6 +87,7 @@ module _ (b : List ℕ) (bytes : (i : ℕ) → at b i < 256) where
   behind w UnknownTile = block-back b w bytes
   behind w CodesLength = block-back b w bytes
   behind w HighCode = block-back b w bytes
+  behind w LayerLength = block-back b w bytes
 
   pub left-by : wellFormed b ≡ true → (r : Refusal) {n : ℕ} → n ≡ refusalNumber r → blockOf (length b) (leftBehind r (stateOf b)) ≡ blockLeft n b
   left-by w r e = behind w r ∙ ap (λ (n : ℕ). blockLeft n b) (sym e)
@@ -176,6 +181,40 @@ module _ (b : List ℕ) (bytes : (i : ℕ) → at b i < 256) where
       (λ _. step-left w (rowLines (areaFrom n) m (length row)) (areaFrom n) m row _ (refl, (refl, tt)))
       (λ _. whole-refused UnknownArea row refl))
       (λ _. whole-refused BlockMalformed row refl)
+
+  -- a step with layers: block and pixels, and the layer buffer too
+  layer-behind :
+      (lines : RenderArea → List Line) (filled : VdpState → RenderArea → List ℕ) (m x layers : List ℕ) (n : ℕ) → Keeping (layerLines lines layers (areaFrom n))
+      → LeftBehind b x (layerCall lines filled b m x layers n)
+  unfolding layerCall
+  layer-behind lines filled m x layers n k =
+      either (LeftBehind b x) (wellFormed b)
+      (λ w. either (LeftBehind b x) (leb n 1)
+      (λ _. step-left w (layerLines lines layers (areaFrom n)) (areaFrom n) m x _ k)
+      (λ _. whole-refused UnknownArea x refl))
+      (λ _. whole-refused BlockMalformed x refl)
+
+  pub layer-row-behind : (filled : VdpState → RenderArea → List ℕ) (m row layers : List ℕ) (n : ℕ) → LeftBehind b row (layerCall (λ a. rowLines a m (length row)) filled b m row layers n)
+  layer-row-behind filled m row layers n = layer-behind (λ a. rowLines a m (length row)) filled m row layers n (refl, (refl, (refl, tt)))
+
+  pub layer-frame-behind : (filled : VdpState → RenderArea → List ℕ) (m frame layers : List ℕ) (n : ℕ) → LeftBehind b frame (layerCall (λ a. frameLines a m (length frame)) filled b m frame layers n)
+  layer-frame-behind filled m frame layers n = layer-behind (λ a. frameLines a m (length frame)) filled m frame layers n (refl, (refl, (refl, (refl, tt))))
+
+  pub layers-behind :
+      (lines : RenderArea → List Line) (filled : VdpState → RenderArea → List ℕ) (m x layers : List ℕ) (n : ℕ)
+      → refusalIn (layerCall lines filled b m x layers n .word) ≢ 0 → layersLeft lines b m layers n ≡ layers
+  unfolding layerCall layersLeft layersAfter
+  layers-behind lines filled m x layers n =
+      split (wellFormed b)
+      (λ e. split (leb n 1)
+      (λ f.
+      simp (e, f)
+      (λ h.
+      let ls = layerLines lines layers (areaFrom n) in
+      let s = stepWith ls (areaFrom n) m (stateOf b) in
+      under-refused ls (λ r. layers) _ (λ k. h (step-byte s ∙ ap refusalNumber (Steps.step-exact ls (areaFrom n) m (stateOf b) ∙ k)))))
+      (λ f. simp (e, f) (λ h. refl)))
+      (λ e. simp e (λ h. refl))
 
   pub dump-behind : (m pixels : List ℕ) → LeftBehind b pixels (dumpCall b m pixels)
   unfolding dumpCall dumpRefusal dumpAfter

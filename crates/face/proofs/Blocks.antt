@@ -8,11 +8,14 @@ use lib.ListN.{length}
 use Rattle.raster.specs.declared.LineTable.{LineTable}
 use Rattle.raster.specs.declared.LineTable.the-variants.{Steps261, Steps262}
 use Rattle.raster.specs.Raster.{lineTableNumber}
+use Rattle.picture.specs.declared.RenderArea.{RenderArea}
 use Rattle.vdp.specs.declared.VdpState.{VdpState}
 use Rattle.vdp.specs.Device.{made}
 use Rattle.block.specs.Block.{fits, blockOf, Shape}
 use Rattle.block.proofs.Whole.{fits-sized}
 use Rattle.block.proofs.RoundTrip.{length-block, good-block, state-back}
+use Rattle.vdp.specs.Refusals.{Line}
+use Rattle.face.specs.Layers.{layerOn, layerCall}
 use Rattle.face.specs.Face.{onArea, newTableCall, outOn, outCall, inputOn, inputCall, stepOn, stepCall, rowStepOn, rowStepCall, dumpOn, dumpCall}
 
 pub new-on :
@@ -38,6 +41,12 @@ module _ (k : ℕ) (s : VdpState) (g : Shape s) (room : fits (s .raster .table) 
   pub row-on : (m row : List ℕ) (n : ℕ) → rowStepCall (blockOf k s) m row n ≡ onArea n (blockOf k s) row (rowStepOn m row k s)
   unfolding rowStepCall
   row-on m row n = rw (length-block k s g (fits-sized (s .raster .table) k room), good-block k s g room, state-back k s g room)
+
+  pub layer-on :
+      (lines : RenderArea → List Line) (filled : VdpState → RenderArea → List ℕ) (m x layers : List ℕ) (n : ℕ)
+      → layerCall lines filled (blockOf k s) m x layers n ≡ onArea n (blockOf k s) x (layerOn lines filled m x layers k s)
+  unfolding layerCall
+  layer-on lines filled m x layers n = rw (length-block k s g (fits-sized (s .raster .table) k room), good-block k s g room, state-back k s g room)
 
   pub dump-on : (m pixels : List ℕ) → dumpCall (blockOf k s) m pixels ≡ dumpOn (blockOf k s) m pixels s
   unfolding dumpCall

@@ -13,7 +13,9 @@ use lib.ListN.{length}
 use Rattle.laws.proofs.Tests.{split, both, clash}
 use Rattle.raster.specs.Raster.{lineTableFrom}
 use Rattle.vdp.specs.declared.Refusal.{Refusal}
-use Rattle.vdp.specs.declared.Refusal.the-variants.{Accepted, UnknownPort, HorizontalCounter, HighRegister, NothingChosen, PaletteRead, NoPaletteByte, OutsideMemory, VramLength, PixelLength, BlockMalformed, UnknownArea, FrameTooLong, UnknownTile, CodesLength, HighCode}
+use Rattle.vdp.specs.declared.Refusal.the-variants.{Accepted, UnknownPort, HorizontalCounter, HighRegister, NothingChosen, PaletteRead, NoPaletteByte, OutsideMemory, VramLength, PixelLength, BlockMalformed, UnknownArea, FrameTooLong, UnknownTile, CodesLength, HighCode, LayerLength}
+use Rattle.picture.specs.declared.RenderArea.{RenderArea}
+use Rattle.vdp.specs.declared.VdpState.{VdpState}
 use Rattle.vdp.specs.Refusals.{refusalNumber, Line, first, line, writeLines, readLines}
 use Rattle.vdp.specs.Ports.{portWrite, portRead}
 use Rattle.vdp.proofs.Exact.{write-exact, read-exact}
@@ -22,9 +24,10 @@ use Rattle.step.specs.declared.DrawnRow.{DrawnRow}
 use Rattle.step.specs.declared.DrawnRow.the-variants.{NoRow, Drawn}
 use Rattle.step.specs.declared.Stepped.{Stepped}
 use Rattle.step.specs.Dump.{dumpRefusal, dumpLines}
-use Rattle.step.specs.Step.{rowLines, frameLines, rowStep, frameStep}
+use Rattle.step.specs.Step.{rowLines, frameLines, stepWith, rowStep, frameStep}
 use Rattle.step.proofs.Laws as Steps
 use Rattle.picture.specs.Area.{areaFrom}
+use Rattle.face.specs.Layers.{layerLines, layerCall}
 use Rattle.face.specs.Face.{rowBits, stepWord, newTableCall, outCall, inputCall, stepCall, rowStepCall, dumpCall}
 use Rattle.face.specs.Refused.{refusalIn, malformed, newLines, outLines, inputLines, stepCallLines, dumpCallLines}
 
@@ -45,6 +48,7 @@ number-low FrameTooLong = omega arith
 number-low UnknownTile = omega arith
 number-low CodesLength = omega arith
 number-low HighCode = omega arith
+number-low LayerLength = omega arith
 
 -- the refusal is the low byte of a word that has it there
 pub low-byte : (r : Refusal) (k : ℕ) → refusalIn (refusalNumber r + 256 * k) ≡ refusalNumber r
@@ -102,6 +106,20 @@ row-exact b m row n =
     (λ f.
     let s = rowStep (areaFrom n) m (length row) (stateOf b) in
     simp (e, f) (step-byte s ∙ ap refusalNumber (Steps.step-exact (rowLines (areaFrom n) m (length row)) (areaFrom n) m (stateOf b))))
+    (λ f. simp (e, f)))
+    (λ e. simp e)
+
+-- a step with layers, whatever its lines without them
+pub layer-exact :
+    (lines : RenderArea → List Line) (filled : VdpState → RenderArea → List ℕ) (b m x layers : List ℕ) (n : ℕ)
+    → refusalIn (layerCall lines filled b m x layers n .word) ≡ refusalNumber (first (stepCallLines b n (layerLines lines layers (areaFrom n))))
+unfolding layerCall
+layer-exact lines filled b m x layers n =
+    split (wellFormed b)
+    (λ e. split (leb n 1)
+    (λ f.
+    let s = stepWith (layerLines lines layers (areaFrom n)) (areaFrom n) m (stateOf b) in
+    simp (e, f) (step-byte s ∙ ap refusalNumber (Steps.step-exact (layerLines lines layers (areaFrom n)) (areaFrom n) m (stateOf b))))
     (λ f. simp (e, f)))
     (λ e. simp e)
 

@@ -22,6 +22,7 @@ use Rattle.step.specs.Step.{rowLines, frameLines, stepWith}
 use Rattle.step.proofs.Laws.{step-table}
 use Rattle.step.proofs.Kept.{write-keeps, read-keeps}
 use Rattle.face.specs.Kept.{SameTable}
+use Rattle.face.specs.Layers.{layerLines, layerCall}
 use Rattle.face.specs.Face.{Called, outCall, inputCall, stepCall, rowStepCall, dumpCall}
 use Rattle.face.proofs.Shapes.{with-shape}
 
@@ -75,6 +76,14 @@ module _ (b : List ℕ) where
     row-table-kept m row n =
         either (SameTable b) (wellFormed b)
         (λ w. either (SameTable b) (leb n 1) (λ _. stepped (rowLines (areaFrom n) m (length row)) (areaFrom n) m w refl) (λ _. same refl))
+        (λ _. same refl)
+
+    pub layer-table-kept :
+        (lines : RenderArea → List Line) (filled : VdpState → RenderArea → List ℕ) (m x layers : List ℕ) (n : ℕ) → SameTable b (layerCall lines filled b m x layers n)
+    unfolding layerCall
+    layer-table-kept lines filled m x layers n =
+        either (SameTable b) (wellFormed b)
+        (λ w. either (SameTable b) (leb n 1) (λ _. stepped (layerLines lines layers (areaFrom n)) (areaFrom n) m w refl) (λ _. same refl))
         (λ _. same refl)
 
   pub dump-table : (m pixels : List ℕ) → SameTable b (dumpCall b m pixels)

@@ -28,13 +28,15 @@ use Rattle.step.specs.declared.Stepped.{Stepped}
 use Rattle.step.specs.declared.Points.{Points}
 use Rattle.step.specs.Points.{Reads, cleaned, joined}
 use Rattle.step.specs.Step.{coloursNow, rowLines, frameLines, stepWith}
+use Rattle.step.specs.Layers.{LayersLeave}
 use Rattle.step.proofs.Laws.{step-table}
 use Rattle.step.proofs.Kept.{write-keeps, read-keeps}
 use Rattle.step.specs.declared.DrawnRow.{DrawnRow}
 use Rattle.step.specs.declared.DrawnRow.the-variants.{NoRow, Drawn}
 use Rattle.step.specs.Dump.{DumpLeaves}
 use Rattle.step.specs.Frame.{RowStepLeaves, FrameStepLeaves}
-use Rattle.picture.specs.Area.{areaFrom}
+use Rattle.picture.specs.Area.{areaFrom, columns}
+use Rattle.face.specs.Layers.{layerLines, layerOn, layerCall, layersLeft, LayerLeaves}
 use Rattle.face.specs.Face.{Called, Leaves, stepWord, onBlock, onArea, newTableCall, outOn, outCall, inputOn, inputCall, steppedTo, stepOn, stepCall, rowStepOn, rowStepCall, dumpOn, dumpCall}
 
 -- what is left, by a path from it to what the definition says
@@ -155,6 +157,17 @@ module _ (b m x : List ℕ) (n : ℕ) where
   unfolding rowStepCall
   row-unknown = unknown (rowStepOn m x (length b))
 
+  -- the same of a step with layers
+  pub layer-bad : (lines : RenderArea → List Line) (filled : VdpState → RenderArea → List ℕ) (layers : List ℕ) {r : ℕ} → wellFormed b ≡ false → r ≡ refusalNumber BlockMalformed
+      → LayerLeaves lines filled b m x layers n r b x layers
+  unfolding layerCall layersLeft
+  layer-bad lines filled layers w er = record { call = bad (layerOn lines filled m x layers (length b)) w er; owners = rw w }
+
+  pub layer-unknown : (lines : RenderArea → List Line) (filled : VdpState → RenderArea → List ℕ) (layers : List ℕ) {r : ℕ} → wellFormed b ≡ true → 1 < n → r ≡ refusalNumber UnknownArea
+      → LayerLeaves lines filled b m x layers n r b x layers
+  unfolding layerCall layersLeft
+  layer-unknown lines filled layers w h er = record { call = unknown (layerOn lines filled m x layers (length b)) w h er; owners = rw (w, lt-leb n 1 h) }
+
   -- a step, by what its points answer and leave, the block that they are stored in, and their word
   module _
       {a : RenderArea} {points : Points} {reg : List ℕ} {raster : Raster} {status : ℕ} {colours b′ x′ : List ℕ} {r : ℕ}
@@ -182,6 +195,18 @@ module _ (b m x : List ℕ) (n : ℕ) where
       pub row-kept : ((d : VdpState) → Reads d reg raster status colours → RowStepLeaves a m d x (joined d points) x′) → Leaves (rowStepCall b m x n) r b′ x′
       unfolding rowStepCall
       row-kept l = let k = l (stateOf b) g in stored (rowStepOn m x (length b)) (rowLines a m (length x)) refl (k .answer) (k .bytes)
+
+      pub layer-kept :
+          (lines : RenderArea → List Line) (filled : VdpState → RenderArea → List ℕ) (layers : List ℕ) {layers′ : List ℕ}
+          → ((d : VdpState) → Reads d reg raster status colours → LayersLeave (columns a) (lines a) a m d x (filled d a) layers (joined d points) x′ layers′)
+          → LayerLeaves lines filled b m x layers n r b′ x′ layers′
+      unfolding layerCall layersLeft
+      layer-kept lines filled layers l =
+          let k = l (stateOf b) g in
+          record {
+            call = stored (layerOn lines filled m x layers (length b)) (layerLines lines layers a) refl (k .answer) (k .bytes);
+            owners = k .owners ∙ rw (w, le-leb n 1 h, ea);
+          }
 
 -- a step's colours keep the sizes
 pub cleaned-sized : (r : DrawnRow) (s : VdpState) (colours : List ℕ) → Sized s → Sized (cleaned r s colours)

@@ -4,3 +4,4 @@ pub mod Refused
 pub mod Version
 pub mod Tiles
 pub mod Kept
+pub mod Layers

@@ -10,6 +10,7 @@ ghost use Rattle.step.specs.Step.{interruptNumber, reportNumber, coloursNow};
 ghost use Rattle.step.specs.Points.{cleaned, joined};
 ghost use Rattle.face.specs.Tiles.{writeTileCall, readTileCall};
 ghost use Rattle.face.specs.Face.{rowBits, stepWord, newTableCall, newCall, outCall, inputCall, stepCall, rowStepCall, dumpCall, Leaves};
+ghost use Rattle.face.specs.Layers.{LayerRowLeaves, LayerFrameLeaves};
 ghost use Rattle.face.specs.Version.{version};
 use step::DisplayRefresh;
 use step::DrawnRow;
@@ -200,6 +201,70 @@ pub extern "C" fn vdp_row_step(state: &mut [u8], vram: &[u8], row: &mut [u8], ar
     word_of(points)
 }
 
+// The step on a frame, with the layers of the row's columns, which go to the first bytes of the layer buffer.
+#[no_mangle]
+pub extern "C" fn vdp_layer_step(
+    state: &mut [u8],
+    vram: &[u8],
+    frame: &mut [u8],
+    layers: &mut [u8],
+    area: u8,
+) -> u32
+    ensures { λ r. ⌜ LayerFrameLeaves (now (state .entry)) (now (vram .entry)) (now (frame .entry)) (now (layers .entry)) area r (now (state .exit)) (now (frame .exit)) (now (layers .exit)) ⌝ }
+{
+    if !block::well_formed(state) {
+        return number(Refusal::BlockMalformed);
+    }
+    if 1 < area {
+        return number(Refusal::UnknownArea);
+    }
+    let colours = colours_of(state);
+    let points = step::layer_frame_points(
+        block::registers(state),
+        block::raster_in(state),
+        state[2],
+        &colours,
+        vram,
+        frame,
+        layers,
+        picture::area_from(area),
+    );
+    store(state, points, &colours);
+    word_of(points)
+}
+
+// The same of the step on a row buffer.
+#[no_mangle]
+pub extern "C" fn vdp_layer_row_step(
+    state: &mut [u8],
+    vram: &[u8],
+    row: &mut [u8],
+    layers: &mut [u8],
+    area: u8,
+) -> u32
+    ensures { λ r. ⌜ LayerRowLeaves (now (state .entry)) (now (vram .entry)) (now (row .entry)) (now (layers .entry)) area r (now (state .exit)) (now (row .exit)) (now (layers .exit)) ⌝ }
+{
+    if !block::well_formed(state) {
+        return number(Refusal::BlockMalformed);
+    }
+    if 1 < area {
+        return number(Refusal::UnknownArea);
+    }
+    let colours = colours_of(state);
+    let points = step::layer_row_points(
+        block::registers(state),
+        block::raster_in(state),
+        state[2],
+        &colours,
+        vram,
+        row,
+        layers,
+        picture::area_from(area),
+    );
+    store(state, points, &colours);
+    word_of(points)
+}
+
 // All tiles into the pixels; the block is only read.
 #[no_mangle]
 pub extern "C" fn vdp_dump_tileset(state: &[u8], vram: &[u8], pixels: &mut [u8]) -> u32
@@ -218,7 +283,7 @@ pub extern "C" fn vdp_dump_tileset(state: &[u8], vram: &[u8], pixels: &mut [u8])
 pub extern "C" fn vdp_version() -> u32
     ensures { λ r. ⌜ r ≡ version ⌝ }
 {
-    262144
+    262400
 }
 
 // The tile of these 64 codes into video memory; no device is asked.

@@ -3,4 +3,5 @@ pub mod Tile
 pub mod View
 pub mod Picture
 pub mod Area
+pub mod Layers
 pub mod Examples

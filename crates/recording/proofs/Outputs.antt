@@ -16,8 +16,8 @@ use Rattle.picture.specs.declared.RenderArea.{RenderArea}
 use Rattle.vdp.specs.declared.VdpState.{VdpState}
 use Rattle.recording.specs.declared.run.Run.{Run}
 use Rattle.recording.specs.Text.{numbered, endLine, badLine, longLine}
-use Rattle.recording.specs.Run.{World, Turn, start, rowTurn, frameTurn, after, lines, ran}
-use Rattle.recording.specs.Output.{lastLine, text, printed, pixels, header, ppm, drawn, pictured, Left, left, leaves, traced, snapped, TraceLeaves, SnapshotLeaves}
+use Rattle.recording.specs.Run.{World, Turn, start, rowTurn, after, lines, ran}
+use Rattle.recording.specs.Output.{lastLine, text, printed, pixels, header, ppm, drawn, pictured, Left, left, leaves, traced, snapped, TraceLeaves, PictureLeaves}
 use Rattle.laws.proofs.Lists.{written-nil, written-on}
 use Rattle.laws.proofs.Tests.{either}
 use Rattle.recording.proofs.Lines.{decimal-short, grow}
@@ -135,36 +135,38 @@ module _ (s : List ℕ) (w : World) (o : List ℕ) where
         let b : text s w ≡ printed s w = rw (le-ltb 65535 (length s) k) in
         whole (leb 327700 (length o)) rowTurn (printed s w) s w o (le-leb 327700 (length o) h) k ex (p .0 ∙ ap length b) (p .1 ∙ ap (written o 0) b)
 
-  pub snapshot-no-room : length o < 69135 → left w 0 o ≡ snapped s w o
+-- with steps made as `step` makes them
+module _ (step : RenderArea → World → Turn) (s : List ℕ) (w : World) (o : List ℕ) where
+  pub snapshot-no-room : length o < 69135 → left w 0 o ≡ snapped step s w o
   unfolding snapped
   snapshot-no-room h =
-      no-room (leb 69135 (length o) && eqb (length (w .frame)) 92160) frameTurn (pictured s w) s w o (rw (lt-leb 69135 (length o) h))
+      no-room (leb 69135 (length o) && eqb (length (w .frame)) 92160) step (pictured step s w) s w o (rw (lt-leb 69135 (length o) h))
 
   module _ (h : 69135 ≤ length o) where
-    pub snapshot-no-frame : length (w .frame) ≢ 92160 → left w 0 o ≡ snapped s w o
+    pub snapshot-no-frame : length (w .frame) ≢ 92160 → left w 0 o ≡ snapped step s w o
     unfolding snapped
     snapshot-no-frame k =
-        no-room (leb 69135 (length o) && eqb (length (w .frame)) 92160) frameTurn (pictured s w) s w o
+        no-room (leb 69135 (length o) && eqb (length (w .frame)) 92160) step (pictured step s w) s w o
         (rw (le-leb 69135 (length o) h, ne-eqb (length (w .frame)) 92160 k))
 
     module _ (g : length (w .frame) ≡ 92160) where
       enough : (leb 69135 (length o) && eqb (length (w .frame)) 92160) ≡ true
       enough = rw (le-leb 69135 (length o) h, eq-eqb (length (w .frame)) 92160 g)
 
-      pub snapshot-long : 65535 < length s → {n : ℕ} {o′ : List ℕ} → n ≡ length longLine → o′ ≡ written o 0 longLine → left w n o′ ≡ snapped s w o
+      pub snapshot-long : 65535 < length s → {n : ℕ} {o′ : List ℕ} → n ≡ length longLine → o′ ≡ written o 0 longLine → left w n o′ ≡ snapped step s w o
       unfolding snapped pictured
       snapshot-long k en eo =
-          let b : longLine ≡ pictured s w = rw (lt-ltb 65535 (length s) k) in
-          too-long (leb 69135 (length o) && eqb (length (w .frame)) 92160) frameTurn (pictured s w) s w o enough k (en ∙ ap length b) (eo ∙ ap (written o 0) b)
+          let b : longLine ≡ pictured step s w = rw (lt-ltb 65535 (length s) k) in
+          too-long (leb 69135 (length o) && eqb (length (w .frame)) 92160) step (pictured step s w) s w o enough k (en ∙ ap length b) (eo ∙ ap (written o 0) b)
 
       pub snapshot-whole :
-          length s ≤ 65535 → {x : World} {n : ℕ} {o′ : List ℕ} → x ≡ after frameTurn (length s) s w
-          → (n ≡ length (drawn s (x .run) (x .frame))) × (o′ ≡ written o 0 (drawn s (x .run) (x .frame))) → left x n o′ ≡ snapped s w o
+          length s ≤ 65535 → {x : World} {n : ℕ} {o′ : List ℕ} → x ≡ after step (length s) s w
+          → (n ≡ length (drawn s (x .run) (x .frame))) × (o′ ≡ written o 0 (drawn s (x .run) (x .frame))) → left x n o′ ≡ snapped step s w o
       unfolding snapped pictured ran
       snapshot-whole k {x} ex p =
-          let b : drawn s (x .run) (x .frame) ≡ pictured s w =
+          let b : drawn s (x .run) (x .frame) ≡ pictured step s w =
           ap (λ (y : World). drawn s (y .run) (y .frame)) ex ∙ sym (rw (le-ltb 65535 (length s) k)) in
-          whole (leb 69135 (length o) && eqb (length (w .frame)) 92160) frameTurn (pictured s w) s w o enough k ex (p .0 ∙ ap length b) (p .1 ∙ ap (written o 0) b)
+          whole (leb 69135 (length o) && eqb (length (w .frame)) 92160) step (pictured step s w) s w o enough k ex (p .0 ∙ ap length b) (p .1 ∙ ap (written o 0) b)
 
 pub trace-leaves :
     {d : VdpState} {s vram row o : List ℕ} (x : World) {n : ℕ} {o′ : List ℕ} → left x n o′ ≡ traced s (start d vram row []) o
@@ -178,9 +180,9 @@ trace-leaves x e =
     }
 
 pub snapshot-leaves :
-    {d : VdpState} {s vram row frame o : List ℕ} (x : World) {n : ℕ} {o′ : List ℕ} → left x n o′ ≡ snapped s (start d vram row frame) o
-    → SnapshotLeaves d s vram row frame o n (x .vram) (x .row) (x .frame) o′
-snapshot-leaves x e =
+    {d : VdpState} {s vram row frame o : List ℕ} (step : RenderArea → World → Turn) (x : World) {n : ℕ} {o′ : List ℕ} → left x n o′ ≡ snapped step s (start d vram row frame) o
+    → PictureLeaves step d s vram row frame o n (x .vram) (x .row) (x .frame) o′
+snapshot-leaves step x e =
     record {
       count = ap (λ (l : Left). l .len) e;
       bytes = ap (λ (l : Left). l .out) e;

@@ -26,10 +26,12 @@ use Rattle.recording.specs.declared.record.Record.the-variants.{Write, R
 use Rattle.recording.specs.declared.text.Answer.{Answer}
 use Rattle.recording.specs.declared.text.Answer.the-variants as Says
 use Rattle.recording.specs.declared.run.Run.{Run}
+use Rattle.recording.specs.declared.run.Shown.{Shown}
+use Rattle.recording.specs.declared.run.Shown.the-variants.{Colours, Layers}
 use Rattle.recording.specs.declared.run.Turned.{Turned}
 use Rattle.recording.specs.Record.{recordAt, marked}
 use Rattle.recording.specs.Text.{digitOf, decimal, hexDigit, lineOf}
-use Rattle.recording.specs.Run.{World, Turn, held, stepAnswer, rowTurn, frameTurn, turnBy, turnOf, after, lines, TurnLeaves}
+use Rattle.recording.specs.Run.{World, Turn, held, stepAnswer, rowTurn, frameTurn, layerTurn, turnFor, turnBy, turnOf, after, lines, TurnLeaves}
 use Rattle.recording.proofs.Lines.{decimal-short, one, grow}
 
 -- ---- how long a record is, and how long its line
@@ -89,7 +91,7 @@ stepped-short f c i d =
     let k = ap length (stepped-line f c i d) ∙ ap (λ (m : ℕ). suc (suc m)) (length-append (decimal n) (rest c i d)) in
     omega (arith, decimal-short n)
 
--- ---- both ways to make a step move one record and three bytes on, and print a short line
+-- ---- all ways to make a step move one record and three bytes on, and print a short line
 pub record Moves (step : RenderArea → World → Turn) : Type 0 where
   pub place : (a : RenderArea) (w : World) → step a w .world .run .at ≡ w .run .at + 3
   pub counts : (a : RenderArea) (w : World) → step a w .world .run .count ≡ w .run .count + 1
@@ -122,6 +124,27 @@ frame-moves = record { place = place; counts = counts; short = short }
     short : (a : RenderArea) (w : World) → length (lineOf (frameTurn a w .answer)) ≤ 15
     short VisibleOnly w = answer-short (frameStep VisibleOnly (w .vram) (length (w .frame)) (w .run .vdp))
     short EffectiveArea w = row-moves .short EffectiveArea w
+
+pub layer-moves : Moves layerTurn
+unfolding layerTurn
+layer-moves = record { place = place; counts = counts; short = short }
+  where
+    place : (a : RenderArea) (w : World) → layerTurn a w .world .run .at ≡ w .run .at + 3
+    place VisibleOnly w = refl
+    place EffectiveArea w = row-moves .place EffectiveArea w
+
+    counts : (a : RenderArea) (w : World) → layerTurn a w .world .run .count ≡ w .run .count + 1
+    counts VisibleOnly w = refl
+    counts EffectiveArea w = row-moves .counts EffectiveArea w
+
+    short : (a : RenderArea) (w : World) → length (lineOf (layerTurn a w .answer)) ≤ 15
+    short VisibleOnly w = answer-short (rowStep VisibleOnly (w .vram) (length (w .row)) (w .run .vdp))
+    short EffectiveArea w = row-moves .short EffectiveArea w
+
+-- whatever the frame shows
+pub moves-for : (shown : Shown) → Moves (turnFor shown)
+moves-for Colours = frame-moves
+moves-for Layers = layer-moves
 
 -- ---- a run stays in its recording, and prints at most five bytes for each byte that it has read
 pub record Small (n : ℕ) (r : Run) (t : List ℕ) : Type 0 where

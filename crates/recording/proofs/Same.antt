@@ -3,10 +3,11 @@
 -- Assumes nothing.
 use mathlib.Core.Path.{_≡_, refl, sym, ap, _∙_}
 use mathlib.Core.List.{List, [], _++_}
-use Prim.Native.Nat.{ℕ, zero, suc, _+_, _≤_}
+use Prim.Native.Nat.{ℕ, zero, suc, _+_, _*_, _≤_}
 use native.Mathlib.Omega.{arith}
 use lib.Dec.{ltb}
 use lib.ListN.{length, length-set}
+use Rattle.laws.proofs.Paint.{length-painted}
 use Rattle.laws.proofs.Tests.{either}
 use Rattle.picture.specs.declared.RenderArea.{RenderArea}
 use Rattle.picture.specs.declared.RenderArea.the-variants.{VisibleOnly, EffectiveArea}
@@ -19,16 +20,22 @@ use Rattle.vdp.specs.Refusals.{Line, whole, isPort}
 use Rattle.vdp.proofs.Tables.{Passed}
 use Rattle.vdp.specs.Device.{unlatched}
 use Rattle.vdp.specs.Ports.{After, dataBy, portWrite, portRead}
+use Rattle.step.specs.declared.DrawnRow.{DrawnRow}
+use Rattle.step.specs.declared.DrawnRow.the-variants.{NoRow, Drawn}
 use Rattle.step.specs.declared.Stepped.{Stepped}
-use Rattle.step.specs.Step.{stepped, rowLines, frameLines, stepWith}
+use Rattle.step.specs.Step.{counterUp, stepped, rowLines, frameLines, stepWith, rowStep}
+use Rattle.step.specs.Frame.{rowAfter}
 use Rattle.step.proofs.Laws.{step-accepted, row-passes, frame-passes, row-step-length, frame-step-length}
+use Rattle.step.specs.Layers.{rowLayers}
 use Rattle.recording.specs.declared.record.Record.{Record}
 use Rattle.recording.specs.declared.record.Record.the-variants.{Write, Read, Step, Bad, End}
 use Rattle.recording.specs.declared.text.Answer.the-variants as Says
 use Rattle.recording.specs.declared.run.Run.{Run}
+use Rattle.recording.specs.declared.run.Shown.{Shown}
+use Rattle.recording.specs.declared.run.Shown.the-variants.{Colours, Layers}
 use Rattle.recording.specs.Record.{recordAt}
 use Rattle.recording.specs.Text.{lineOf}
-use Rattle.recording.specs.Run.{World, Turn, start, on, stepAnswer, rowTurn, frameTurn, turnBy, turnOf, after, lines}
+use Rattle.recording.specs.Run.{World, Turn, held, start, on, stepAnswer, rowTurn, frameTurn, layersPainted, layerTurn, turnFor, turnBy, turnOf, after, lines}
 
 -- video memory keeps its length
 data-length : (d : WriteDest) (s : VdpState) (m : List ℕ) (v : ℕ) → length (dataBy d s m v .vram) ≡ length m
@@ -81,48 +88,54 @@ same-answer e = ap stepAnswer e
 same-run : {r q : Run} {x y : Stepped} → r ≡ q → x ≡ y → on r 3 (x .vdp) ≡ on q 3 (y .vdp)
 same-run e f = λ i. on (e i) 3 (f i .vdp)
 
-step-both : (a : RenderArea) {t w : World} → Alike t w → SameTurn (rowTurn a t) (frameTurn a w)
-unfolding rowTurn frameTurn
-step-both VisibleOnly {t} {w} h =
-    let r = h .rows in
-    let f = h .frame in
-    let e =
-    same-step VisibleOnly (rowLines VisibleOnly (t .vram) (length (t .row))) (frameLines VisibleOnly (w .vram) (length (w .frame))) h
-    (row-taken VisibleOnly h (omega arith)) (frame-passes VisibleOnly (w .vram) (length (w .frame)) (memory′ h) f)
-    in
+-- the world after such a step, in the row buffers and the frame: r′ is the other row buffer after it
+after-step : (a : RenderArea) {t w : World} {x y : Stepped} {r′ f′ : List ℕ} → Alike t w → x ≡ y → length r′ ≡ length (w .row) → length f′ ≡ length (w .frame)
+    → Alike (held (on (t .run) 3 (x .vdp)) (t .vram) (rowAfter a (t .vram) (t .run .vdp) (t .row)) (t .frame)) (held (on (w .run) 3 (y .vdp)) (w .vram) r′ f′)
+after-step a {t} {w} h e er ef =
     record {
-      answer = same-answer e;
-      world = record {
-        runs = same-run (h .runs) e;
-        memory = h .memory;
-        vram = h .vram;
-        rows = omega (arith, row-step-length VisibleOnly (t .vram) (t .run .vdp) (t .row));
-        rows′ = h .rows′;
-        frame = omega (arith, frame-step-length VisibleOnly (w .vram) (w .run .vdp) (w .frame));
-      };
-    }
-step-both EffectiveArea {t} {w} h =
-    let r = h .rows in
-    let r′ = h .rows′ in
-    let e =
-    same-step EffectiveArea (rowLines EffectiveArea (t .vram) (length (t .row))) (rowLines EffectiveArea (w .vram) (length (w .row))) h
-    (row-taken EffectiveArea h r) (row-passes EffectiveArea (w .vram) (length (w .row)) (memory′ h) r′)
-    in
-    record {
-      answer = same-answer e;
-      world = record {
-        runs = same-run (h .runs) e;
-        memory = h .memory;
-        vram = h .vram;
-        rows = omega (arith, row-step-length EffectiveArea (t .vram) (t .run .vdp) (t .row));
-        rows′ = omega (arith, row-step-length EffectiveArea (w .vram) (w .run .vdp) (w .row));
-        frame = h .frame;
-      };
+      runs = same-run (h .runs) e;
+      memory = h .memory;
+      vram = h .vram;
+      rows = omega (arith, row-step-length a (t .vram) (t .run .vdp) (t .row), h .rows);
+      rows′ = omega (arith, er, h .rows′);
+      frame = ef ∙ h .frame;
     }
 
-turn-by : (x : Record) {t w : World} → Alike t w → SameTurn (turnBy x rowTurn t) (turnBy x frameTurn w)
+length-painted-layers : (r : DrawnRow) (layer : ℕ → ℕ → ℕ) (frame : List ℕ) → length (layersPainted r layer frame) ≡ length frame
+length-painted-layers NoRow layer frame = refl
+length-painted-layers (Drawn y) layer frame = length-painted frame (160 * y) 160 _
+
+-- a step into the row buffer in both
+row-both : (a : RenderArea) {t w : World} → Alike t w → rowSize a ≤ 1024
+    → rowStep a (t .vram) (length (t .row)) (t .run .vdp) ≡ rowStep a (w .vram) (length (w .row)) (w .run .vdp)
+row-both a {t} {w} h k =
+    let r = h .rows in
+    let r′ = h .rows′ in
+    same-step a (rowLines a (t .vram) (length (t .row))) (rowLines a (w .vram) (length (w .row))) h (row-taken a h (omega arith))
+    (row-passes a (w .vram) (length (w .row)) (memory′ h) (omega arith))
+
+step-both : (shown : Shown) (a : RenderArea) {t w : World} → Alike t w → SameTurn (rowTurn a t) (turnFor shown a w)
+unfolding rowTurn frameTurn layerTurn
+step-both Colours VisibleOnly {t} {w} h =
+    let r = h .rows in
+    let e =
+    same-step VisibleOnly (rowLines VisibleOnly (t .vram) (length (t .row))) (frameLines VisibleOnly (w .vram) (length (w .frame))) h
+    (row-taken VisibleOnly h (omega arith)) (frame-passes VisibleOnly (w .vram) (length (w .frame)) (memory′ h) (h .frame))
+    in
+    record { answer = same-answer e; world = after-step VisibleOnly h e refl (frame-step-length VisibleOnly (w .vram) (w .run .vdp) (w .frame)) }
+step-both Layers VisibleOnly {t} {w} h =
+    let e = row-both VisibleOnly h (omega arith) in
+    record { answer = same-answer e; world = after-step VisibleOnly h e (row-step-length VisibleOnly (w .vram) (w .run .vdp) (w .row)) (length-painted-layers (rowStep VisibleOnly (w .vram) (length (w .row)) (w .run .vdp) .row) (rowLayers VisibleOnly (w .vram) (counterUp (w .run .vdp))) (w .frame)) }
+step-both Colours EffectiveArea {t} {w} h =
+    let e = row-both EffectiveArea h (omega arith) in
+    record { answer = same-answer e; world = after-step EffectiveArea h e (row-step-length EffectiveArea (w .vram) (w .run .vdp) (w .row)) refl }
+step-both Layers EffectiveArea {t} {w} h =
+    let e = row-both EffectiveArea h (omega arith) in
+    record { answer = same-answer e; world = after-step EffectiveArea h e (row-step-length EffectiveArea (w .vram) (w .run .vdp) (w .row)) refl }
+
+turn-by : (shown : Shown) (x : Record) {t w : World} → Alike t w → SameTurn (turnBy x rowTurn t) (turnBy x (turnFor shown) w)
 unfolding turnBy
-turn-by (Write p v) {t} {w} h =
+turn-by shown (Write p v) {t} {w} h =
     let e : portWrite (t .run .vdp) (t .vram) p v ≡ portWrite (w .run .vdp) (w .vram) p v = λ i. portWrite (h .runs i .vdp) (h .memory i) p v in
     record {
       answer = ap (λ (a : After). Says.Wrote (a .answer .refusal)) e;
@@ -135,7 +148,7 @@ turn-by (Write p v) {t} {w} h =
         frame = h .frame;
       };
     }
-turn-by (Read p) {t} {w} h =
+turn-by shown (Read p) {t} {w} h =
     let e : portRead (t .run .vdp) (t .vram) p ≡ portRead (w .run .vdp) (w .vram) p = λ i. portRead (h .runs i .vdp) (h .memory i) p in
     record {
       answer = ap (λ (a : ReadBack). Says.Gave (a .refusal) (a .byte)) e;
@@ -148,29 +161,29 @@ turn-by (Read p) {t} {w} h =
         frame = h .frame;
       };
     }
-turn-by (Step a) h = step-both a h
-turn-by Bad h = record { answer = refl; world = h }
-turn-by End h = record { answer = refl; world = h }
+turn-by shown (Step a) h = step-both shown a h
+turn-by shown Bad h = record { answer = refl; world = h }
+turn-by shown End h = record { answer = refl; world = h }
 
 -- one turn, and so all of them
-same-turn : (s : List ℕ) {t w : World} → Alike t w → SameTurn (turnOf rowTurn s t) (turnOf frameTurn s w)
+same-turn : (shown : Shown) (s : List ℕ) {t w : World} → Alike t w → SameTurn (turnOf rowTurn s t) (turnOf (turnFor shown) s w)
 unfolding turnOf
-same-turn s {t} {w} h = rw (ap (λ (r : Run). recordAt s (r .at)) (h .runs)) (turn-by (recordAt s (w .run .at)) h)
+same-turn shown s {t} {w} h = rw (ap (λ (r : Run). recordAt s (r .at)) (h .runs)) (turn-by shown (recordAt s (w .run .at)) h)
 
-pub alike : (n : ℕ) (s : List ℕ) {t w : World} → Alike t w → Alike (after rowTurn n s t) (after frameTurn n s w)
+pub alike : (shown : Shown) (n : ℕ) (s : List ℕ) {t w : World} → Alike t w → Alike (after rowTurn n s t) (after (turnFor shown) n s w)
 unfolding after
-alike zero s h = h
-alike (suc n) s h = same-turn s (alike n s h) .world
+alike shown zero s h = h
+alike shown (suc n) s h = same-turn shown s (alike shown n s h) .world
 
-pub same-lines : (n : ℕ) (s : List ℕ) {t w : World} → Alike t w → lines rowTurn n s t ≡ lines frameTurn n s w
+pub same-lines : (shown : Shown) (n : ℕ) (s : List ℕ) {t w : World} → Alike t w → lines rowTurn n s t ≡ lines (turnFor shown) n s w
 unfolding lines
-same-lines zero s h = refl
-same-lines (suc n) s h = λ i. same-lines n s h i ++ lineOf (same-turn s (alike n s h) .answer i)
+same-lines shown zero s h = refl
+same-lines shown (suc n) s h = λ i. same-lines shown n s h i ++ lineOf (same-turn shown s (alike shown n s h) .answer i)
 
--- the two programs, as they start on any device: 16,384 bytes of video memory, a row buffer of 1,024 and a frame of 92,160
+-- the programs, as they start on any device, whatever the frame shows: 16,384 bytes of video memory, a row buffer of 1,024 and a frame of 92,160
 pub programs :
-    (d : VdpState) (n : ℕ) (s vram row frame : List ℕ) → length vram ≡ 16384 → length row ≡ 1024 → length frame ≡ 92160
-    → Alike (after rowTurn n s (start d vram row [])) (after frameTurn n s (start d vram row frame))
-programs d n s vram row frame v r f =
-    alike n s
+    (shown : Shown) (d : VdpState) (n : ℕ) (s vram row frame : List ℕ) → length vram ≡ 16384 → length row ≡ 1024 → length frame ≡ 92160
+    → Alike (after rowTurn n s (start d vram row [])) (after (turnFor shown) n s (start d vram row frame))
+programs shown d n s vram row frame v r f =
+    alike shown n s
     (record { runs = refl; memory = refl; vram = v; rows = omega arith; rows′ = omega arith; frame = omega arith })

@@ -1,19 +1,38 @@
 -- One record of a recording: what its call leaves.
 -- Assumes nothing.
 use mathlib.Core.Path.{_≡_, refl, sym, ap, _∙_}
-use mathlib.Core.List.{List}
-use Prim.Native.Nat.{ℕ}
+use mathlib.Core.Logic.{_⊎_, inl, inr}
+use mathlib.Core.List.{List, [], _∷_}
+use Prim.Native.Nat.{ℕ, _*_, _≤_}
+use native.Mathlib.Omega.{arith}
+use lib.ListN.{length}
+use Rattle.laws.specs.Lists.{at}
+use Rattle.laws.specs.Paint.{painted}
+use Rattle.laws.proofs.Paint.{painted-cong}
+use Rattle.laws.proofs.Tests.{split}
+use Rattle.picture.proofs.Layers.{layersIn-at}
 use Rattle.picture.specs.declared.RenderArea.{RenderArea}
 use Rattle.picture.specs.declared.RenderArea.the-variants.{VisibleOnly, EffectiveArea}
+use Rattle.vdp.specs.declared.VdpState.{VdpState}
+use Rattle.vdp.specs.Refusals.{Line}
 use Rattle.vdp.specs.Ports.{portWrite, portRead}
+use Rattle.step.specs.declared.DrawnRow.{DrawnRow}
+use Rattle.step.specs.declared.DrawnRow.the-variants.{NoRow, Drawn}
 use Rattle.step.specs.declared.Stepped.{Stepped}
-use Rattle.step.specs.Frame.{RowStepLeaves, FrameStepLeaves}
+use Rattle.step.specs.Step.{lineOf, counterUp, rowOn, stepped, rowLines, stepWith, rowStep}
+use Rattle.step.specs.Points.{RowIn}
+use Rattle.step.specs.Frame.{rowAfter, RowStepLeaves, FrameStepLeaves}
+use Rattle.step.specs.Layers.{alsoLayers, rowLayers, layersBy, layersAfter, RowLayersLeave}
+use Rattle.step.proofs.Rows.{row-in}
+use Rattle.step.proofs.Steps.{aside}
 use Rattle.recording.specs.declared.record.Record.{Record}
 use Rattle.recording.specs.declared.record.Record.the-variants.{Write, Read, Step, Bad, End}
 use Rattle.recording.specs.declared.text.Answer.the-variants as Says
+use Rattle.recording.specs.declared.run.Shown.{Shown}
+use Rattle.recording.specs.declared.run.Shown.the-variants.{Colours, Layers}
 use Rattle.recording.specs.declared.run.Turned.{Turned}
 use Rattle.recording.specs.Record.{recordAt}
-use Rattle.recording.specs.Run.{World, Turn, held, on, stepAnswer, rowTurn, frameTurn, turnBy, turnOf, TurnLeaves}
+use Rattle.recording.specs.Run.{World, Turn, held, on, stepAnswer, rowTurn, frameTurn, layerColour, layersPainted, layerTurn, turnFor, turnBy, turnOf, TurnLeaves}
 
 -- the same turn, said in another way
 same-turn : {u v : Turn} {t : Turned} {vram row frame : List ℕ} → u ≡ v → TurnLeaves u t vram row frame → TurnLeaves v t vram row frame
@@ -31,23 +50,90 @@ row-stepped a w h ea er =
     }
 
 pub frame-stepped :
-    {a : RenderArea} (w : World) {k : Stepped} {frame : List ℕ} {t : Turned} → a ≡ VisibleOnly
-    → FrameStepLeaves a (w .vram) (w .run .vdp) (w .frame) k frame → t .answer ≡ stepAnswer k → t .run ≡ on (w .run) 3 (k .vdp)
-    → TurnLeaves (frameTurn a w) t (w .vram) (w .row) frame
+    (w : World) {k : Stepped} {frame : List ℕ} {t : Turned} → FrameStepLeaves VisibleOnly (w .vram) (w .run .vdp) (w .frame) k frame
+    → t .answer ≡ stepAnswer k → t .run ≡ on (w .run) 3 (k .vdp) → TurnLeaves (frameTurn VisibleOnly w) t (w .vram) (w .row) frame
 unfolding frameTurn
-frame-stepped {a} w {k} {frame} {t} e h ea er =
-    let g = rw e at h in
-    rw e
-    (record {
+frame-stepped w {k} {frame} {t} g ea er =
+    record {
       answer = ea ∙ ap stepAnswer (g .answer);
       world = λ i. held ((er ∙ ap (λ (s : Stepped). on (w .run) 3 (s .vdp)) (g .answer)) i) (w .vram) (w .row) (g .bytes i);
-    })
+    }
+
+-- ---- a step whose layers the frame shows
+-- a step draws no row, or it is the accepted one, and the layers are told
+told-or-not :
+    (ls : List Line) (a : RenderArea) (vram : List ℕ) (d : VdpState) (layers : List ℕ)
+    → (stepWith ls a vram d .row ≡ NoRow)
+    ⊎ ((stepWith ls a vram d .row ≡ rowOn a (lineOf (counterUp d))) × (layersAfter ls a vram d layers ≡ layersBy (rowOn a (lineOf (counterUp d))) a vram (counterUp d) layers))
+unfolding stepWith layersAfter stepped
+told-or-not [] a vram d layers = inr (refl, refl)
+told-or-not (l ∷ ls) a vram d layers = split (l .holds) (λ t. inl (rw t)) (λ t. rw t (told-or-not ls a vram d layers))
+
+module _ (vram : List ℕ) (d : VdpState) (frame layers : List ℕ) (n : length layers ≡ 160) where
+  shown-layers : (y : ℕ) → painted frame (160 * y) 160 (λ x. layerColour (at (layersBy (Drawn y) VisibleOnly vram (counterUp d) layers) x))
+      ≡ painted frame (160 * y) 160 (λ x. layerColour (rowLayers VisibleOnly vram (counterUp d) y x))
+  unfolding layersBy
+  shown-layers y =
+      let h : 160 ≤ length layers = omega arith in
+      painted-cong frame (160 * y) 160 _ _ (λ x i. ap layerColour (layersIn-at layers 160 (rowLayers VisibleOnly vram (counterUp d) y) h x i))
+
+  painted-by : (r : DrawnRow) → layersPainted r (λ y. at (layersBy r VisibleOnly vram (counterUp d) layers)) frame ≡ layersPainted r (rowLayers VisibleOnly vram (counterUp d)) frame
+  painted-by NoRow = refl
+  painted-by (Drawn y) = shown-layers y
+
+  painted-is :
+      (ls : List Line) {r : DrawnRow} {layers′ : List ℕ} → r ≡ stepWith ls VisibleOnly vram d .row → layers′ ≡ layersAfter ls VisibleOnly vram d layers
+      → layersPainted r (λ y. at layers′) frame ≡ layersPainted r (rowLayers VisibleOnly vram (counterUp d)) frame
+  painted-is ls {r} er el =
+      elim (told-or-not ls VisibleOnly vram d layers) [
+        | inl z ↦ rw (er ∙ z)
+        | inr z ↦ rw (er ∙ z .0, el ∙ z .1) (painted-by (rowOn VisibleOnly (lineOf (counterUp d))))
+      ]
+
+  -- the row that is drawn is one of the area's
+  pub row-told : (ls : List Line) {r : DrawnRow} → r ≡ stepWith ls VisibleOnly vram d .row → RowIn VisibleOnly r
+  row-told ls er =
+      elim (told-or-not ls VisibleOnly vram d layers) [
+        | inl z ↦ λ y q. absurd (let k : NoRow ≡ Drawn y = sym (er ∙ z) ∙ q in let o : _≡_ {A = ℕ} 0 1 = cc in omega arith)
+        | inr z ↦ row-in VisibleOnly (lineOf (counterUp d)) (er ∙ z .0)
+      ]
+
+pub layer-stepped :
+    (w : World) (layers : List ℕ) {k : Stepped} {row layers′ frame : List ℕ} {t : Turned} → length layers ≡ 160
+    → RowLayersLeave 160 VisibleOnly (w .vram) (w .run .vdp) (w .row) layers k row layers′ → frame ≡ layersPainted (k .row) (λ y. at layers′) (w .frame)
+    → t .answer ≡ stepAnswer k → t .run ≡ on (w .run) 3 (k .vdp) → TurnLeaves (layerTurn VisibleOnly w) t (w .vram) row frame
+unfolding layerTurn
+layer-stepped w layers {k} {row} {layers′} {frame} {t} n g ef ea er =
+    let room : 160 ≤ length layers = omega arith in
+    let ls = rowLines VisibleOnly (w .vram) (length (w .row)) in
+    let al = alsoLayers 160 (length layers) ls in
+    let s = aside VisibleOnly (w .vram) (w .run .vdp) (w .row) layers room in
+    let q : k ≡ rowStep VisibleOnly (w .vram) (length (w .row)) (w .run .vdp) = g .answer ∙ s .0 in
+    let b : row ≡ rowAfter VisibleOnly (w .vram) (w .run .vdp) (w .row) = g .bytes ∙ s .1 in
+    let f : frame ≡ layersPainted (rowStep VisibleOnly (w .vram) (length (w .row)) (w .run .vdp) .row) (rowLayers VisibleOnly (w .vram) (counterUp (w .run .vdp))) (w .frame) =
+    ef
+    ∙ painted-is (w .vram) (w .run .vdp) (w .frame) layers n al (ap (λ (x : Stepped). x .row) (g .answer)) (g .owners)
+    ∙ ap (λ (x : Stepped). layersPainted (x .row) (rowLayers VisibleOnly (w .vram) (counterUp (w .run .vdp))) (w .frame)) q in
+    record {
+      answer = ea ∙ ap stepAnswer q;
+      world = λ i. held ((er ∙ ap (λ (x : Stepped). on (w .run) 3 (x .vdp)) q) i) (w .vram) (b i) (f i);
+    }
+
+-- whatever the frame shows, steps of the effective area go into the row buffer
+beside-for : (shown : Shown) (w : World) → turnFor shown EffectiveArea w ≡ rowTurn EffectiveArea w
+unfolding frameTurn layerTurn
+beside-for Colours w = refl
+beside-for Layers w = refl
 
 pub beside-stepped :
-    {a : RenderArea} (w : World) {t : Turned} {vram row frame : List ℕ} → a ≡ EffectiveArea → TurnLeaves (rowTurn a w) t vram row frame
-    → TurnLeaves (frameTurn a w) t vram row frame
-unfolding frameTurn
-beside-stepped w e h = rw e (rw e at h)
+    (shown : Shown) {a : RenderArea} (w : World) {t : Turned} {vram row frame : List ℕ} → a ≡ EffectiveArea → TurnLeaves (rowTurn a w) t vram row frame
+    → TurnLeaves (turnFor shown a w) t vram row frame
+beside-stepped shown w e h = rw (e, beside-for shown w) (rw e at h)
+
+pub visible-stepped :
+    (shown : Shown) {a : RenderArea} (w : World) {t : Turned} {vram row frame : List ℕ} → a ≡ VisibleOnly → TurnLeaves (turnFor shown VisibleOnly w) t vram row frame
+    → TurnLeaves (turnFor shown a w) t vram row frame
+visible-stepped shown w e h = rw e h
 
 -- the record at the run's place, by its kind
 module _ (step : RenderArea → World → Turn) (s : List ℕ) (w : World) {x : Record} (e : x ≡ recordAt s (w .run .at)) where

@@ -1,4 +1,4 @@
--- R7.8, R7.11, R7.13: the bytes that `trace` prints, and the picture that `snapshot` writes.
+-- R7.8, R7.11, R7.13, R15.5: the bytes that `trace` prints, and the pictures that `snapshot` and `layers` write.
 -- Assumes nothing.
 use mathlib.Core.Path.{_≡_}
 use mathlib.Core.Bool.{Bool, cond, _&&_}
@@ -13,7 +13,7 @@ use Rattle.picture.specs.Area.{frameSize}
 use Rattle.vdp.specs.declared.VdpState.{VdpState}
 use Rattle.recording.specs.declared.run.Run.{Run}
 use Rattle.recording.specs.Text.{endLine, badLine, longLine}
-use Rattle.recording.specs.Run.{World, Turn, rowTurn, frameTurn, lines, ran, start}
+use Rattle.recording.specs.Run.{World, Turn, rowTurn, lines, ran, start}
 
 -- R7.8: the longest recording that is run
 abbrev pub longest : ℕ
@@ -54,9 +54,10 @@ ppm frame = header ++ pixels 23040 frame
 unfoldable pub drawn : List ℕ → Run → List ℕ → List ℕ
 drawn s run frame = cond (ended s run) (ppm frame) (badLine (run .at))
 
--- WHAT `snapshot` WRITES of the recording s, from the world w on: the picture, or the one line of a bad or long recording
-unfoldable pub pictured : List ℕ → World → List ℕ
-pictured s w = cond (tooLong s) longLine (drawn s (ran frameTurn s w .run) (ran frameTurn s w .frame))
+-- WHAT `snapshot` AND `layers` WRITE of the recording s, from the world w on, with steps made as `step` makes them: the picture, or the one line of a bad or
+-- long recording
+unfoldable pub pictured : (RenderArea → World → Turn) → List ℕ → World → List ℕ
+pictured step s w = cond (tooLong s) longLine (drawn s (ran step s w .run) (ran step s w .frame))
 
 -- What a call leaves: a number of bytes at the start of its buffer, and the buffers of the run.
 pub record Left : Type 0 where
@@ -84,19 +85,19 @@ pictureRoom = 69135
 unfoldable pub traced : List ℕ → World → List ℕ → Left
 traced s w out = leaves (leb textRoom (length out)) rowTurn (printed s w) s w out
 
-unfoldable pub snapped : List ℕ → World → List ℕ → Left
-snapped s w out = leaves (leb pictureRoom (length out) && eqb (length (w .frame)) (frameSize VisibleOnly)) frameTurn (pictured s w) s w out
+unfoldable pub snapped : (RenderArea → World → Turn) → List ℕ → World → List ℕ → Left
+snapped step s w out = leaves (leb pictureRoom (length out) && eqb (length (w .frame)) (frameSize VisibleOnly)) step (pictured step s w) s w out
 
--- What `trace`, from device d on, promises of its answer n and of the buffers after it, and what `snapshot` does.
+-- What `trace`, from device d on, promises of its answer n and of the buffers after it, and what `snapshot` and `layers` do.
 pub record TraceLeaves (d : VdpState) (s vram row out : List ℕ) (n : ℕ) (vram′ row′ out′ : List ℕ) : Type 0 where
   pub count : n ≡ traced s (start d vram row []) out .len
   pub bytes : out′ ≡ traced s (start d vram row []) out .out
   pub memory : vram′ ≡ traced s (start d vram row []) out .vram
   pub pixels : row′ ≡ traced s (start d vram row []) out .row
 
-pub record SnapshotLeaves (d : VdpState) (s vram row frame out : List ℕ) (n : ℕ) (vram′ row′ frame′ out′ : List ℕ) : Type 0 where
-  pub count : n ≡ snapped s (start d vram row frame) out .len
-  pub bytes : out′ ≡ snapped s (start d vram row frame) out .out
-  pub memory : vram′ ≡ snapped s (start d vram row frame) out .vram
-  pub pixels : row′ ≡ snapped s (start d vram row frame) out .row
-  pub picture : frame′ ≡ snapped s (start d vram row frame) out .frame
+pub record PictureLeaves (step : RenderArea → World → Turn) (d : VdpState) (s vram row frame out : List ℕ) (n : ℕ) (vram′ row′ frame′ out′ : List ℕ) : Type 0 where
+  pub count : n ≡ snapped step s (start d vram row frame) out .len
+  pub bytes : out′ ≡ snapped step s (start d vram row frame) out .out
+  pub memory : vram′ ≡ snapped step s (start d vram row frame) out .vram
+  pub pixels : row′ ≡ snapped step s (start d vram row frame) out .row
+  pub picture : frame′ ≡ snapped step s (start d vram row frame) out .frame

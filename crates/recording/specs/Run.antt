@@ -1,21 +1,29 @@
--- R7.8, R7.13: what a recording does, record by record. Both programs follow a recording by these definitions.
+-- R7.8, R7.13, R15.5: what a recording does, record by record. All programs follow a recording by these definitions.
 -- Assumes nothing.
 use mathlib.Core.Path.{_≡_}
+use mathlib.Core.Bool.{cond}
 use mathlib.Core.List.{List, [], _++_}
-use Prim.Native.Nat.{ℕ, zero, suc, _+_}
+use Prim.Native.Nat.{ℕ, zero, suc, _+_, _-_, _*_, _%_}
+use lib.Dec.{eqb}
 use lib.ListN.{length}
+use Rattle.laws.specs.Paint.{painted, ofBytes}
 use Rattle.picture.specs.declared.RenderArea.{RenderArea}
 use Rattle.picture.specs.declared.RenderArea.the-variants.{VisibleOnly, EffectiveArea}
 use Rattle.vdp.specs.declared.VdpState.{VdpState}
 use Rattle.vdp.specs.Ports.{portWrite, portRead}
+use Rattle.step.specs.declared.DrawnRow.{DrawnRow}
+use Rattle.step.specs.declared.DrawnRow.the-variants.{NoRow, Drawn}
 use Rattle.step.specs.declared.Stepped.{Stepped}
-use Rattle.step.specs.Step.{rowStep, frameStep}
+use Rattle.step.specs.Step.{counterUp, rowStep, frameStep}
 use Rattle.step.specs.Frame.{rowAfter, frameAfter}
+use Rattle.step.specs.Layers.{rowLayers}
 use Rattle.recording.specs.declared.record.Record.{Record}
 use Rattle.recording.specs.declared.record.Record.the-variants.{Write, Read, Step, Bad, End}
 use Rattle.recording.specs.declared.text.Answer.{Answer}
 use Rattle.recording.specs.declared.text.Answer.the-variants as Says
 use Rattle.recording.specs.declared.run.Run.{Run}
+use Rattle.recording.specs.declared.run.Shown.{Shown}
+use Rattle.recording.specs.declared.run.Shown.the-variants.{Colours, Layers}
 use Rattle.recording.specs.declared.run.Turned.{Turned}
 use Rattle.recording.specs.Record.{recordAt}
 use Rattle.recording.specs.Text.{lineOf}
@@ -65,6 +73,33 @@ frameTurn VisibleOnly w =
       world = held (on (w .run) 3 (s .vdp)) (w .vram) (w .row) (frameAfter VisibleOnly (w .vram) (w .run .vdp) (w .frame));
     }
 frameTurn EffectiveArea w = rowTurn EffectiveArea w
+
+-- R15.5: the colour of a layer: the background dark grey, a held-back pixel magenta, sprite n from green to red as n goes up
+unfoldable pub layerColour : ℕ → ℕ
+layerColour l =
+    cond (eqb l 0) (ofBytes 32 32 32 255) (cond (eqb l 1) (ofBytes 255 0 255 255) (ofBytes (4 * (l - 64) % 256) (255 - 4 * (l - 64) % 256) 128 255))
+
+-- the frame with the colours of the layers in a buffer at its row; the layers of the row that a step on this device draws, where it is drawn
+abbrev pub layersPainted : DrawnRow → (ℕ → ℕ → ℕ) → List ℕ → List ℕ
+layersPainted NoRow layer frame = frame
+layersPainted (Drawn y) layer frame = painted frame (160 * y) 160 (λ x. layerColour (layer y x))
+
+-- a step as `layers` makes it: of the visible area into the row buffer, with its layers as colours in the frame; of the effective area as in the trace
+unfoldable pub layerTurn : RenderArea → World → Turn
+layerTurn VisibleOnly w =
+    let s = rowStep VisibleOnly (w .vram) (length (w .row)) (w .run .vdp) in
+    record {
+      answer = stepAnswer s;
+      world =
+          held (on (w .run) 3 (s .vdp)) (w .vram) (rowAfter VisibleOnly (w .vram) (w .run .vdp) (w .row))
+          (layersPainted (s .row) (rowLayers VisibleOnly (w .vram) (counterUp (w .run .vdp))) (w .frame));
+    }
+layerTurn EffectiveArea w = rowTurn EffectiveArea w
+
+-- what the frame shows
+abbrev pub turnFor : Shown → RenderArea → World → Turn
+turnFor Colours = frameTurn
+turnFor Layers = layerTurn
 
 -- a record of the recording, with steps made as `step` makes them; at a bad record and at the end nothing happens
 unfoldable pub turnBy : Record → (RenderArea → World → Turn) → World → Turn

@@ -1,12 +1,14 @@
-// A whole recording: the text that it prints, and the picture that it draws.
+// A whole recording: the text that it prints, and the pictures that it draws.
 ghost use mathlib.Core.Path.{_≡_};
 ghost use Prim.Native.Nat.{_+_, _≤_};
 ghost use lib.ListN.{length, take};
 ghost use Rattle.laws.specs.Lists.{written};
 ghost use Rattle.picture.specs.declared.RenderArea.the-variants.{VisibleOnly};
 ghost use Rattle.picture.specs.Area.{frameSize};
-ghost use Rattle.recording.specs.Output.{pictureRoom, lastLine, ppm, drawn, TraceLeaves, SnapshotLeaves};
+ghost use Rattle.recording.specs.Output.{pictureRoom, lastLine, ppm, drawn, TraceLeaves, PictureLeaves};
+ghost use Rattle.recording.specs.Run.{frameTurn, layerTurn, turnFor};
 use crate::run::Run;
+use crate::run::Shown;
 use crate::run::frame_turn;
 use crate::run::row_turn;
 use crate::text::put_all;
@@ -93,17 +95,18 @@ fn put_picture(out: &mut [u8], input: &[u8], run: Run, frame: &[u8]) -> usize
     put_numbered(out, 0, b"bad ", run.at)
 }
 
-// R7.13: the picture that a recording's visible steps draw into the frame, run on this device, at the start of out, and how long it is; of a bad or long recording, only
+// What a recording's visible steps show in the frame, run on this device, at the start of out, and how long it is; of a bad or long recording, only
 // the line that says so. Without room for a picture, or with a frame of another length, nothing happens.
-pub fn snapshot(
+fn pictured(
     vdp: VdpState,
+    shown: Shown,
     input: &[u8],
     vram: &mut [u8],
     row: &mut [u8],
     frame: &mut [u8],
     out: &mut [u8],
 ) -> usize
-    ensures { λ n. ⌜ SnapshotLeaves vdp (now (input .entry)) (now (vram .entry)) (now (row .entry)) (now (frame .entry)) (now (out .entry)) n (now (vram .exit)) (now (row .exit)) (now (frame .exit)) (now (out .exit)) ⌝ }
+    ensures { λ n. ⌜ PictureLeaves (turnFor shown) vdp (now (input .entry)) (now (vram .entry)) (now (row .entry)) (now (frame .entry)) (now (out .entry)) n (now (vram .exit)) (now (row .exit)) (now (frame .exit)) (now (out .exit)) ⌝ }
     ensures { λ n. ⌜ (n ≤ length (now (out .exit))) × (n ≡ length (take n (now (out .exit)))) ⌝ }
 {
     if out.len() < PICTURE_ROOM {
@@ -122,9 +125,39 @@ pub fn snapshot(
     };
     let mut i = 0;
     while i < input.len() {
-        let turned = frame_turn(run, input, vram, row, frame);
+        let turned = frame_turn(run, shown, input, vram, row, frame);
         run = turned.run;
         i += 1;
     }
     put_picture(out, input, run, frame)
+}
+
+// R7.13: the picture that the visible steps draw.
+pub fn snapshot(
+    vdp: VdpState,
+    input: &[u8],
+    vram: &mut [u8],
+    row: &mut [u8],
+    frame: &mut [u8],
+    out: &mut [u8],
+) -> usize
+    ensures { λ n. ⌜ PictureLeaves frameTurn vdp (now (input .entry)) (now (vram .entry)) (now (row .entry)) (now (frame .entry)) (now (out .entry)) n (now (vram .exit)) (now (row .exit)) (now (frame .exit)) (now (out .exit)) ⌝ }
+    ensures { λ n. ⌜ (n ≤ length (now (out .exit))) × (n ≡ length (take n (now (out .exit)))) ⌝ }
+{
+    pictured(vdp, Shown::Colours, input, vram, row, frame, out)
+}
+
+// R15.5: which layer owns each of its pixels.
+pub fn layers(
+    vdp: VdpState,
+    input: &[u8],
+    vram: &mut [u8],
+    row: &mut [u8],
+    frame: &mut [u8],
+    out: &mut [u8],
+) -> usize
+    ensures { λ n. ⌜ PictureLeaves layerTurn vdp (now (input .entry)) (now (vram .entry)) (now (row .entry)) (now (frame .entry)) (now (out .entry)) n (now (vram .exit)) (now (row .exit)) (now (frame .exit)) (now (out .exit)) ⌝ }
+    ensures { λ n. ⌜ (n ≤ length (now (out .exit))) × (n ≡ length (take n (now (out .exit)))) ⌝ }
+{
+    pictured(vdp, Shown::Layers, input, vram, row, frame, out)
 }

@@ -1,15 +1,22 @@
 // A run through a recording: each record makes its call on the device.
 ghost use mathlib.Core.Path.{_≡_};
 ghost use mathlib.Core.List.{[]};
-ghost use Prim.Native.Nat.{_<_};
+ghost use Prim.Native.Nat.{_-_, _<_, _≤_};
+ghost use lib.ListN.{length};
+ghost use Rattle.laws.specs.Lists.{at};
+ghost use Rattle.picture.specs.declared.RenderArea.the-variants.{VisibleOnly};
+ghost use Rattle.picture.specs.Area.{frameSize};
+ghost use Rattle.step.specs.Points.{RowIn};
 ghost use Rattle.vdp.specs.Ports.{portWrite, portRead};
-ghost use Rattle.recording.specs.Run.{held, on, stepAnswer, rowTurn, frameTurn, turnOf, TurnLeaves};
+ghost use Rattle.recording.specs.Run.{held, on, stepAnswer, rowTurn, layerColour, layersPainted, layerTurn, turnFor, turnOf, TurnLeaves};
 use crate::record::Record;
 use crate::record::record_at;
 use crate::text::Answer;
 use picture::RenderArea;
+use step::DrawnRow;
 use step::Stepped;
 use step::frame_step;
+use step::layer_row_step;
 use step::row_step;
 use vdp::VdpState;
 
@@ -18,6 +25,12 @@ pub struct Run {
     pub vdp: VdpState,
     pub at: usize,
     pub count: usize,
+}
+
+// What a frame shows of the visible steps: the picture, or which layer owns each pixel.
+pub enum Shown {
+    Colours,
+    Layers,
 }
 
 // What a record's call answers, and the run after it.
@@ -110,16 +123,79 @@ pub fn row_turn(run: Run, input: &[u8], vram: &mut [u8], row: &mut [u8]) -> Turn
     }
 }
 
-// The same with steps of the visible area into the frame.
+// How far a layer is past 64, the first sprite's.
+fn sprite_of(layer: u8) -> u8
+    ensures { λ r. ⌜ r ≡ layer - 64 ⌝ }
+{
+    if layer < 64 { 0 } else { layer - 64 }
+}
+
+// The colour of a layer.
+fn layer_colour(layer: u8) -> u32
+    ensures { λ r. ⌜ r ≡ layerColour layer ⌝ }
+{
+    if layer == 0 {
+        return 0xFF202020;
+    }
+    if layer == 1 {
+        return 0xFFFF00FF;
+    }
+    let red = (sprite_of(layer) as u32) * 4 % 256;
+    red + (255 - red) * 256 + 0xFF800000
+}
+
+// The layers of a row as colours, into its place in the frame.
+fn paint_layers(frame: &mut [u8], drawn: DrawnRow, layers: &[u8; 160])
+    requires { ⌜ (frameSize VisibleOnly ≤ length (now frame)) × RowIn VisibleOnly drawn ⌝ }
+    ensures { λ _. ⌜ now (frame .exit) ≡ layersPainted drawn (λ y. at (now (layers .entry))) (now (frame .entry)) ⌝ }
+{
+    let DrawnRow::Drawn(y) = drawn else {
+        return;
+    };
+    let first = small::wide(y) * 160;
+    let mut x: usize = 0;
+    while x < 160 {
+        tile::pixel_set_full(frame, first + x, layer_colour(layers[x]));
+        x += 1;
+    }
+}
+
+// A visible step whose layers the frame shows.
+fn layer_turn(run: Run, vram: &[u8], row: &mut [u8], frame: &mut [u8]) -> Turned
+    requires { ⌜ (run .at < 4294967296) × (run .count < 4294967296) × (frameSize VisibleOnly ≤ length (now frame)) ⌝ }
+    ensures { λ r. ⌜ TurnLeaves (layerTurn VisibleOnly (held run (now (vram .entry)) (now (row .entry)) (now (frame .entry)))) r (now (vram .entry)) (now (row .exit)) (now (frame .exit)) ⌝ }
+{
+    let vdp = run.vdp;
+    let mut layers = [0u8; 160];
+    let stepped = layer_row_step(vdp, vram, row, &mut layers, RenderArea::VisibleOnly);
+    let drawn = stepped.row;
+    paint_layers(frame, drawn, &layers);
+    step_turn(run, stepped)
+}
+
+// A visible step, and what the frame shows of it.
+fn visible_turn(run: Run, shown: Shown, vram: &[u8], row: &mut [u8], frame: &mut [u8]) -> Turned
+    requires { ⌜ (run .at < 4294967296) × (run .count < 4294967296) × (frameSize VisibleOnly ≤ length (now frame)) ⌝ }
+    ensures { λ r. ⌜ TurnLeaves (turnFor shown VisibleOnly (held run (now (vram .entry)) (now (row .entry)) (now (frame .entry)))) r (now (vram .entry)) (now (row .exit)) (now (frame .exit)) ⌝ }
+{
+    let vdp = run.vdp;
+    match shown {
+        Shown::Colours => step_turn(run, frame_step(vdp, vram, frame, RenderArea::VisibleOnly)),
+        Shown::Layers => layer_turn(run, vram, row, frame),
+    }
+}
+
+// The record at the run's place, with steps of the visible area shown in the frame.
 pub fn frame_turn(
     run: Run,
+    shown: Shown,
     input: &[u8],
     vram: &mut [u8],
     row: &mut [u8],
     frame: &mut [u8],
 ) -> Turned
-    requires { ⌜ (run .at < 4294967296) × (run .count < 4294967296) ⌝ }
-    ensures { λ r. ⌜ TurnLeaves (turnOf frameTurn (now (input .entry)) (held run (now (vram .entry)) (now (row .entry)) (now (frame .entry)))) r (now (vram .exit)) (now (row .exit)) (now (frame .exit)) ⌝ }
+    requires { ⌜ (run .at < 4294967296) × (run .count < 4294967296) × (frameSize VisibleOnly ≤ length (now frame)) ⌝ }
+    ensures { λ r. ⌜ TurnLeaves (turnOf (turnFor shown) (now (input .entry)) (held run (now (vram .entry)) (now (row .entry)) (now (frame .entry)))) r (now (vram .exit)) (now (row .exit)) (now (frame .exit)) ⌝ }
 {
     let at = run.at;
     let vdp = run.vdp;
@@ -127,7 +203,7 @@ pub fn frame_turn(
         Record::Write(port, value) => write_turn(run, vram, port, value),
         Record::Read(port) => read_turn(run, vram, port),
         Record::Step(area) => match area {
-            RenderArea::VisibleOnly => step_turn(run, frame_step(vdp, vram, frame, area)),
+            RenderArea::VisibleOnly => visible_turn(run, shown, vram, row, frame),
             RenderArea::EffectiveArea => step_turn(run, row_step(vdp, vram, row, area)),
         },
         Record::Bad => Turned {

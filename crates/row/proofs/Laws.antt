@@ -19,6 +19,7 @@ use Rattle.picture.specs.declared.RenderArea.{RenderArea}
 use Rattle.picture.specs.Tile.{namesAt}
 use Rattle.picture.specs.View.{View, cutMark}
 use Rattle.picture.specs.Picture.{Row, back, front, picture}
+use Rattle.picture.specs.Layers.{layers, layersIn}
 use Rattle.picture.specs.Area.{columns, rowSize, rowBytes, statusBits}
 use Rattle.picture.proofs.Laws.{length-rowBytes, row-size}
 use Rattle.background.specs.Background.{backColour, backFront, prioTo}
@@ -61,11 +62,11 @@ as-bytes : (row₀ colours : List ℕ) (width : ℕ) (p : Row) {row : List ℕ} 
 unfolding rowBytes
 as-bytes row₀ colours width p e h = e ∙ painted-all row₀ width (λ x. at colours (p .colour x)) h
 
-pub row-is : (m g : ℕ → ℕ) (v : View) (row₀ colours : List ℕ) {row : List ℕ} {hit ninth : Bool} {bits : ℕ} → v .width * 4 ≤ length row₀
-    → Finished m g (v .stand) (v .line) (front m g v) row₀ colours (v .width) (back m g v) row hit ninth → bits ≡ cond hit 32 0 + cond ninth 64 0
-    → (row ≡ rowBytes colours (v .width) (picture m g v) ++ drop (v .width * 4) row₀) × (bits ≡ statusBits (picture m g v))
-unfolding picture
-row-is m g v row₀ colours h f e = (as-bytes row₀ colours (v .width) (picture m g v) (f .bytes) h, e ∙ rw (f .struck, f .many))
+pub row-is : (m g : ℕ → ℕ) (v : View) (row₀ layers₀ colours : List ℕ) {row layers′ : List ℕ} {hit ninth : Bool} {bits : ℕ} → v .width * 4 ≤ length row₀
+    → Finished m g (v .stand) (v .line) (front m g v) row₀ colours (v .width) (back m g v) row hit ninth layers₀ layers′ → bits ≡ cond hit 32 0 + cond ninth 64 0
+    → (row ≡ rowBytes colours (v .width) (picture m g v) ++ drop (v .width * 4) row₀) × (bits ≡ statusBits (picture m g v)) × (layers′ ≡ layersIn layers₀ (v .width) (layers m g v))
+unfolding picture layers
+row-is m g v row₀ layers₀ colours h f e = (as-bytes row₀ colours (v .width) (picture m g v) (f .bytes) h, e ∙ rw (f .struck, f .many), f .owners)
 
 -- ---- what a drawn row leaves: the buffer's length, and all behind the row
 module _ (a : RenderArea) (colours : List ℕ) (p : Row) (row₀ row : List ℕ) (bits : ℕ) (d : Drawn a colours p row₀ row bits) where

@@ -1,11 +1,12 @@
-// One row of either area, drawn into a lent row buffer by the picture of section 5.
+// One row of either area, drawn into a lent row buffer by the picture of section 5, and the layers of its columns (section 15).
 ghost use mathlib.Core.Path.{_≡_};
 ghost use mathlib.Core.Bool.{cond};
 ghost use Prim.Native.Nat.{ℕ, _+_, _<_, _≤_};
 ghost use lib.ListN.{length};
 ghost use Rattle.laws.specs.Sizes.{vramSize};
 ghost use Rattle.picture.specs.declared.RenderArea.the-variants.{VisibleOnly, EffectiveArea};
-ghost use Rattle.picture.specs.Area.{rows, rowSize, pictureOf};
+ghost use Rattle.picture.specs.Area.{columns, rows, rowSize, pictureOf};
+ghost use Rattle.picture.specs.Layers.{layersOf, layersIn};
 ghost use Rattle.row.specs.Row.{Drawn};
 use picture::RenderArea;
 use sprites::Line;
@@ -32,9 +33,24 @@ fn status_bits(line: Line) -> u8
     }
 }
 
+// A row that is all background's, where its layers are asked for: a buffer with fewer bytes than the row has columns asks for none.
+fn clear(layers: &mut [u8], width: usize)
+    ensures { λ r. ⌜ now (layers .exit) ≡ layersIn (now (layers .entry)) width (λ x. 0) ⌝ }
+{
+    if layers.len() < width {
+        return;
+    }
+    let mut i: usize = 0;
+    while i < width {
+        layers[i] = 0;
+        i += 1;
+    }
+}
+
 // Row `line` of the visible area: scrolled both ways, its sprites by the line that is 24 further down.
 fn render_line_visible(
     row: &mut [u8],
+    layers: &mut [u8],
     vram: &[u8],
     colours: &[u32; 32],
     reg: [u8; 11],
@@ -43,7 +59,9 @@ fn render_line_visible(
 ) -> u8
     requires { ⌜ (length (now vram) ≡ vramSize) × (rowSize VisibleOnly ≤ length (now row)) × (scroll < 256) × (line < rows VisibleOnly) ⌝ }
     ensures { λ r. ⌜ Drawn VisibleOnly (now (colours .entry)) (pictureOf VisibleOnly reg scroll (now (vram .entry)) line) (now (row .entry)) (now (row .exit)) r ⌝ }
+    ensures { λ r. ⌜ now (layers .exit) ≡ layersIn (now (layers .entry)) (columns VisibleOnly) (layersOf VisibleOnly reg scroll (now (vram .entry)) line) ⌝ }
 {
+    clear(layers, GG_VISIBLE_PIXEL_WIDTH);
     let sx = (304 - small::wide(reg[8])) % 256;
     let y = (line + GG_VISIBLE_AREA_START_Y + scroll) % SCROLL_PIXEL_HEIGHT;
     let cut = (sx % 8) as u8;
@@ -59,6 +77,7 @@ fn render_line_visible(
     );
     status_bits(sprites::render_sprites_line(
         row,
+        layers,
         vram,
         colours,
         RenderArea::VisibleOnly,
@@ -72,6 +91,7 @@ fn render_line_visible(
 // Row `line` of the effective area: the map is the screen, whatever the scroll.
 fn render_line_effective(
     row: &mut [u8],
+    layers: &mut [u8],
     vram: &[u8],
     colours: &[u32; 32],
     reg: [u8; 11],
@@ -79,7 +99,9 @@ fn render_line_effective(
 ) -> u8
     requires { ⌜ (length (now vram) ≡ vramSize) × (rowSize EffectiveArea ≤ length (now row)) × (line < rows EffectiveArea) ⌝ }
     ensures { λ r. ⌜ ((scroll : ℕ) → Drawn EffectiveArea (now (colours .entry)) (pictureOf EffectiveArea reg scroll (now (vram .entry)) line) (now (row .entry)) (now (row .exit)) r) ⌝ }
+    ensures { λ r. ⌜ ((scroll : ℕ) → now (layers .exit) ≡ layersIn (now (layers .entry)) (columns EffectiveArea) (layersOf EffectiveArea reg scroll (now (vram .entry)) line)) ⌝ }
 {
+    clear(layers, SCROLL_PIXEL_WIDTH);
     let prio = background::render_background_line(
         row,
         vram,
@@ -92,6 +114,7 @@ fn render_line_effective(
     );
     status_bits(sprites::render_sprites_line(
         row,
+        layers,
         vram,
         colours,
         RenderArea::EffectiveArea,
@@ -102,9 +125,11 @@ fn render_line_effective(
     ))
 }
 
-// Row `line` of an area, by the registers, the latched scroll, the cached colours and video memory; answers the status bits that it sets.
+// Row `line` of an area, by the registers, the latched scroll, the cached colours and video memory; answers the status bits
+// that it sets. Its layers go to the first bytes of `layers`, one a column; a buffer with fewer bytes asks for none.
 pub fn render_line(
     row: &mut [u8],
+    layers: &mut [u8],
     vram: &[u8],
     colours: &[u32; 32],
     area: RenderArea,
@@ -114,11 +139,12 @@ pub fn render_line(
 ) -> u8
     requires { ⌜ (length (now vram) ≡ vramSize) × (rowSize area ≤ length (now row)) × (line < rows area) ⌝ }
     ensures { λ r. ⌜ Drawn area (now (colours .entry)) (pictureOf area reg scroll (now (vram .entry)) line) (now (row .entry)) (now (row .exit)) r ⌝ }
+    ensures { λ r. ⌜ now (layers .exit) ≡ layersIn (now (layers .entry)) (columns area) (layersOf area reg scroll (now (vram .entry)) line) ⌝ }
 {
     let s = small::wide(scroll);
     let l = small::wide(line);
     match area {
-        RenderArea::VisibleOnly => render_line_visible(row, vram, colours, reg, s, l),
-        RenderArea::EffectiveArea => render_line_effective(row, vram, colours, reg, l),
+        RenderArea::VisibleOnly => render_line_visible(row, layers, vram, colours, reg, s, l),
+        RenderArea::EffectiveArea => render_line_effective(row, layers, vram, colours, reg, l),
     }
 }

@@ -9,22 +9,28 @@ use native.Mathlib.Decide.{decLt}
 use native.Mathlib.Omega.{arith}
 use lib.Dec.{eqb, ltb, leb}
 use lib.Bits.{bitAnd, and-le-r}
-use lib.ListN.{length}
-use borrow.Author.Tests.{lt-ltb, le-ltb, lt-leb, ltb-true}
+use lib.ListN.{length, List·getD-eq-default}
+use borrow.Author.Tests.{lt-ltb, le-ltb, le-leb, lt-leb, ltb-true}
 use Rattle.laws.specs.Bits.{bit, number, byteOf}
 use Rattle.laws.specs.Circle.{past}
 use Rattle.laws.specs.Lists.{at}
 use Rattle.laws.specs.Paint.{painted, overlaid, overlay}
 use Rattle.laws.proofs.Any.{any-cong, any-number, bit-of}
-use Rattle.laws.proofs.Bits.{bit-number, number-bit, number-ext, bit-and}
+use Rattle.laws.proofs.Bits.{bit-byteOf, bit-number, number-bit, number-ext, bit-and}
+use Rattle.laws.proofs.Tables.{table-ext}
 use Rattle.laws.proofs.Paint.{overlaid-painted, overlay-at, painted-cong, length-painted}
-use Rattle.laws.proofs.Tests.{both, cond-in}
+use Rattle.laws.proofs.Tests.{both, cond-in, same-cond}
 use Rattle.bitmap.specs.Mask.{bitOf, bytesOf, byteAt, withByte, hits}
 use Rattle.bitmap.proofs.Circle.{bit-byteAt, bitOf-bytesOf, bytesOf-ext, withByte-bytesOf}
 use Rattle.picture.specs.declared.Stand.{Stand}
 use Rattle.picture.specs.Tile.{codeAt}
 use Rattle.picture.specs.Picture.{Canvas, solid, heldBack, marked, struck, drawn, laid}
-use Rattle.tile.specs.Line.{lineMarked, lineDrawn, spriteColour}
+use Rattle.picture.specs.Layers.{owner, stopped, owned, layersIn}
+use Rattle.picture.proofs.Layers.{length-layersIn, layersIn-at, layersIn-behind, layersIn-is, layersIn-none}
+use Rattle.tile.specs.Line.{lineMarked, lineDrawn, lineHeld, spriteColour}
+use Rattle.tile.specs.Layer.{stamped}
+use Rattle.tile.proofs.Layer.{stamped-length, stamped-at}
+use Rattle.sprites.specs.Sprites.{stampedIf}
 
 -- ---- `mask & bits` is not 0 where a column is set in both
 pub hits-is : (m : List ℕ) (h pix : ℕ) → pix < 256 → not (eqb (bitAnd (byteAt m h) pix) 0) ≡ hits m h pix
@@ -181,3 +187,108 @@ module _ (s : Stand) (vram : List ℕ) (addr : ℕ) (f : ℕ → Bool) (c : Canv
         mask = ke ∙ rw (sh .mask, bt) (mask-laid s (codeAt (at vram) addr) f c low);
         hit = ht ∙ rw (sh .mask, sh .hit, bt) (hit-laid s (codeAt (at vram) addr) f c low);
       }
+
+-- ---- the layers
+module _ (s : Stand) (vram : List ℕ) (addr : ℕ) (f : ℕ → Bool) (c : Canvas) (low : s .end ≤ 8) where
+  stopped-seen : s .seen ≡ true → (k : ℕ) → k < 8 → lineHeld vram addr (s .start) (s .end) (byteAt (bytesOf f) (s .prio)) k ≡ stopped s (codeAt (at vram) addr) f c k
+  unfolding lineHeld stopped heldBack
+  stopped-seen q k h =
+      rw (bit-byteAt (bytesOf f) (s .prio) k h, bitOf-bytesOf f (s .prio + k))
+      (sym (ap (λ (b : Bool). solid (s .start) (s .end) (codeAt (at vram) addr) k && (b && f ((s .prio + k) % 256))) q))
+
+  stopped-far : (k : ℕ) → 8 ≤ k → stopped s (codeAt (at vram) addr) f c k ≡ false
+  unfolding stopped solid
+  stopped-far k h = let l : s .end ≤ s .start + k = omega arith in rw (le-ltb (s .start + k) (s .end) l)
+
+  stopped-unseen : s .seen ≡ false → (k : ℕ) → stopped s (codeAt (at vram) addr) f c k ≡ false
+  unfolding stopped heldBack
+  stopped-unseen q k = rw q (and-false (solid (s .start) (s .end) (codeAt (at vram) addr) k))
+
+  drawn-unseen : s .seen ≡ false → (k : ℕ) → drawn s (codeAt (at vram) addr) f c k ≡ false
+  unfolding drawn
+  drawn-unseen q k = rw q
+
+  module _ (width n : ℕ) (base : List ℕ) (own : ℕ → ℕ) where
+    abbrev shownByte : ℕ
+    shownByte = byteOf (lineDrawn vram addr (s .start) (s .end) (byteAt (bytesOf f) (s .prio)) (byteAt (bytesOf (c .mask)) (s .mark)) width (s .x))
+
+    abbrev heldByte : ℕ
+    heldByte = byteOf (lineHeld vram addr (s .start) (s .end) (byteAt (bytesOf f) (s .prio)))
+
+    abbrev after : ℕ → ℕ
+    after = owned s (codeAt (at vram) addr) f c n own
+
+    -- a column of the row: its layer, by the bytes of drawn and held back columns
+    seen-at : s .seen ≡ true → (k v : ℕ) → k < width → v ≡ own k
+        → cond (leb (s .x) k && (ltb (k - s .x) 8 && ltb k width)) (owner n (bit shownByte (k - s .x)) (bit heldByte (k - s .x)) v) v ≡ after k
+    unfolding owned
+    seen-at q k v l e =
+        elim (decLt k (s .x)) [
+          | yes h ↦ rw (lt-leb (s .x) k h) e
+          | no h ↦
+              let a : s .x ≤ k = omega arith in
+              elim (decLt (k - s .x) 8) [
+                | yes i ↦
+                    let r : s .x + (k - s .x) < width = omega arith in
+                    let d : bit shownByte (k - s .x) ≡ drawn s (codeAt (at vram) addr) f c (k - s .x) = bit-byteOf _ (k - s .x) i ∙ drawn-seen s vram addr f c low q width (k - s .x) i r in
+                    let t : bit heldByte (k - s .x) ≡ stopped s (codeAt (at vram) addr) f c (k - s .x) = bit-byteOf _ (k - s .x) i ∙ stopped-seen q (k - s .x) i in
+                    rw (le-leb (s .x) k a, lt-ltb (k - s .x) 8 i, lt-ltb k width l, d, t, e)
+                | no i ↦
+                    let r : 8 ≤ k - s .x = omega arith in
+                    rw (le-leb (s .x) k a, le-ltb (k - s .x) 8 r, drawn-far s (codeAt (at vram) addr) f c low (k - s .x) r, stopped-far (k - s .x) r) e
+              ]
+        ]
+
+    unseen-at : s .seen ≡ false → (k : ℕ) → own k ≡ after k
+    unfolding owned
+    unseen-at q k = rw (drawn-unseen q (k - s .x), stopped-unseen q (k - s .x)) (sym (same-cond (leb (s .x) k) (own k)))
+
+    -- past the row nothing changes
+    past-row : width ≤ length base → (k : ℕ) → width ≤ k → at (stamped (layersIn base width own) width (s .x) n shownByte heldByte 8) k ≡ at base k
+    past-row r k i =
+        let l = layersIn base width own in
+        elim (decLt k (length base)) [
+          | yes h ↦
+              let b : k < length l = omega (arith, length-layersIn base width own) in
+              stamped-at l width (s .x) n shownByte heldByte 8 k b
+              ∙ rw (le-ltb k width i, and-false (ltb (k - s .x) 8), and-false (leb (s .x) k)) (layersIn-behind base width own r k i)
+          | no h ↦
+              let a : length base ≤ k = omega arith in
+              let b : length (stamped l width (s .x) n shownByte heldByte 8) ≤ k = omega (arith, stamped-length l width (s .x) n shownByte heldByte 8, length-layersIn base width own) in
+              List·getD-eq-default (stamped l width (s .x) n shownByte heldByte 8) 0 b ∙ sym (List·getD-eq-default base 0 a)
+        ]
+
+    -- the buffer with them
+    seen-in : s .seen ≡ true → stampedIf (layersIn base width own) width (s .x) n shownByte heldByte ≡ layersIn base width after
+    seen-in q =
+        let n₀ = length-layersIn base width own in
+        elim (decLt (length base) width) [
+          | yes h ↦
+              let o : length (layersIn base width own) < width = omega arith in
+              rw (lt-leb width (length (layersIn base width own)) o) (layersIn-none base width own h ∙ sym (layersIn-none base width after h))
+          | no h ↦
+              let r : width ≤ length base = omega arith in
+              let o : width ≤ length (layersIn base width own) = omega arith in
+              let l = layersIn base width own in
+              rw (le-leb width (length (layersIn base width own)) o)
+              (layersIn-is base width after r (stamped l width (s .x) n shownByte heldByte 8) (stamped-length l width (s .x) n shownByte heldByte 8 ∙ n₀)
+              (λ k i. let b : k < length l = omega arith in stamped-at l width (s .x) n shownByte heldByte 8 k b ∙ seen-at q k (at l k) i (layersIn-at base width own r k i))
+              (λ k i. past-row r k i))
+        ]
+
+    unseen-in : s .seen ≡ false → layersIn base width own ≡ layersIn base width after
+    unfolding layersIn
+    unseen-in q = rw (table-ext width own after (λ k i. unseen-at q k))
+
+    in-either : (b : Bool) → s .seen ≡ b → cond b (stampedIf (layersIn base width own) width (s .x) n shownByte heldByte) (layersIn base width own) ≡ layersIn base width after
+    in-either true q = seen-in q
+    in-either false q = unseen-in q
+
+    pub owns-laid : {row₀ colours row prio marks layers layers′ : List ℕ} {w h t : ℕ} {met : Bool} → prio ≡ bytesOf f → Shows row₀ colours w c row marks met
+        → layers ≡ layersIn base width own → h ≡ byteAt prio (s .prio) → t ≡ byteAt marks (s .mark)
+        → layers′ ≡ cond (s .seen) (stampedIf layers width (s .x) n (byteOf (lineDrawn vram addr (s .start) (s .end) h t width (s .x))) (byteOf (lineHeld vram addr (s .start) (s .end) h))) layers
+        → layers′ ≡ layersIn base width (owned s (codeAt (at vram) addr) f c n own)
+    owns-laid pe sh le he te re =
+        let hd : _ ≡ byteAt (bytesOf f) (s .prio) = he ∙ ap (λ (l : List ℕ). byteAt l (s .prio)) pe in
+        let tk : _ ≡ byteAt (bytesOf (c .mask)) (s .mark) = te ∙ ap (λ (l : List ℕ). byteAt l (s .mark)) (sh .mask) in
+        re ∙ rw (hd, tk, le) (in-either (s .seen) refl)

@@ -18,6 +18,7 @@ use Rattle.picture.specs.declared.Stand.{Stand}
 use Rattle.picture.specs.declared.RenderArea.{RenderArea}
 use Rattle.picture.specs.Tile.{codeAt}
 use Rattle.picture.specs.View.{early}
+use Rattle.picture.specs.Layers.{owned, ownedBy, layersWith, layersIn}
 use Rattle.picture.specs.Picture.{Canvas, laid, tableAt, topOf, tall, onLine, listed, spriteLine, spriteCode, withSprite, withSprites, bare}
 use Rattle.sprites.specs.declared.Marks.{Marks}
 use Rattle.sprites.specs.Sprites.{standOf, Follows, Laid}
@@ -29,6 +30,13 @@ pub with-sprite-is : (vram reg : List ℕ) (area : RenderArea) (line n d : ℕ) 
     → addr ≡ spriteLine (at reg) (at vram (table + 128 + 2 * n + 1)) d → laid s (codeAt (at vram) addr) f c ≡ withSprite (at vram) (at reg) (standOf area (early (at reg))) line f n c
 unfolding withSprite spriteCode
 with-sprite-is vram reg area line n d f c te ee se de ae = rw (se, ae, de, ee, te)
+
+pub owned-is : (vram reg : List ℕ) (area : RenderArea) (line n d : ℕ) (f : ℕ → Bool) (c : Canvas) (own : ℕ → ℕ) {s : Stand} {e table addr : ℕ} → table ≡ tableAt (at reg)
+    → e ≡ early (at reg) → s ≡ standOf area e (at vram (table + 128 + 2 * n)) → d ≡ line - topOf (at vram) (at reg) n
+    → addr ≡ spriteLine (at reg) (at vram (table + 128 + 2 * n + 1)) d
+    → owned s (codeAt (at vram) addr) f c n own ≡ ownedBy (at vram) (at reg) (standOf area (early (at reg))) line f n c own
+unfolding ownedBy spriteCode
+owned-is vram reg area line n d f c own te ee se de ae = rw (se, ae, de, ee, te)
 
 -- ---- the list from sprite n on
 module _ (m g : ℕ → ℕ) (l n : ℕ) (low : n < 64) where
@@ -48,67 +56,83 @@ module _ (m g : ℕ → ℕ) (l n : ℕ) (low : n < 64) where
   pub list-has : eqb (m (tableAt g + n)) 0xD0 ≡ false → onLine m g l n ≡ true → listed m g l (64 - n) n ≡ n ∷ listed m g l (64 - (n + 1)) (n + 1)
   list-has e o = next ∙ rw (e, o)
 
--- ---- on the way: what is left of the list, laid on a canvas of which S says that the code's values show it, gives what the whole list gives
-pub record Going (m g : ℕ → ℕ) (stand : ℕ → Stand) (l : ℕ) (f : ℕ → Bool) (colour : ℕ → ℕ) (n count : ℕ) (S : Canvas → Type 0) : Type 0 where
+-- ---- on the way: what is left of the list, laid on a canvas and its layers of which S says that the code's values show them, gives what the whole list gives
+pub record Going (m g : ℕ → ℕ) (stand : ℕ → Stand) (l : ℕ) (f : ℕ → Bool) (colour : ℕ → ℕ) (n count : ℕ) (S : Canvas → (ℕ → ℕ) → Type 0) : Type 0 where
   pub canvas : Canvas
-  pub shows : S canvas
+  pub layer : ℕ → ℕ
+  pub shows : S canvas layer
   pub rest : withSprites m g stand l f (take (8 - count) (listed m g l (64 - n) n)) canvas ≡ withSprites m g stand l f (take 8 (listed m g l 64 0)) (bare colour)
+  pub owners : layersWith m g stand l f (take (8 - count) (listed m g l (64 - n) n)) canvas layer ≡ layersWith m g stand l f (take 8 (listed m g l 64 0)) (bare colour) (λ x. 0)
   pub many : ltb (8 - count) (length (listed m g l (64 - n) n)) ≡ ltb 8 (length (listed m g l 64 0))
 
 -- the whole list, laid: S holds of what it gives
-pub record Done (m g : ℕ → ℕ) (stand : ℕ → Stand) (l : ℕ) (f : ℕ → Bool) (colour : ℕ → ℕ) (ninth : Bool) (S : Canvas → Type 0) : Type 0 where
-  pub shows : S (withSprites m g stand l f (take 8 (listed m g l 64 0)) (bare colour))
+pub record Done (m g : ℕ → ℕ) (stand : ℕ → Stand) (l : ℕ) (f : ℕ → Bool) (colour : ℕ → ℕ) (ninth : Bool) (S : Canvas → (ℕ → ℕ) → Type 0) : Type 0 where
+  pub shows : S (withSprites m g stand l f (take 8 (listed m g l 64 0)) (bare colour)) (layersWith m g stand l f (take 8 (listed m g l 64 0)) (bare colour) (λ x. 0))
   pub many : ninth ≡ ltb 8 (length (listed m g l 64 0))
 
+both-by : (S : Canvas → (ℕ → ℕ) → Type 0) {c c′ : Canvas} {o o′ : ℕ → ℕ} → c ≡ c′ → o ≡ o′ → S c o → S c′ o′
+both-by S {c′} {o} p q s = subst (λ (w : ℕ → ℕ). S c′ w) q (subst (λ (k : Canvas). S k o) p s)
+
 module _ (m g : ℕ → ℕ) (stand : ℕ → Stand) (l : ℕ) (f : ℕ → Bool) (colour : ℕ → ℕ) where
-  pub going-starts : (S : Canvas → Type 0) → S (bare colour) → Going m g stand l f colour 0 0 S
-  going-starts S s = record { canvas = bare colour; shows = s; rest = refl; many = refl }
+  pub going-starts : (S : Canvas → (ℕ → ℕ) → Type 0) → S (bare colour) (λ x. 0) → Going m g stand l f colour 0 0 S
+  going-starts S s = record { canvas = bare colour; layer = λ x. 0; shows = s; rest = refl; owners = refl; many = refl }
 
-  pub going-skips : {n count : ℕ} {S : Canvas → Type 0} → listed m g l (64 - n) n ≡ listed m g l (64 - (n + 1)) (n + 1)
+  pub going-skips : {n count : ℕ} {S : Canvas → (ℕ → ℕ) → Type 0} → listed m g l (64 - n) n ≡ listed m g l (64 - (n + 1)) (n + 1)
       → Going m g stand l f colour n count S → Going m g stand l f colour (n + 1) count S
-  going-skips e o = record { canvas = o .canvas; shows = o .shows; rest = rw e at (o .rest); many = rw e at (o .many) }
+  going-skips e o = record { canvas = o .canvas; layer = o .layer; shows = o .shows; rest = rw e at (o .rest); owners = rw e at (o .owners); many = rw e at (o .many) }
 
-  pub going-on : {n p count count′ : ℕ} {S : Canvas → Type 0} (S′ : Canvas → Type 0) → listed m g l (64 - n) n ≡ p ∷ listed m g l (64 - (p + 1)) (p + 1) → count < 8
-      → count′ ≡ count + 1 → (o : Going m g stand l f colour n count S) → S′ (withSprite m g stand l f p (o .canvas)) → Going m g stand l f colour (p + 1) count′ S′
-  unfolding withSprites
+  pub going-on : {n p count count′ : ℕ} {S : Canvas → (ℕ → ℕ) → Type 0} (S′ : Canvas → (ℕ → ℕ) → Type 0) → listed m g l (64 - n) n ≡ p ∷ listed m g l (64 - (p + 1)) (p + 1) → count < 8
+      → count′ ≡ count + 1 → (o : Going m g stand l f colour n count S) → S′ (withSprite m g stand l f p (o .canvas)) (ownedBy m g stand l f p (o .canvas) (o .layer))
+      → Going m g stand l f colour (p + 1) count′ S′
+  unfolding withSprites layersWith
   going-on {n} {p} {count} {count′} S′ e h q o s =
       let k : 8 - count ≡ suc (8 - count′) = omega arith in
       record {
         canvas = withSprite m g stand l f p (o .canvas);
+        layer = ownedBy m g stand l f p (o .canvas) (o .layer);
         shows = s;
         rest = rw (e, k) at (o .rest);
+        owners = rw (e, k) at (o .owners);
         many = sym (leb·suc-suc (suc (8 - count′)) (length (listed m g l (64 - (p + 1)) (p + 1)))) ∙ (rw (e, k) at (o .many));
       }
 
-  pub going-ends : {n count : ℕ} (S : Canvas → Type 0) → listed m g l (64 - n) n ≡ [] → Going m g stand l f colour n count S → Done m g stand l f colour false S
-  unfolding withSprites
+  pub going-ends : {n count : ℕ} (S : Canvas → (ℕ → ℕ) → Type 0) → listed m g l (64 - n) n ≡ [] → Going m g stand l f colour n count S → Done m g stand l f colour false S
+  unfolding withSprites layersWith
   going-ends {n} {count} S e o =
       let z : 0 ≤ 8 - count = omega arith in
-      record { shows = subst S (rw (e, take-nil (8 - count)) at (o .rest)) (o .shows); many = sym (le-ltb (8 - count) 0 z) ∙ (rw e at (o .many)) }
+      record {
+        shows = both-by S (rw (e, take-nil (8 - count)) at (o .rest)) (rw (e, take-nil (8 - count)) at (o .owners)) (o .shows);
+        many = sym (le-ltb (8 - count) 0 z) ∙ (rw e at (o .many));
+      }
 
-  pub going-full : {n p count : ℕ} (S : Canvas → Type 0) → listed m g l (64 - n) n ≡ p ∷ listed m g l (64 - (p + 1)) (p + 1) → count ≡ 8
+  pub going-full : {n p count : ℕ} (S : Canvas → (ℕ → ℕ) → Type 0) → listed m g l (64 - n) n ≡ p ∷ listed m g l (64 - (p + 1)) (p + 1) → count ≡ 8
       → Going m g stand l f colour n count S → Done m g stand l f colour true S
-  unfolding withSprites
+  unfolding withSprites layersWith
   going-full {n} {p} {count} S e h o =
       let k : 8 - count ≡ 0 = omega arith in
       let z : 0 < suc (length (listed m g l (64 - (p + 1)) (p + 1))) = omega arith in
-      record { shows = subst S (rw k at (o .rest)) (o .shows); many = sym (lt-ltb 0 (suc (length (listed m g l (64 - (p + 1)) (p + 1)))) z) ∙ (rw (e, k) at (o .many)) }
+      record {
+        shows = both-by S (rw k at (o .rest)) (rw k at (o .owners)) (o .shows);
+        many = sym (lt-ltb 0 (suc (length (listed m g l (64 - (p + 1)) (p + 1)))) z) ∙ (rw (e, k) at (o .many));
+      }
 
 -- ---- the same, where the code has found the next sprite on the line already: sprite n, of which line d is shown
-pub record Facing (m g : ℕ → ℕ) (stand : ℕ → Stand) (l : ℕ) (f : ℕ → Bool) (colour : ℕ → ℕ) (n d count : ℕ) (S : Canvas → Type 0) : Type 0 where
+pub record Facing (m g : ℕ → ℕ) (stand : ℕ → Stand) (l : ℕ) (f : ℕ → Bool) (colour : ℕ → ℕ) (n d count : ℕ) (S : Canvas → (ℕ → ℕ) → Type 0) : Type 0 where
   pub from : ℕ
   pub going : Going m g stand l f colour from count S
   pub follows : Follows m g l from n d
 
 module _ (m g : ℕ → ℕ) (stand : ℕ → Stand) (l : ℕ) (f : ℕ → Bool) (colour : ℕ → ℕ) where
-  pub facing-on : {n d n′ d′ count count′ : ℕ} {S : Canvas → Type 0} (S′ : Canvas → Type 0) → n < 64 → count < 8 → count′ ≡ count + 1 → (o : Facing m g stand l f colour n d count S)
-      → S′ (withSprite m g stand l f n (o .going .canvas)) → Follows m g l (n + 1) n′ d′ → Facing m g stand l f colour n′ d′ count′ S′
+  pub facing-on : {n d n′ d′ count count′ : ℕ} {S : Canvas → (ℕ → ℕ) → Type 0} (S′ : Canvas → (ℕ → ℕ) → Type 0) → n < 64 → count < 8 → count′ ≡ count + 1
+      → (o : Facing m g stand l f colour n d count S)
+      → S′ (withSprite m g stand l f n (o .going .canvas)) (ownedBy m g stand l f n (o .going .canvas) (o .going .layer))
+      → Follows m g l (n + 1) n′ d′ → Facing m g stand l f colour n′ d′ count′ S′
   facing-on {n} S′ low h q o s e = record { from = n + 1; going = going-on m g stand l f colour S′ (o .follows .next low) h q (o .going) s; follows = e }
 
-  pub facing-ends : {n d count : ℕ} (S : Canvas → Type 0) → 64 ≤ n → Facing m g stand l f colour n d count S → Done m g stand l f colour false S
+  pub facing-ends : {n d count : ℕ} (S : Canvas → (ℕ → ℕ) → Type 0) → 64 ≤ n → Facing m g stand l f colour n d count S → Done m g stand l f colour false S
   facing-ends S h o = going-ends m g stand l f colour S (o .follows .none h) (o .going)
 
-  pub facing-full : {n d count : ℕ} (S : Canvas → Type 0) → n < 64 → count ≡ 8 → Facing m g stand l f colour n d count S → Done m g stand l f colour true S
+  pub facing-full : {n d count : ℕ} (S : Canvas → (ℕ → ℕ) → Type 0) → n < 64 → count ≡ 8 → Facing m g stand l f colour n d count S → Done m g stand l f colour true S
   facing-full S low h o = going-full m g stand l f colour S (o .follows .next low) h (o .going)
 
 pub list-done : (m g : ℕ → ℕ) (l n : ℕ) → 64 ≤ n → listed m g l (64 - n) n ≡ []
@@ -149,13 +173,23 @@ module _ (m g : ℕ → ℕ) (l n : ℕ) {table y : ℕ} (te : table ≡ tableAt
               rw (le-leb top l b) (le-ltb l (top + lines) k)
         ])
 
--- ---- a row of bytes
-module _ (m g : ℕ → ℕ) (stand : ℕ → Stand) (l : ℕ) (f : ℕ → Bool) (colour : ℕ → ℕ) (row₀ colours : List ℕ) (width : ℕ) where
-  pub row-starts : {row marks : List ℕ} {met : Bool} → row ≡ painted row₀ 0 width (λ x. at colours (colour x)) → marks ≡ cleared → met ≡ false
-      → Going m g stand l f colour 0 0 (λ c. Shows row₀ colours width c row marks met)
-  unfolding bare cleared
-  row-starts {row} {marks} {met} b k h = going-starts m g stand l f colour (λ c. Shows row₀ colours width c row marks met) (record { bytes = b; mask = k; hit = h })
+-- ---- a row of bytes and its layers
+-- what the code's values show of a canvas and its layers
+pub record Told (row₀ layers₀ colours : List ℕ) (width : ℕ) (row marks layers : List ℕ) (met : Bool) (c : Canvas) (own : ℕ → ℕ) : Type 0 where
+  pub canvas : Shows row₀ colours width c row marks met
+  pub owners : layers ≡ layersIn layers₀ width own
 
-  pub finished : {row : List ℕ} {r : Marks} → Done m g stand l f colour (r .ninth) (λ c. Shows row₀ colours width c row (r .mask .bits) (r .hit))
-      → Laid m g stand l f row₀ colours width colour row r
-  finished d = record { line = record { bytes = d .shows .bytes; struck = d .shows .hit; many = d .many }; marks = d .shows .mask }
+module _ (m g : ℕ → ℕ) (stand : ℕ → Stand) (l : ℕ) (f : ℕ → Bool) (colour : ℕ → ℕ) (row₀ layers₀ colours : List ℕ) (width : ℕ) where
+  pub row-starts : {row marks layers : List ℕ} {met : Bool} → row ≡ painted row₀ 0 width (λ x. at colours (colour x)) → layers ≡ layersIn layers₀ width (λ x. 0) → marks ≡ cleared
+      → met ≡ false → Going m g stand l f colour 0 0 (Told row₀ layers₀ colours width row marks layers met)
+  unfolding bare cleared
+  row-starts {row} {marks} {layers} {met} b o k h =
+      going-starts m g stand l f colour (Told row₀ layers₀ colours width row marks layers met) (record { canvas = record { bytes = b; mask = k; hit = h }; owners = o })
+
+  pub finished : {row layers : List ℕ} {r : Marks} → Done m g stand l f colour (r .ninth) (Told row₀ layers₀ colours width row (r .mask .bits) layers (r .hit))
+      → Laid m g stand l f row₀ colours width colour row r layers₀ layers
+  finished d =
+      record {
+        line = record { bytes = d .shows .canvas .bytes; struck = d .shows .canvas .hit; many = d .many; owners = d .shows .owners };
+        marks = d .shows .canvas .mask;
+      }

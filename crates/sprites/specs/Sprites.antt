@@ -2,10 +2,10 @@
 -- Assumes nothing.
 use mathlib.Core.Path.{_≡_}
 use mathlib.Core.List.{List, [], _∷_}
-use mathlib.Core.Bool.{Bool}
+use mathlib.Core.Bool.{Bool, cond}
 use Prim.Native.Nat.{ℕ, _+_, _-_, _*_, _≤_, _<_}
 use lib.ListN.{length, take}
-use lib.Dec.{ltb}
+use lib.Dec.{ltb, leb}
 use Rattle.laws.specs.Lists.{at}
 use Rattle.laws.specs.Paint.{painted}
 use Rattle.laws.specs.Sizes.{vramSize}
@@ -15,6 +15,8 @@ use Rattle.picture.specs.declared.RenderArea.{RenderArea}
 use Rattle.picture.specs.declared.RenderArea.the-variants.{VisibleOnly, EffectiveArea}
 use Rattle.picture.specs.View.{visibleStand, effectiveStand}
 use Rattle.picture.specs.Picture.{listed, topOf, withSprites, bare}
+use Rattle.picture.specs.Layers.{layersWith, layersIn}
+use Rattle.tile.specs.Layer.{stamped}
 use Rattle.sprites.specs.declared.Marks.{Marks}
 
 -- where a sprite with X byte h stands in an area
@@ -40,13 +42,19 @@ pub record Room (vram row : List ℕ) (width : ℕ) : Type 0 where
   pub memory : length vram ≡ vramSize
   pub bytes : width * 4 ≤ length row
 
--- a whole line of sprites, laid on a row of the colours `colour`: the row's bytes, whether two pixels met, and whether there was a ninth
-pub record Finished (m g : ℕ → ℕ) (stand : ℕ → Stand) (l : ℕ) (f : ℕ → Bool) (row₀ colours : List ℕ) (width : ℕ) (colour : ℕ → ℕ) (row : List ℕ) (hit ninth : Bool) : Type 0 where
+-- R15.3: the layers of a row with the columns of sprite n, where they are asked for
+abbrev pub stampedIf : List ℕ → ℕ → ℕ → ℕ → ℕ → ℕ → List ℕ
+stampedIf layers width x n drawn held = cond (leb width (length layers)) (stamped layers width x n drawn held 8) layers
+
+-- a whole line of sprites, laid on a row of the colours `colour` that is all background's: the row's bytes, whether two pixels met, whether there was a ninth,
+-- and the row's layers
+pub record Finished (m g : ℕ → ℕ) (stand : ℕ → Stand) (l : ℕ) (f : ℕ → Bool) (row₀ colours : List ℕ) (width : ℕ) (colour : ℕ → ℕ) (row : List ℕ) (hit ninth : Bool) (layers₀ layers : List ℕ) : Type 0 where
   pub bytes : row ≡ painted row₀ 0 width (λ x. at colours (withSprites m g stand l f (take 8 (listed m g l 64 0)) (bare colour) .colour x))
   pub struck : hit ≡ withSprites m g stand l f (take 8 (listed m g l 64 0)) (bare colour) .hit
   pub many : ninth ≡ ltb 8 (length (listed m g l 64 0))
+  pub owners : layers ≡ layersIn layers₀ width (layersWith m g stand l f (take 8 (listed m g l 64 0)) (bare colour) (λ x. 0))
 
 -- the same, with the mask that the sprites leave
-pub record Laid (m g : ℕ → ℕ) (stand : ℕ → Stand) (l : ℕ) (f : ℕ → Bool) (row₀ colours : List ℕ) (width : ℕ) (colour : ℕ → ℕ) (row : List ℕ) (r : Marks) : Type 0 where
-  pub line : Finished m g stand l f row₀ colours width colour row (r .hit) (r .ninth)
+pub record Laid (m g : ℕ → ℕ) (stand : ℕ → Stand) (l : ℕ) (f : ℕ → Bool) (row₀ colours : List ℕ) (width : ℕ) (colour : ℕ → ℕ) (row : List ℕ) (r : Marks) (layers₀ layers : List ℕ) : Type 0 where
+  pub line : Finished m g stand l f row₀ colours width colour row (r .hit) (r .ninth) layers₀ layers
   pub marks : r .mask .bits ≡ bytesOf (withSprites m g stand l f (take 8 (listed m g l 64 0)) (bare colour) .mask)

@@ -14,11 +14,13 @@ ghost use Rattle.bitmap.specs.Mask.{bytesOf, cleared};
 ghost use Rattle.picture.specs.Tile.{codeAt};
 ghost use Rattle.picture.specs.View.{early, visibleEnd, visibleSeen, visibleStand, effectiveStand};
 ghost use Rattle.picture.specs.Picture.{solid, tableAt, tall, spriteLine};
-ghost use Rattle.tile.specs.Line.{lineMarked, lineDrawn, spriteColour};
-ghost use Rattle.sprites.specs.Sprites.{standOf, Fits, Follows, Finished, Laid, Room};
+ghost use Rattle.picture.specs.Layers.{layersIn};
+ghost use Rattle.tile.specs.Line.{lineMarked, lineDrawn, lineHeld, spriteColour};
+ghost use Rattle.sprites.specs.Sprites.{standOf, Fits, Follows, Finished, Laid, Room, stampedIf};
 use bitmap::Bitmap;
 use picture::RenderArea;
 use picture::Stand;
+use tile::Columns;
 
 // The next sprite of the list that is on a line, and the line of it that is shown there; number 64 where there is none.
 struct Next {
@@ -227,24 +229,39 @@ fn leaves(bits: u8, count: usize) -> Marked
     }
 }
 
-// A sprite that stands at s and whose tile line is at addr, where `held` is what priority holds back, `taken` what others have marked and
-// `count` how many they are. An unseen one counts and marks too, and draws nothing.
+// What became of the columns of sprite n, from column x on, into the layers; a layer buffer with fewer bytes than the row has columns asks for none.
+fn own(layers: &mut [u8], width: usize, x: usize, n: usize, columns: Columns)
+    requires { ⌜ (x < 65536) × (n < 64) ⌝ }
+    ensures { λ r. ⌜ now (layers .exit) ≡ stampedIf (now (layers .entry)) width x n (columns .drawn) (columns .held) ⌝ }
+{
+    let drawn = columns.drawn;
+    let held = columns.held;
+    if width <= layers.len() {
+        tile::own_columns(layers, width, x, n, drawn, held);
+    }
+}
+
+// Sprite n, which stands at s and whose tile line is at addr, where `held` is what priority holds back, `taken` what others have marked and
+// `count` how many they are. An unseen one counts and marks too, and draws nothing; it owns no pixel.
 fn render_sprite(
     row: &mut [u8],
+    layers: &mut [u8],
     vram: &[u8],
     colours: &[u32; 32],
     width: usize,
     held: u8,
     taken: u8,
+    n: usize,
     s: Stand,
     addr: usize,
     count: usize,
 ) -> Marked
     requires { ⌜ Fits s ⌝ }
-    requires { ⌜ (addr + 4 ≤ length (now vram)) × (width * 4 ≤ length (now row)) × (count < 8) ⌝ }
+    requires { ⌜ (addr + 4 ≤ length (now vram)) × (width * 4 ≤ length (now row)) × (count < 8) × (n < 64) ⌝ }
     ensures { λ r. ⌜ now (row .exit) ≡ cond (s .seen) (overlaid (now (row .entry)) (s .x) 8 (lineDrawn (now (vram .entry)) addr (s .start) (s .end) held taken width (s .x)) (spriteColour (now (colours .entry)) (now (vram .entry)) addr (s .start))) (now (row .entry)) ⌝ }
     ensures { λ r. ⌜ r .bits ≡ cond (s .seen) (byteOf (lineMarked (now (vram .entry)) addr (s .start) (s .end) held)) (byteOf (solid (s .start) (s .end) (codeAt (at (now (vram .entry))) addr))) ⌝ }
     ensures { λ r. ⌜ r .count ≡ count + 1 ⌝ }
+    ensures { λ r. ⌜ now (layers .exit) ≡ cond (s .seen) (stampedIf (now (layers .entry)) width (s .x) n (byteOf (lineDrawn (now (vram .entry)) addr (s .start) (s .end) held taken width (s .x))) (byteOf (lineHeld (now (vram .entry)) addr (s .start) (s .end) held))) (now (layers .entry)) ⌝ }
 {
     let seen = s.seen;
     let x = s.x;
@@ -264,6 +281,7 @@ fn render_sprite(
             start,
             end,
         );
+        own(layers, width, x, n, columns);
         return leaves(columns.marks, more);
     }
     let bits = tile::character_line_sprite_bitmap(vram, addr, start, end);
@@ -293,10 +311,11 @@ fn next_on(vram: &[u8], table: usize, from: usize, line: usize, lines: usize) ->
     Next { n: 64, d: 0 }
 }
 
-// The sprites of a line, over its background, under the priority mask `prio`, with what they mark joined to `mask`. Both masks come by
-// value; the loop reads and marks them where they stand.
+// The sprites of a line, over its background, under the priority mask `prio`, with what they mark joined to `mask`, and the layers that they own. Both
+// masks come by value; the loop reads and marks them where they stand.
 fn sprites_line(
     row: &mut [u8],
+    layers: &mut [u8],
     vram: &[u8],
     colours: &[u32; 32],
     area: RenderArea,
@@ -307,7 +326,7 @@ fn sprites_line(
     mut mask: Bitmap,
 ) -> Marks
     requires { ⌜ Room (now vram) (now row) width ⌝ }
-    ensures { λ r. ⌜ ((row₀ : List ℕ) (f : ℕ → Bool) (colour : ℕ → ℕ) → prio .bits ≡ bytesOf f → mask .bits ≡ cleared → now (row .entry) ≡ painted row₀ 0 width (λ x. at (now (colours .entry)) (colour x)) → Laid (at (now (vram .entry))) (at reg) (standOf area (early (at reg))) line f row₀ (now (colours .entry)) width colour (now (row .exit)) r) ⌝ }
+    ensures { λ r. ⌜ ((row₀ layers₀ : List ℕ) (f : ℕ → Bool) (colour : ℕ → ℕ) → prio .bits ≡ bytesOf f → mask .bits ≡ cleared → now (row .entry) ≡ painted row₀ 0 width (λ x. at (now (colours .entry)) (colour x)) → now (layers .entry) ≡ layersIn layers₀ width (λ x. 0) → Laid (at (now (vram .entry))) (at reg) (standOf area (early (at reg))) line f row₀ (now (colours .entry)) width colour (now (row .exit)) r layers₀ (now (layers .exit))) ⌝ }
 {
     let table = table_at(reg);
     let lines = height(small::is_set(reg[1], 1));
@@ -333,7 +352,20 @@ fn sprites_line(
         let low = place / 8;
         let high = (low + 1) % 32;
         let taken = bitmap::window(mask.bits[low], mask.bits[high], place % 8);
-        let one = render_sprite(row, vram, colours, width, held, taken, s, addr, count);
+        let n = next.n;
+        let one = render_sprite(
+            row,
+            layers,
+            vram,
+            colours,
+            width,
+            held,
+            taken,
+            n,
+            s,
+            addr,
+            count,
+        );
         let bits = one.bits;
         hit = or(hit, collision_calc(taken, bits));
         mask.bits[low] |= bitmap::lower(bits, place % 8);
@@ -349,9 +381,10 @@ fn sprites_line(
     }
 }
 
-// The sprites of a line, over its background, under the priority mask `prio`.
+// The sprites of a line, over its background, under the priority mask `prio`, and the layers that they own.
 pub fn render_sprites_line(
     row: &mut [u8],
+    layers: &mut [u8],
     vram: &[u8],
     colours: &[u32; 32],
     area: RenderArea,
@@ -361,10 +394,21 @@ pub fn render_sprites_line(
     prio: Bitmap,
 ) -> Line
     requires { ⌜ Room (now vram) (now row) width ⌝ }
-    ensures { λ r. ⌜ ((row₀ : List ℕ) (f : ℕ → Bool) (colour : ℕ → ℕ) → prio .bits ≡ bytesOf f → now (row .entry) ≡ painted row₀ 0 width (λ x. at (now (colours .entry)) (colour x)) → Finished (at (now (vram .entry))) (at reg) (standOf area (early (at reg))) line f row₀ (now (colours .entry)) width colour (now (row .exit)) (r .hit) (r .ninth)) ⌝ }
+    ensures { λ r. ⌜ ((row₀ layers₀ : List ℕ) (f : ℕ → Bool) (colour : ℕ → ℕ) → prio .bits ≡ bytesOf f → now (row .entry) ≡ painted row₀ 0 width (λ x. at (now (colours .entry)) (colour x)) → now (layers .entry) ≡ layersIn layers₀ width (λ x. 0) → Finished (at (now (vram .entry))) (at reg) (standOf area (early (at reg))) line f row₀ (now (colours .entry)) width colour (now (row .exit)) (r .hit) (r .ninth) layers₀ (now (layers .exit))) ⌝ }
 {
     let none = Bitmap::new();
-    let marks = sprites_line(row, vram, colours, area, reg, line, width, prio, none);
+    let marks = sprites_line(
+        row,
+        layers,
+        vram,
+        colours,
+        area,
+        reg,
+        line,
+        width,
+        prio,
+        none,
+    );
     Line {
         hit: marks.hit,
         ninth: marks.ninth,

@@ -2,4 +2,6 @@
 pub mod Step
 pub mod Points
 pub mod Frame
+pub mod Layers
+pub mod Lend
 pub mod Dump

@@ -7,6 +7,7 @@ use lib.ListN.{drop}
 use Rattle.picture.specs.declared.RenderArea.{RenderArea}
 use Rattle.picture.specs.Picture.{Row}
 use Rattle.picture.specs.Area.{columns, rows, rowSize, rowBytes, statusBits}
+use Rattle.picture.specs.Layers.{layersIn}
 use Rattle.raster.specs.declared.Raster.{Raster}
 use Rattle.vdp.specs.declared.VdpState.{VdpState}
 use Rattle.vdp.specs.declared.Refusal.{Refusal}
@@ -31,6 +32,11 @@ bitsOf (Drawn y) picture = statusBits (picture y)
 unfoldable pub bytesOf : DrawnRow → RenderArea → List ℕ → (ℕ → Row) → List ℕ → List ℕ
 bytesOf NoRow a colours picture buffer = buffer
 bytesOf (Drawn y) a colours picture buffer = rowBytes colours (columns a) (picture y) ++ drop (rowSize a) buffer
+
+-- the layer buffer that it leaves, where `layer` gives the layers of each row
+unfoldable pub ownersOf : DrawnRow → RenderArea → (ℕ → ℕ → ℕ) → List ℕ → List ℕ
+ownersOf NoRow a layer buffer = buffer
+ownersOf (Drawn y) a layer buffer = layersIn buffer (columns a) (layer y)
 
 -- what is answered and left where the step is refused before its points
 abbrev pub refusedPoints : Refusal → ℕ → Raster → Points

@@ -1,7 +1,7 @@
 // The step: its five points by what they read and leave of a device, and the step of a whole device, into a row buffer or into a frame of which it lends one row.
 // And the view of a frame's row, and the dump of all tiles.
 ghost use mathlib.Core.Path.{_≡_};
-ghost use mathlib.Core.Bool.{cond, _&&_, _||_};
+ghost use mathlib.Core.Bool.{false, cond, _&&_, _||_};
 ghost use Prim.Native.Nat.{_≤_, _<_};
 ghost use lib.Bits.{bitOr};
 ghost use lib.Dec.{eqb};
@@ -10,13 +10,16 @@ ghost use Rattle.laws.specs.Bits.{bit};
 ghost use Rattle.laws.specs.Lists.{at};
 ghost use Rattle.laws.specs.Sizes.{vramSize};
 ghost use Rattle.colour.specs.Colour.{coloursOf};
-ghost use Rattle.picture.specs.Area.{rows, rowSize, frameSize, pictureOf};
+ghost use Rattle.picture.specs.Area.{columns, rows, rowSize, frameSize, pictureOf};
+ghost use Rattle.picture.specs.Layers.{layersOf};
 ghost use Rattle.raster.specs.Raster.{lineInterrupt};
 ghost use Rattle.vdp.specs.declared.VdpState.{VdpState};
 ghost use Rattle.step.specs.declared.VdpInt.the-variants.{NoInterrupt, InterruptGenerated};
 ghost use Rattle.step.specs.declared.DisplayRefresh.the-variants.{NoDisplay, ScreenDone, ScreenDoneNoRefresh};
 ghost use Rattle.step.specs.Step.{interruptNumber, reportNumber, rowOn, coloursNow};
-ghost use Rattle.step.specs.Points.{RowIn, bitsOf, bytesOf, refusedPoints, Reads, cleaned, joined};
+ghost use Rattle.step.specs.Layers.{RowLayersLeave, FrameLayersLeave};
+ghost use Rattle.step.specs.Lend.{LentOut};
+ghost use Rattle.step.specs.Points.{RowIn, bitsOf, bytesOf, ownersOf, refusedPoints, Reads, cleaned, joined};
 ghost use Rattle.step.specs.Dump.{DumpLeaves};
 ghost use Rattle.step.specs.Frame.{startOf, RowStepLeaves, FrameStepLeaves, rowView};
 use picture::RenderArea;
@@ -130,24 +133,26 @@ fn colours_of(vdp: VdpState, rebuilt: bool) -> [u32; 32]
     color_cache
 }
 
-// The row drawn into the buffer; answers the status bits that it sets.
+// The row drawn into the buffer, and its layers told where they are asked for; answers the status bits that it sets.
 fn draw(
     reg: [u8; 11],
     scroll: u8,
     colours: &[u32; 32],
     vram: &[u8],
     row: &mut [u8],
+    layers: &mut [u8],
     area: RenderArea,
     drawn: DrawnRow,
 ) -> u8
     requires { ⌜ (length (now vram) ≡ vramSize) × (rowSize area ≤ length (now row)) × RowIn area drawn ⌝ }
     ensures { λ r. ⌜ r ≡ bitsOf drawn (pictureOf area reg scroll (now (vram .entry))) ⌝ }
     ensures { λ r. ⌜ now (row .exit) ≡ bytesOf drawn area (now (colours .entry)) (pictureOf area reg scroll (now (vram .entry))) (now (row .entry)) ⌝ }
+    ensures { λ r. ⌜ now (layers .exit) ≡ ownersOf drawn area (layersOf area reg scroll (now (vram .entry))) (now (layers .entry)) ⌝ }
 {
     let DrawnRow::Drawn(line) = drawn else {
         return 0;
     };
-    row::render_line(row, vram, colours, area, reg, scroll, line)
+    row::render_line(row, layers, vram, colours, area, reg, scroll, line)
 }
 
 // R4.3: the screen ends at line C1.
@@ -194,7 +199,16 @@ fn refused(refusal: Refusal, status: u8, raster: Raster) -> Points
     }
 }
 
-// How many rows a frame has, the bytes of a row and of a frame, and where a row's part of a frame starts (with no row, the first row's).
+// How many columns a row has and how many rows a frame, the bytes of a row and of a frame, and where a row's part of a frame starts (with no row, the first row's).
+fn column_count(area: RenderArea) -> usize
+    ensures { λ r. ⌜ r ≡ columns area ⌝ }
+{
+    match area {
+        RenderArea::VisibleOnly => 160,
+        RenderArea::EffectiveArea => 256,
+    }
+}
+
 fn row_count(area: RenderArea) -> usize
     ensures { λ r. ⌜ r ≡ rows area ⌝ }
 {
@@ -231,17 +245,19 @@ fn start_of(area: RenderArea, row: DrawnRow) -> usize
     }
 }
 
-// Points 1 to 5 of a step of any device that has these registers, raster, status and colours; the row goes to the first bytes of the row buffer.
-pub fn row_points(
+// Points 1 to 5 of a step of any device that has these registers, raster, status and colours. The row goes to the first bytes of the row buffer, and its
+// layers to the first bytes of `layers`; a layer buffer with fewer bytes than the row has columns asks for none.
+fn row_points_into(
     reg: [u8; 11],
     raster: Raster,
     status: u8,
     colours: &[u32; 32],
     vram: &[u8],
     row: &mut [u8],
+    layers: &mut [u8],
     area: RenderArea,
 ) -> Points
-    ensures { λ r. ⌜ ((d : VdpState) → Reads d reg raster status (now (colours .entry)) → RowStepLeaves area (now (vram .entry)) d (now (row .entry)) (joined d r) (now (row .exit))) ⌝ }
+    ensures { λ r. ⌜ ((d : VdpState) → Reads d reg raster status (now (colours .entry)) → RowLayersLeave 0 area (now (vram .entry)) d (now (row .entry)) (now (layers .entry)) (joined d r) (now (row .exit)) (now (layers .exit))) ⌝ }
 {
     if vram.len() != VRAM_SIZE {
         return refused(Refusal::VramLength, status, raster);
@@ -253,7 +269,16 @@ pub fn row_points(
     let up = raster.advance(reg);
     let line = up.v_counter;
     let drawn = row_on(area, line);
-    let bits = draw(reg, up.vertical_scroll, colours, vram, row, area, drawn);
+    let bits = draw(
+        reg,
+        up.vertical_scroll,
+        colours,
+        vram,
+        row,
+        layers,
+        area,
+        drawn,
+    );
     let last = ended(status | bits, line);
     Points {
         refusal: Refusal::Accepted,
@@ -265,7 +290,93 @@ pub fn row_points(
     }
 }
 
-// The points on a frame: the row's part of it is lent; with no row to draw, the first row's, which stays as it is.
+// The points of a step whose row goes to the row buffer.
+pub fn row_points(
+    reg: [u8; 11],
+    raster: Raster,
+    status: u8,
+    colours: &[u32; 32],
+    vram: &[u8],
+    row: &mut [u8],
+    area: RenderArea,
+) -> Points
+    ensures { λ r. ⌜ ((d : VdpState) → Reads d reg raster status (now (colours .entry)) → RowStepLeaves area (now (vram .entry)) d (now (row .entry)) (joined d r) (now (row .exit))) ⌝ }
+{
+    let mut none = [0u8; 0];
+    row_points_into(reg, raster, status, colours, vram, row, &mut none, area)
+}
+
+// The same, with the row's layers.
+pub fn layer_row_points(
+    reg: [u8; 11],
+    raster: Raster,
+    status: u8,
+    colours: &[u32; 32],
+    vram: &[u8],
+    row: &mut [u8],
+    layers: &mut [u8],
+    area: RenderArea,
+) -> Points
+    ensures { λ r. ⌜ ((d : VdpState) → Reads d reg raster status (now (colours .entry)) → RowLayersLeave (columns area) area (now (vram .entry)) d (now (row .entry)) (now (layers .entry)) (joined d r) (now (row .exit)) (now (layers .exit))) ⌝ }
+{
+    if vram.len() != VRAM_SIZE {
+        return refused(Refusal::VramLength, status, raster);
+    }
+    let need = row_size(area);
+    if row.len() < need {
+        return refused(Refusal::PixelLength, status, raster);
+    }
+    let least = column_count(area);
+    if layers.len() < least {
+        return refused(Refusal::LayerLength, status, raster);
+    }
+    row_points_into(reg, raster, status, colours, vram, row, layers, area)
+}
+
+// How a frame is lent to a step: not at all, by this refusal; or the row's part of it, and with no row to draw the first row's, which stays as it is.
+struct Lent {
+    good: bool,
+    refusal: Refusal,
+    start: usize,
+    end: usize,
+}
+
+fn not_lent(refusal: Refusal) -> Lent
+    ensures { λ r. ⌜ (r .good ≡ false) × (r .refusal ≡ refusal) × (r .start ≡ 0) × (r .end ≡ 0) ⌝ }
+{
+    Lent {
+        good: false,
+        refusal: refusal,
+        start: 0,
+        end: 0,
+    }
+}
+
+fn lend(reg: [u8; 11], raster: Raster, vram: &[u8], frame: &[u8], area: RenderArea) -> Lent
+    ensures { λ r. ⌜ LentOut area reg raster (now (vram .entry)) (length (now (frame .entry))) r ⌝ }
+{
+    if vram.len() != VRAM_SIZE {
+        return not_lent(Refusal::VramLength);
+    }
+    let need = frame_size(area);
+    if frame.len() < need {
+        return not_lent(Refusal::PixelLength);
+    }
+    if need < frame.len() {
+        return not_lent(Refusal::FrameTooLong);
+    }
+    let up = raster.advance(reg);
+    let drawn = row_on(area, up.v_counter);
+    let start = start_of(area, drawn);
+    Lent {
+        good: true,
+        refusal: Refusal::Accepted,
+        start: start,
+        end: start + row_size(area),
+    }
+}
+
+// The points on a frame.
 pub fn frame_points(
     reg: [u8; 11],
     raster: Raster,
@@ -277,21 +388,60 @@ pub fn frame_points(
 ) -> Points
     ensures { λ r. ⌜ ((d : VdpState) → Reads d reg raster status (now (colours .entry)) → FrameStepLeaves area (now (vram .entry)) d (now (frame .entry)) (joined d r) (now (frame .exit))) ⌝ }
 {
-    if vram.len() != VRAM_SIZE {
-        return refused(Refusal::VramLength, status, raster);
+    let part = lend(reg, raster, vram, frame, area);
+    let refusal = part.refusal;
+    let a = part.start;
+    let e = part.end;
+    if !part.good {
+        return refused(refusal, status, raster);
     }
-    let need = frame_size(area);
-    if frame.len() < need {
-        return refused(Refusal::PixelLength, status, raster);
+    let mut none = [0u8; 0];
+    row_points_into(
+        reg,
+        raster,
+        status,
+        colours,
+        vram,
+        &mut frame[a..e],
+        &mut none,
+        area,
+    )
+}
+
+// The same, with the row's layers.
+pub fn layer_frame_points(
+    reg: [u8; 11],
+    raster: Raster,
+    status: u8,
+    colours: &[u32; 32],
+    vram: &[u8],
+    frame: &mut [u8],
+    layers: &mut [u8],
+    area: RenderArea,
+) -> Points
+    ensures { λ r. ⌜ ((d : VdpState) → Reads d reg raster status (now (colours .entry)) → FrameLayersLeave (columns area) area (now (vram .entry)) d (now (frame .entry)) (now (layers .entry)) (joined d r) (now (frame .exit)) (now (layers .exit))) ⌝ }
+{
+    let part = lend(reg, raster, vram, frame, area);
+    let refusal = part.refusal;
+    let a = part.start;
+    let e = part.end;
+    if !part.good {
+        return refused(refusal, status, raster);
     }
-    if need < frame.len() {
-        return refused(Refusal::FrameTooLong, status, raster);
+    let least = column_count(area);
+    if layers.len() < least {
+        return refused(Refusal::LayerLength, status, raster);
     }
-    let up = raster.advance(reg);
-    let drawn = row_on(area, up.v_counter);
-    let a = start_of(area, drawn);
-    let e = a + row_size(area);
-    row_points(reg, raster, status, colours, vram, &mut frame[a..e], area)
+    row_points_into(
+        reg,
+        raster,
+        status,
+        colours,
+        vram,
+        &mut frame[a..e],
+        layers,
+        area,
+    )
 }
 
 // The device after a step that drew this row: clean colours, if it drew one.
@@ -344,6 +494,39 @@ pub fn frame_step(vdp: VdpState, vram: &[u8], frame: &mut [u8], area: RenderArea
     let raster = vdp.raster;
     let colours = colours_of(vdp, vdp.cram_dirty);
     let points = frame_points(reg, raster, vdp.status, &colours, vram, frame, area);
+    join(vdp, points, colours)
+}
+
+// The same two with the row's layers, which go to the first bytes of `layers`.
+pub fn layer_row_step(
+    vdp: VdpState,
+    vram: &[u8],
+    row: &mut [u8],
+    layers: &mut [u8],
+    area: RenderArea,
+) -> Stepped
+    ensures { λ r. ⌜ RowLayersLeave (columns area) area (now (vram .entry)) vdp (now (row .entry)) (now (layers .entry)) r (now (row .exit)) (now (layers .exit)) ⌝ }
+{
+    let reg = vdp.reg;
+    let raster = vdp.raster;
+    let colours = colours_of(vdp, vdp.cram_dirty);
+    let points = layer_row_points(reg, raster, vdp.status, &colours, vram, row, layers, area);
+    join(vdp, points, colours)
+}
+
+pub fn layer_frame_step(
+    vdp: VdpState,
+    vram: &[u8],
+    frame: &mut [u8],
+    layers: &mut [u8],
+    area: RenderArea,
+) -> Stepped
+    ensures { λ r. ⌜ FrameLayersLeave (columns area) area (now (vram .entry)) vdp (now (frame .entry)) (now (layers .entry)) r (now (frame .exit)) (now (layers .exit)) ⌝ }
+{
+    let reg = vdp.reg;
+    let raster = vdp.raster;
+    let colours = colours_of(vdp, vdp.cram_dirty);
+    let points = layer_frame_points(reg, raster, vdp.status, &colours, vram, frame, layers, area);
     join(vdp, points, colours)
 }
 

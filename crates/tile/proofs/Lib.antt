@@ -4,3 +4,4 @@ pub mod Lanes
 pub mod Squares
 pub mod Store
 pub mod Whole
+pub mod Layer

@@ -63,21 +63,6 @@ pub solid-of : (start end : ℕ) (code : ℕ → ℕ) (k : ℕ) {v : ℕ} → st
 unfolding solid
 solid-of start end code k h e = rw (lt-ltb (start + k) end h, e)
 
-pub marked-of : (vram : List ℕ) (addr start end held k : ℕ) {v : ℕ} {b t : Bool} → start + k < end → v ≡ codeAt (at vram) addr (start + k) → b ≡ bit held k
-    → t ≡ (not (eqb v 0) && not b) → t ≡ lineMarked vram addr start end held k
-unfolding lineMarked
-marked-of vram addr start end held k h e q p = p ∙ rw (q, solid-of start end (codeAt (at vram) addr) k h e)
-
-pub drawn-of : (vram : List ℕ) (addr start end held taken width x k : ℕ) {m b d e : Bool} → m ≡ lineMarked vram addr start end held k → b ≡ bit taken k
-    → d ≡ (m && not b) → e ≡ (d && ltb (x + k) width) → e ≡ lineDrawn vram addr start end held taken width x k
-unfolding lineDrawn
-drawn-of vram addr start end held taken width x k e q p r = r ∙ rw (p, q, e)
-
-pub held-of : (vram : List ℕ) (addr start end held k : ℕ) {v : ℕ} {b t : Bool} → start + k < end → v ≡ codeAt (at vram) addr (start + k) → b ≡ bit held k
-    → t ≡ (not (eqb v 0) && b) → t ≡ lineHeld vram addr start end held k
-unfolding lineHeld
-held-of vram addr start end held k h e q p = p ∙ rw (q, solid-of start end (codeAt (at vram) addr) k h e)
-
 pub held-past : (vram : List ℕ) (addr start end held k : ℕ) → end ≤ start + k → lineHeld vram addr start end held k ≡ false
 unfolding lineHeld
 held-past vram addr start end held k h = rw (solid-past start end (codeAt (at vram) addr) k h)

@@ -1,27 +1,33 @@
 -- A whole line of a tile: its colours and its solid pixels from the lanes, and what a sprite's columns become, byte by byte.
 -- Assumes nothing.
 use mathlib.Core.Path.{_≡_, refl, sym, ap, ap₂, _∙_}
-use mathlib.Core.Bool.{Bool, false, not, _&&_}
+use mathlib.Core.Bool.{Bool, true, false, not, _&&_}
 use mathlib.Core.List.{List}
-use Prim.Native.Nat.{ℕ, zero, suc, _+_, _-_, _/_, _%_, _<_, _≤_}
+use Prim.Native.Nat.{ℕ, zero, suc, _+_, _-_, _/_, _%_, _^_, _<_, _≤_, min}
+use native.Mathlib.Nat.{zero-add, zero-div}
+use native.Mathlib.Decide.{decLt}
 use native.Mathlib.Omega.{arith}
 use lib.Bits.{bitAnd, bitOr, and-le-l}
-use lib.Dec.{eqb, eqb→eq}
+use lib.Dec.{eqb, ltb, eqb→eq}
 use lib.ListN.{length, take, drop, length-take, length-drop}
 use lib.Seq.{getD-take, getD-drop}
-use borrow.Author.Tests.{lt-ltb}
-use Rattle.laws.specs.Bits.{bit, digit, byteOf}
+use borrow.Author.Tests.{lt-ltb, le-ltb, ltb-true}
+use Rattle.laws.specs.Bits.{bit, digit, number, byteOf}
 use Rattle.laws.specs.Lists.{at}
 use Rattle.laws.specs.Paint.{overlaid, ofBytes}
 use Rattle.laws.proofs.Bits.{bit-and, byte-is}
+use Rattle.laws.proofs.Any.{bit-of}
 use Rattle.laws.proofs.Bytes.{byte-0, byte-1, byte-2, byte-3}
+use Rattle.laws.proofs.Paint.{overlaid-all}
+use Rattle.laws.proofs.Tests.{both}
 use Rattle.laws.proofs.Sweep.{below}
 use Rattle.laws.proofs.Sweep as sweep
 use Rattle.picture.specs.Tile.{codeOf, codeAt, turned}
 use Rattle.picture.specs.Picture.{solid}
 use Rattle.tile.specs.Lanes.{lanes, lane}
 use Rattle.tile.specs.Line.{lineColour, lineSolid, lineMarked, lineDrawn, lineHeld}
-use Rattle.tile.proofs.Squares.{and-true, digit-same}
+use Rattle.tile.proofs.Marks.{marked-past, drawn-past, held-past}
+use Rattle.tile.proofs.Squares.{digit-same}
 use Rattle.tile.proofs.Lanes.{lane-zero, lane-code, solid-bit}
 
 -- ---- 16 of the colours
@@ -84,32 +90,105 @@ bit-lacks b j h l =
     (sweep.at 8 (λ j. eqb (digit (bit (255 - b) j)) (digit (not (bit b j))))
     (sweep.at 256 (λ b. below 8 (λ j. eqb (digit (bit (255 - b) j)) (digit (not (bit b j))))) tt b h) j l))
 
-module _ (vram : List ℕ) (addr held taken width x : ℕ) (bits : ℕ) (hh : held < 256) (ht : taken < 256) (hw : x + 8 ≤ width)
-    (e : (k : ℕ) → k < 8 → bit bits k ≡ lineSolid vram addr false 0 k) (hb : bits < 256) where
-  whole-solid : (k : ℕ) → k < 8 → bit bits k ≡ solid 0 8 (codeAt (at vram) addr) k
-  unfolding solid
-  whole-solid k h = let q : 0 + k < 8 = omega arith in e k h ∙ rw (lt-ltb (0 + k) 8 q)
-
-  whole-mark : (k : ℕ) → k < 8 → bit (bitAnd bits (255 - held)) k ≡ lineMarked vram addr 0 8 held k
+-- what becomes of a sprite's columns, as bytes: `bits` are those whose code is not 0, and `room` those that the row has
+module _ (vram : List ℕ) (addr start end held taken width x bits room : ℕ) (hh : held < 256) (ht : taken < 256) (hb : bits < 256)
+    (e : (k : ℕ) → k < 8 → bit bits k ≡ solid start end (codeAt (at vram) addr) k) (er : (k : ℕ) → k < 8 → bit room k ≡ ltb (x + k) width) where
+  mark-at : (k : ℕ) → k < 8 → bit (bitAnd bits (255 - held)) k ≡ lineMarked vram addr start end held k
   unfolding lineMarked
-  whole-mark k h = bit-and bits (255 - held) k ∙ ap₂ _&&_ (whole-solid k h) (bit-lacks held k hh h)
+  mark-at k h = bit-and bits (255 - held) k ∙ ap₂ _&&_ (e k h) (bit-lacks held k hh h)
 
-  pub whole-draw : (k : ℕ) → k < 8 → bit (bitAnd (bitAnd bits (255 - held)) (255 - taken)) k ≡ lineDrawn vram addr 0 8 held taken width x k
+  pub draw-at : (k : ℕ) → k < 8 → bit (bitAnd (bitAnd (bitAnd bits (255 - held)) (255 - taken)) room) k ≡ lineDrawn vram addr start end held taken width x k
   unfolding lineDrawn
-  whole-draw k h =
-      let q : x + k < width = omega arith in
-      bit-and (bitAnd bits (255 - held)) (255 - taken) k ∙ ap₂ _&&_ (whole-mark k h) (bit-lacks taken k ht h)
-      ∙ sym (and-true _) ∙ ap (λ (b : Bool). (lineMarked vram addr 0 8 held k && not (bit taken k)) && b) (sym (lt-ltb (x + k) width q))
+  draw-at k h =
+      bit-and (bitAnd (bitAnd bits (255 - held)) (255 - taken)) room k
+      ∙ ap₂ _&&_ (bit-and (bitAnd bits (255 - held)) (255 - taken) k ∙ ap₂ _&&_ (mark-at k h) (bit-lacks taken k ht h)) (er k h)
 
-  whole-hold : (k : ℕ) → k < 8 → bit (bitAnd bits held) k ≡ lineHeld vram addr 0 8 held k
+  hold-at : (k : ℕ) → k < 8 → bit (bitAnd bits held) k ≡ lineHeld vram addr start end held k
   unfolding lineHeld
-  whole-hold k h = bit-and bits held k ∙ ap (λ (b : Bool). b && bit held k) (whole-solid k h)
+  hold-at k h = bit-and bits held k ∙ ap (λ (b : Bool). b && bit held k) (e k h)
 
-  pub marks-are : bitAnd bits (255 - held) ≡ byteOf (lineMarked vram addr 0 8 held)
-  marks-are = byte-is _ _ (omega (arith, and-le-l bits (255 - held))) (λ j l. sym (whole-mark j l))
+  pub marks-are : bitAnd bits (255 - held) ≡ byteOf (lineMarked vram addr start end held)
+  marks-are = byte-is _ _ (omega (arith, and-le-l bits (255 - held))) (λ j l. sym (mark-at j l))
 
-  pub drawn-are : bitAnd (bitAnd bits (255 - held)) (255 - taken) ≡ byteOf (lineDrawn vram addr 0 8 held taken width x)
-  drawn-are = byte-is _ _ (omega (arith, and-le-l (bitAnd bits (255 - held)) (255 - taken), and-le-l bits (255 - held))) (λ j l. sym (whole-draw j l))
+  pub drawn-are : bitAnd (bitAnd (bitAnd bits (255 - held)) (255 - taken)) room ≡ byteOf (lineDrawn vram addr start end held taken width x)
+  drawn-are =
+      byte-is _ _
+      (omega (arith, and-le-l (bitAnd (bitAnd bits (255 - held)) (255 - taken)) room, and-le-l (bitAnd bits (255 - held)) (255 - taken), and-le-l bits (255 - held)))
+      (λ j l. sym (draw-at j l))
 
-  pub held-are : bitAnd bits held ≡ byteOf (lineHeld vram addr 0 8 held)
-  held-are = byte-is _ _ (omega (arith, and-le-l bits held)) (λ j l. sym (whole-hold j l))
+  pub held-are : bitAnd bits held ≡ byteOf (lineHeld vram addr start end held)
+  held-are = byte-is _ _ (omega (arith, and-le-l bits held)) (λ j l. sym (hold-at j l))
+
+-- a whole line: all eight are in the row
+bit-all : (k : ℕ) → k < 8 → bit 255 k ≡ true
+unfolding bit
+bit-all k h = digit-same _ _ (eqb→eq _ _ (sweep.at 8 (λ j. eqb (digit (bit 255 j)) 1) tt k h))
+
+pub whole-room : (width x k : ℕ) → x + 8 ≤ width → k < 8 → bit 255 k ≡ ltb (x + k) width
+whole-room width x k h l = let q : x + k < width = omega arith in bit-all k l ∙ sym (lt-ltb (x + k) width q)
+
+pub whole-solid : (vram : List ℕ) (addr bits k : ℕ) → k < 8 → bit bits k ≡ lineSolid vram addr false 0 k → bit bits k ≡ solid 0 8 (codeAt (at vram) addr) k
+unfolding solid
+whole-solid vram addr bits k h e = let q : 0 + k < 8 = omega arith in e ∙ rw (lt-ltb (0 + k) 8 q)
+
+-- part of a line: n pixels from pixel start on, and those that the row has
+pub part-solid : (vram : List ℕ) (addr start end n k : ℕ) (f : ℕ → Bool) → start < end → end ≤ 8 → n ≡ end - start → ((i : ℕ) → start + i < 8 → f i ≡ lineSolid vram addr false start i)
+    → bit (number n f) k ≡ solid start end (codeAt (at vram) addr) k
+unfolding solid
+part-solid vram addr start end n k f l h en e =
+    bit-of n f k
+    ∙ elim (decLt k n) [
+      | yes q ↦
+          let r : start + k < end = omega arith in
+          let r8 : start + k < 8 = omega arith in
+          rw (lt-ltb k n q, lt-ltb (start + k) end r) (e k r8)
+      | no q ↦
+          let a : n ≤ k = omega arith in
+          let r : end ≤ start + k = omega arith in
+          rw (le-ltb k n a, le-ltb (start + k) end r)
+    ]
+
+pub part-room : (width x k : ℕ) → x < width → k < 8 → bit (number (min (width - x) 8) (λ j. bit 255 (0 + j))) k ≡ ltb (x + k) width
+part-room width x k h l =
+    bit-of (min (width - x) 8) (λ j. bit 255 (0 + j)) k
+    ∙ elim (decLt (x + k) width) [
+      | yes q ↦
+          let a : k < min (width - x) 8 = omega arith in
+          rw (lt-ltb k (min (width - x) 8) a, zero-add k, bit-all k l) (sym (lt-ltb (x + k) width q))
+      | no q ↦
+          let a : min (width - x) 8 ≤ k = omega arith in
+          let b : width ≤ x + k = omega arith in
+          rw (le-ltb k (min (width - x) 8) a) (sym (le-ltb (x + k) width b))
+    ]
+
+pub no-bit : (k : ℕ) → bit 0 k ≡ false
+unfolding bit
+no-bit k = rw (zero-div (2 ^ k))
+
+-- what is drawn is in the row
+pub in-the-row : (vram : List ℕ) (addr start end held taken width x k : ℕ) → lineDrawn vram addr start end held taken width x k ≡ true → x + k < width
+unfolding lineDrawn
+in-the-row vram addr start end held taken width x k e =
+    ltb-true (x + k) width (both (lineMarked vram addr start end held k && not (bit taken k)) (ltb (x + k) width) e .1)
+
+-- of a line with no column nothing is marked, drawn or held back
+module _ (vram : List ℕ) (addr start end held taken width x : ℕ) (h : end ≤ start) where
+  nothing : (g : ℕ → Bool) → ((k : ℕ) → end ≤ start + k → g k ≡ false) → 0 ≡ byteOf g
+  nothing g e = byte-is 0 g (omega arith) (λ j l. let q : end ≤ start + j = omega arith in e j q ∙ sym (no-bit j))
+
+  pub none-marked : 0 ≡ byteOf (lineMarked vram addr start end held)
+  none-marked = nothing _ (λ k q. marked-past vram addr start end held k q)
+
+  pub none-drawn : 0 ≡ byteOf (lineDrawn vram addr start end held taken width x)
+  none-drawn = nothing _ (λ k q. drawn-past vram addr start end held taken width x k q)
+
+  pub none-held : 0 ≡ byteOf (lineHeld vram addr start end held)
+  none-held = nothing _ (λ k q. held-past vram addr start end held k q)
+
+  pub none-laid : (row : List ℕ) (f : ℕ → ℕ) → row ≡ overlaid row x 8 (lineDrawn vram addr start end held taken width x) f
+  unfolding overlaid
+  none-laid row f = overlaid-all row x _ f 0 (omega arith) (λ k z. let q : end ≤ start + k = omega arith in drawn-past vram addr start end held taken width x k q)
+
+-- no bits of no bits
+pub none-left : (k : ℕ) → bitAnd 0 k ≡ 0
+none-left k = let z = and-le-l 0 k in omega arith

@@ -1,3 +1,4 @@
 -- What the contracts of `tile` cite.
 pub mod Line
 pub mod Lanes
+pub mod Layer

@@ -2,17 +2,20 @@
 ghost use mathlib.Core.Path.{_≡_};
 ghost use mathlib.Core.Bool.{true, cond, _&&_, not};
 ghost use Prim.Native.Nat.{ℕ, _+_, _-_, _*_, _%_, _^_, _<_, _≤_};
-ghost use lib.ListN.{length};
-ghost use lib.Bits.{bitOr};
+ghost use lib.ListN.{length, set};
+ghost use lib.Bits.{bitAnd, bitOr};
+ghost use lib.Dec.{ltb};
 ghost use Rattle.laws.specs.Bits.{bit, digit, number, byteOf};
 ghost use Rattle.laws.specs.Lists.{at};
 ghost use Rattle.laws.specs.Paint.{put, painted, putIf, overlaid, ofBytes};
 ghost use Rattle.picture.specs.Tile.{codeOf, codeAt, turned};
 ghost use Rattle.picture.specs.Picture.{solid};
+ghost use Rattle.picture.specs.Layers.{owner};
 ghost use Rattle.tile.specs.Lanes.{lanes, lane, exchange};
+ghost use Rattle.tile.specs.Layer.{stamped};
 ghost use Rattle.tile.specs.Line.{lineColour, lineSolid, lineMarked, lineDrawn, lineHeld, spriteColour};
 
-// ---- tests and marks
+// ---- marks
 
 // The byte with bit i set where `on`.
 fn mark(bits: u8, i: usize, on: bool) -> u8
@@ -20,13 +23,6 @@ fn mark(bits: u8, i: usize, on: bool) -> u8
     ensures { λ r. ⌜ r ≡ cond on (bitOr bits (1 * 2 ^ i % 256)) bits ⌝ }
 {
     if on { bits | 1 << i } else { bits }
-}
-
-// The first and not the second.
-fn unless(a: bool, b: bool) -> bool
-    ensures { λ r. ⌜ r ≡ (a && not b) ⌝ }
-{
-    if a { !b } else { false }
 }
 
 // ---- one pixel
@@ -45,17 +41,8 @@ fn color_code(b0: u8, b1: u8, b2: u8, b3: u8, offset: usize) -> usize
     )
 }
 
-// The bit at which pixel p of a tile's line stands: the leftmost at bit 7, or at bit 0 where the tile is flipped.
-fn offset_of(flip: bool, p: usize) -> usize
-    requires { ⌜ p < 8 ⌝ }
-    ensures { λ r. ⌜ r ≡ 7 - turned flip p ⌝ }
-    ensures { λ r. ⌜ r < 8 ⌝ }
-{
-    if flip { p } else { 7 - p }
-}
-
 // The four bytes of a colour, at pixel x of the row.
-fn pixel_set_full(row: &mut [u8], x: usize, c: u32)
+pub fn pixel_set_full(row: &mut [u8], x: usize, c: u32)
     requires { ⌜ x * 4 + 4 ≤ length (now row) ⌝ }
     ensures { λ r. ⌜ now (row .exit) ≡ put (now (row .entry)) x c ⌝ }
 {
@@ -291,6 +278,44 @@ pub struct Columns {
     pub held: u8,
 }
 
+// The columns of a sprite that a row of `width` pixels has from pixel x on, a bit for each.
+fn in_row(width: usize, x: usize) -> u8
+    ensures { λ r. ⌜ r ≡ byteOf (λ k. ltb (x + k) width) ⌝ }
+{
+    if width <= x {
+        return 0;
+    }
+    cut(255, 0, small::smaller(width - x, 8))
+}
+
+// What becomes of the columns `all` whose code is not 0: `held` are held back, `taken` are marked already, and `room` are in the row.
+fn fates(all: u8, held: u8, taken: u8, room: u8) -> Columns
+    ensures { λ r. ⌜ (r .marks ≡ bitAnd all (255 - held)) × (r .drawn ≡ bitAnd (bitAnd (bitAnd all (255 - held)) (255 - taken)) room) × (r .held ≡ bitAnd all held) ⌝ }
+{
+    let marks = all & (255 - held);
+    let drawn = marks & (255 - taken) & room;
+    Columns {
+        marks: marks,
+        drawn: drawn,
+        held: all & held,
+    }
+}
+
+// The colours in palette 1 that the first n lanes name, from pixel x of the row on, where `drawn` has their bits.
+fn overlay_some(row: &mut [u8], colours: &[u32; 32], x: usize, codes: u64, n: usize, drawn: u8)
+    requires { ⌜ (x < 65536) × (n ≤ 8) × ((k : ℕ) → k < 8 → bit drawn k ≡ true → (x + k) * 4 + 4 ≤ length (now row)) × ((k : ℕ) → k < n → lane codes k < 16) ⌝ }
+    ensures { λ r. ⌜ now (row .exit) ≡ overlaid (now (row .entry)) x n (bit drawn) (λ k. at (now (colours .entry)) (16 + lane codes k)) ⌝ }
+{
+    let mut w = codes;
+    let mut i: usize = 0;
+    while i < n {
+        let c = 16 + (w % 256) as usize;
+        pixel_set_if(small::is_set(drawn, i), row, x + i, colours[c]);
+        w = w / 256;
+        i += 1;
+    }
+}
+
 // The columns of the line at addr, from the tile's pixel start to below end, drawn from pixel x of the row on where `held` and `taken` let them.
 pub fn sprite_columns(
     row: &mut [u8],
@@ -308,31 +333,22 @@ pub fn sprite_columns(
     ensures { λ r. ⌜ now (row .exit) ≡ overlaid (now (row .entry)) x 8 (lineDrawn (now (vram .entry)) addr start end held taken width x) (spriteColour (now (colours .entry)) (now (vram .entry)) addr start) ⌝ }
     ensures { λ r. ⌜ (r .marks ≡ byteOf (lineMarked (now (vram .entry)) addr start end held)) × (r .drawn ≡ byteOf (lineDrawn (now (vram .entry)) addr start end held taken width x)) × (r .held ≡ byteOf (lineHeld (now (vram .entry)) addr start end held)) ⌝ }
 {
-    let p0 = vram[addr];
-    let p1 = vram[addr + 1];
-    let p2 = vram[addr + 2];
-    let p3 = vram[addr + 3];
-    let mut marks: u8 = 0;
-    let mut drawn: u8 = 0;
-    let mut kept: u8 = 0;
-    let mut i: usize = 0;
-    while start + i < end {
-        let code = color_code(p0, p1, p2, p3, 7 - (start + i));
-        let stopped = small::is_set(held, i);
-        let marked = unless(code != 0, stopped);
-        let shown = small::both(unless(marked, small::is_set(taken, i)), x + i < width);
-        let c = 16 + code;
-        pixel_set_if(shown, row, x + i, colours[c]);
-        marks = mark(marks, i, marked);
-        drawn = mark(drawn, i, shown);
-        kept = mark(kept, i, small::both(code != 0, stopped));
-        i += 1;
+    if end <= start {
+        return fates(0, held, taken, 0);
     }
-    Columns {
-        marks: marks,
-        drawn: drawn,
-        held: kept,
-    }
+    let n = end - start;
+    let p = four_at(vram, addr);
+    let all = cut(reversed(solid_of(p)), start, n);
+    let columns = fates(all, held, taken, in_row(width, x));
+    overlay_some(
+        row,
+        colours,
+        x,
+        codes_of(false, p) >> (8 * start),
+        n,
+        columns.drawn,
+    );
+    columns
 }
 
 // The colours that the lanes name where `drawn` has their bits, from pixel x of the row on; the others are stored again as they were, so that
@@ -400,15 +416,9 @@ fn sprite_whole(
     ensures { λ r. ⌜ (r .marks ≡ byteOf (lineMarked (now (vram .entry)) addr 0 8 held)) × (r .drawn ≡ byteOf (lineDrawn (now (vram .entry)) addr 0 8 held taken width x)) × (r .held ≡ byteOf (lineHeld (now (vram .entry)) addr 0 8 held)) ⌝ }
 {
     let p = four_at(vram, addr);
-    let all = reversed(solid_of(p));
-    let marks = all & (255 - held);
-    let drawn = marks & (255 - taken);
-    overlay_by(row, colours, 16, x, codes_of(false, p), drawn);
-    Columns {
-        marks: marks,
-        drawn: drawn,
-        held: all & held,
-    }
+    let columns = fates(reversed(solid_of(p)), held, taken, 255);
+    overlay_by(row, colours, 16, x, codes_of(false, p), columns.drawn);
+    columns
 }
 
 // The same, with the whole line on a way of its own.
@@ -451,4 +461,49 @@ pub fn character_line_sprite_bitmap(vram: &[u8], addr: usize, start: usize, end:
         i += 1;
     }
     bits
+}
+
+// ---- the layers
+
+// The layer of a column that was `own`, where sprite n's pixel is drawn, or is held back, or neither.
+fn owner_of(n: usize, drawn: bool, held: bool, own: u8) -> u8
+    requires { ⌜ n < 64 ⌝ }
+    ensures { λ r. ⌜ r ≡ owner n drawn held own ⌝ }
+{
+    if drawn {
+        return (64 + n) as u8;
+    }
+    if small::both(held, own == 0) {
+        return 1;
+    }
+    own
+}
+
+// The same at column k, if the row has it.
+fn own_column(layers: &mut [u8], width: usize, k: usize, n: usize, drawn: bool, held: bool)
+    requires { ⌜ (width ≤ length (now layers)) × (n < 64) ⌝ }
+    ensures { λ r. ⌜ now (layers .exit) ≡ cond (ltb k width) (set (now (layers .entry)) k (owner n drawn held (at (now (layers .entry)) k))) (now (layers .entry)) ⌝ }
+{
+    if k < width {
+        layers[k] = owner_of(n, drawn, held, layers[k]);
+    }
+}
+
+// The eight columns of sprite n, from column x of the row on, into its layers.
+pub fn own_columns(layers: &mut [u8], width: usize, x: usize, n: usize, drawn: u8, held: u8)
+    requires { ⌜ (width ≤ length (now layers)) × (x < 65536) × (n < 64) ⌝ }
+    ensures { λ r. ⌜ now (layers .exit) ≡ stamped (now (layers .entry)) width x n drawn held 8 ⌝ }
+{
+    let mut i: usize = 0;
+    while i < 8 {
+        own_column(
+            layers,
+            width,
+            x + i,
+            n,
+            small::is_set(drawn, i),
+            small::is_set(held, i),
+        );
+        i += 1;
+    }
 }

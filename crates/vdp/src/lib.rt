@@ -53,6 +53,7 @@ pub enum Refusal {
     UnknownTile,
     CodesLength,
     HighCode,
+    LayerLength,
 }
 
 // The number of a refusal (R2.1).
@@ -77,6 +78,7 @@ pub fn refusal_number(refusal: Refusal) -> u8
         Refusal::UnknownTile => 13,
         Refusal::CodesLength => 14,
         Refusal::HighCode => 15,
+        Refusal::LayerLength => 16,
     }
 }
 

@@ -8,49 +8,57 @@ use Rattle.row.proofs.render_line_effective.Reads as render-line-effect
 use Rattle.row.proofs.render_line_visible.Reads as render-line-visible-reads
 use Rattle.small.proofs.wide.Reads as wide-reads
 
--- src/lib.rt:70:9
+-- src/lib.rt:144:9
 wide-requires : tie.Need-wide-requires
 wide-requires c κs = search needs
 
--- src/lib.rt:71:9
+-- src/lib.rt:145:9
 wide-requires-2 : tie.Need-wide-requires-2
 wide-requires-2 c κs = search needs
 
--- src/lib.rt:73:56
+-- src/lib.rt:147:56
 enum-told : tie.Need-enum-told
 enum-told c = search needs
 
--- src/lib.rt:73:36
+-- src/lib.rt:147:36
 render-line-visible-requires : tie.Need-render-line-visible-requires
 render-line-visible-requires c κs =
-    let p = rw (c .before .enum-told .given .1) at (c .before .before .before .before .before .before .before .pre) in
+    let p = rw (c .before .before .enum-told .given .1) at (c .before .before .before .before .before .before .before .before .before .pre) in
     (p .0, p .1, omega arith, omega arith)
 
--- src/lib.rt:74:60
+-- src/lib.rt:148:60
 enum-told-2 : tie.Need-enum-told-2
 enum-told-2 c = search needs
 
--- src/lib.rt:74:38
+-- src/lib.rt:148:38
 render-line-effective-requires : tie.Need-render-line-effective-requires
 render-line-effective-requires c κs =
-    let p = rw (c .before .enum-told2 .given .1) at (c .before .before .before .before .before .before .before .pre) in
+    let p = rw (c .before .before .enum-told2 .given .1) at (c .before .before .before .before .before .before .before .before .before .pre) in
     (p .0, p .1, omega arith)
 
--- src/lib.rt:66:1
+-- src/lib.rt:130:1
 same-length : tie.Need-same-length
 same-length c = search needs
 
--- src/lib.rt:66:1
-returns : tie.Need-returns
-returns c = rw (c .before .before .before .before .enum-told .given .1, ← c .before .before .before .before .before .before .before .wide .ensures .0, ← c .before .before .before .before .before .before .wide2 .ensures .0) (c .before .before .render-line-visible .ensures)
-
--- src/lib.rt:66:1
+-- src/lib.rt:130:1
 same-length-2 : tie.Need-same-length-2
 same-length-2 c = search needs
 
--- src/lib.rt:66:1
+-- src/lib.rt:130:1
+returns : tie.Need-returns
+returns c = rw (c .before .before .before .before .before .before .before .enum-told .given .1, ← c .before .before .before .before .before .before .before .before .before .before .wide .ensures .0, ← c .before .before .before .before .before .before .before .before .before .wide2 .ensures .0) (c .before .before .before .before .render-line-visible .ensures)
+
+-- src/lib.rt:130:1
+same-length-3 : tie.Need-same-length-3
+same-length-3 c = search needs
+
+-- src/lib.rt:130:1
+same-length-4 : tie.Need-same-length-4
+same-length-4 c = search needs
+
+-- src/lib.rt:130:1
 returns-2 : tie.Need-returns-2
-returns-2 c = rw (c .before .before .before .before .enum-told2 .given .1, ← c .before .before .before .before .before .before .wide2 .ensures .0) (c .before .before .render-line-effective .ensures (c .before .before .before .before .before .before .before .before .before .before .args .scroll))
+returns-2 c = rw (c .before .before .before .before .before .before .before .enum-told2 .given .1, ← c .before .before .before .before .before .before .before .before .before .wide2 .ensures .0) (c .before .before .before .before .render-line-effective .ensures .0 (c .before .before .before .before .before .before .before .before .before .before .before .before .before .before .args .scroll), c .before .before .before .before .render-line-effective .ensures .1 (c .before .before .before .before .before .before .before .before .before .before .before .before .before .before .args .scroll))
 
 pub render-line-spec : {M : Type 1} → statement M
 render-line-spec =
@@ -63,6 +71,8 @@ render-line-spec =
     enum-told-2
     render-line-effective-requires
     same-length
-    returns
     same-length-2
+    returns
+    same-length-3
+    same-length-4
     returns-2)

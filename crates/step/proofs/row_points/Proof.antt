@@ -1,92 +1,28 @@
 use borrow.Author.Needs.{needs}
-use native.Mathlib.Omega.{arith}
-use Rattle.step.proofs.Steps.{row-refuses-8, row-refuses-9, row-accepts}
-use Rattle.step.proofs.Rows.{row-in}
+use Rattle.step.proofs.Steps.{row-plain}
 use Rattle.step.proofs.row_points.Statement.{statement}
 use Rattle.step.proofs.row_points.Tie as tie
 use Rattle.step.proofs.row_points.Reads as reads
 use Rattle.step.proofs.row_points.Lts as lts
-use Rattle.raster.proofs.Raster.advance.Reads as advance-reads
-use Rattle.raster.proofs.Raster.line_interrupt_update.Reads as line-interrupt-update-reads
-use Rattle.step.proofs.draw.Reads as draw-reads
-use Rattle.step.proofs.ended.Reads as ended-reads
-use Rattle.step.proofs.interrupt_of.Reads as interrupt-of-reads
-use Rattle.step.proofs.refused.Reads as refused-reads
-use Rattle.step.proofs.report_of.Reads as report-of-reads
-use Rattle.step.proofs.row_on.Reads as row-on-reads
-use Rattle.step.proofs.row_size.Reads as row-size-reads
+use Rattle.step.proofs.row_points_into.Reads as row-points-into-reads
 
--- src/lib.rt:185:9
-refused-requires : tie.Need-refused-requires
-refused-requires c κs = search needs
+-- src/lib.rt:306:62
+slice-aggregate-row-points-into : tie.Need-slice-aggregate-row-points-into
+slice-aggregate-row-points-into c = search needs
 
--- src/lib.rt:185:9
-returns : tie.Need-returns
-returns c = λ d f. row-refuses-8 f (c .before .before .before .before .args .area) (c .before .before .before .before .args .vram .now) (c .before .before .before .before .args .row .now) (c .before .if1 .taken) (c .refused .ensures)
+-- src/lib.rt:306:5
+row-points-into-requires : tie.Need-row-points-into-requires
+row-points-into-requires c κs = search needs
 
--- src/lib.rt:187:9
-row-size-requires : tie.Need-row-size-requires
-row-size-requires c κs = search needs
-
--- src/lib.rt:189:9
-refused-requires-2 : tie.Need-refused-requires-2
-refused-requires-2 c κs = search needs
-
--- src/lib.rt:189:9
-returns-2 : tie.Need-returns-2
-returns-2 c = λ d f. row-refuses-9 f (c .before .before .before .before .before .before .args .area) (c .before .before .before .before .before .before .args .vram .now) (c .before .before .before .before .before .before .args .row .now) (c .before .before .before .if1 .left) (c .before .before .row-size .ensures) (c .before .if2 .taken) (c .refused2 .ensures)
-
--- src/lib.rt:191:9
-advance-requires : tie.Need-advance-requires
-advance-requires c κs = search needs
-
--- src/lib.rt:193:9
-row-on-requires : tie.Need-row-on-requires
-row-on-requires c κs = search needs
-
--- src/lib.rt:194:9
-draw-requires : tie.Need-draw-requires
-draw-requires c κs = (c .before .before .before .before .before .if1 .left, omega (arith, c .before .before .before .before .row-size .ensures, c .before .before .before .if2 .left), row-in (c .before .before .before .before .before .before .before .before .args .area) _ (c .before .row-on .ensures))
-
--- src/lib.rt:195:9
-ended-requires : tie.Need-ended-requires
-ended-requires c κs = search needs
-
--- src/lib.rt:198:20
-interrupt-of-requires : tie.Need-interrupt-of-requires
-interrupt-of-requires c κs = search needs
-
--- src/lib.rt:199:17
-report-of-requires : tie.Need-report-of-requires
-report-of-requires c κs = search needs
-
--- src/lib.rt:202:17
-line-interrupt-update-requires : tie.Need-line-interrupt-update-requires
-line-interrupt-update-requires c κs = search needs
-
--- src/lib.rt:173:1
+-- src/lib.rt:294:1
 same-length : tie.Need-same-length
 same-length c = search needs
 
--- src/lib.rt:173:1
-returns-3 : tie.Need-returns-3
-returns-3 c = λ d f. row-accepts f (c .before .before .before .before .before .before .before .before .before .before .before .before .before .before .before .args .area) (c .before .before .before .before .before .before .before .before .before .before .before .before .before .before .before .args .vram .now) (c .before .before .before .before .before .before .before .before .before .before .before .before .before .before .before .args .row .now) (c .before .before .before .before .before .before .before .before .before .before .before .before .if1 .left) (c .before .before .before .before .before .before .before .before .before .before .before .row-size .ensures) (c .before .before .before .before .before .before .before .before .before .before .if2 .left) (c .before .before .before .before .before .before .before .before .before .advance .ensures) (c .before .before .before .before .before .before .before .before .row-on .ensures) (c .before .before .before .before .before .before .draw .ensures .0) (c .before .before .before .before .before .before .draw .ensures .1) (c .before .before .before .ended .ensures) (c .before .before .interrupt-of .ensures) (c .before .report-of .ensures) (c .line-interrupt-update .ensures)
+-- src/lib.rt:294:1
+returns : tie.Need-returns
+returns c = λ d f. row-plain _ _ d _ _ (c .before .before .before .row-points-into .ensures d f)
 
 pub row-points-spec : {M : Type 1} → statement M
 row-points-spec =
     tie.close
-    (tie.spec
-    refused-requires
-    returns
-    row-size-requires
-    refused-requires-2
-    returns-2
-    advance-requires
-    row-on-requires
-    draw-requires
-    ended-requires
-    interrupt-of-requires
-    report-of-requires
-    line-interrupt-update-requires
-    same-length
-    returns-3)
+    (tie.spec slice-aggregate-row-points-into row-points-into-requires same-length returns)

@@ -1,0 +1,87 @@
+-- WHAT A LAYER TELLS of the colour beside it, and that a step which tells layers is otherwise the step without.
+-- R15.1, R15.2: said of any view, so of every area. R15.3, R15.4: of every device, memory and buffer.
+-- Assumes nothing.
+use mathlib.Core.Path.{_≡_}
+use mathlib.Core.Logic.{_≢_, _⊎_}
+use mathlib.Core.Bool.{Bool, true, false, _&&_, _||_}
+use mathlib.Core.List.{List, [], _∷_}
+use Prim.Native.Nat.{ℕ, _+_, _-_, _*_, _<_, _≤_}
+use lib.Dec.{leb}
+use lib.ListN.{length, take, drop}
+use Rattle.picture.specs.declared.Stand.{Stand}
+use Rattle.picture.specs.declared.RenderArea.{RenderArea}
+use Rattle.picture.specs.View.{View}
+use Rattle.picture.specs.Picture.{Canvas, back, front, bare, tableAt, listed, solid, spriteCode, picture}
+use Rattle.picture.specs.Area.{columns}
+use Rattle.picture.specs.Layers.{stopped, layers}
+use Rattle.vdp.specs.declared.VdpState.{VdpState}
+use Rattle.vdp.specs.declared.Refusal.the-variants.{Accepted, LayerLength}
+use Rattle.vdp.specs.Refusals.{Line, first, under}
+use Rattle.step.specs.Step.{lineOf, counterUp, rowOn, rowLines, frameLines, stepWith, rowStep, frameStep}
+use Rattle.step.specs.Frame.{rowWith, frameWith, rowAfter, frameAfter}
+use Rattle.step.specs.Layers.{alsoLayers, layersAfter}
+
+-- ---- one column
+module _ (m g : ℕ → ℕ) (v : View) where
+  -- where sprite n stands; the sprites that are laid on the line; the column of sprite n that falls on column x, and its code
+  abbrev pub standsAt : ℕ → Stand
+  standsAt n = v .stand (m (tableAt g + 128 + 2 * n))
+
+  abbrev pub laidOn : List ℕ
+  laidOn = take 8 (listed m g (v .line) 64 0)
+
+  abbrev pub columnAt : ℕ → ℕ → ℕ
+  columnAt n x = x - standsAt n .x
+
+  abbrev pub codeIn : ℕ → ℕ → ℕ
+  codeIn n x = spriteCode m g (v .line) n (standsAt n .start + columnAt n x)
+
+  -- priority holds a pixel of sprite n back that would have shown at column x
+  abbrev pub heldAt : ℕ → ℕ → Bool
+  heldAt x n = leb (standsAt n .x) x && stopped (standsAt n) (spriteCode m g (v .line) n) (front m g v) (bare (back m g v)) (columnAt n x)
+
+-- one of a list has p; n is one of a list
+abbrev pub some : List ℕ → (ℕ → Bool) → Bool
+some [] p = false
+some (n ∷ ns) p = p n || some ns p
+
+abbrev pub OneOf : List ℕ → ℕ → Type 0
+OneOf [] n = ⊥
+OneOf (k ∷ ns) n = (n ≡ k) ⊎ OneOf ns n
+
+-- R15.1: what the layer of column x tells of it
+pub record Owned (m g : ℕ → ℕ) (v : View) (x : ℕ) : Type 0 where
+  -- it is 0, 1, or 64 + n of a sprite that is laid on the line
+  pub kind : (layers m g v x < 2) ⊎ ((64 ≤ layers m g v x) × OneOf (laidOn m g v) (layers m g v x - 64))
+  -- 0 and 1: the colour is the background's
+  pub behind : layers m g v x < 2 → picture m g v .colour x ≡ back m g v x
+  -- 64 + n: the colour is that of sprite n's pixel there, and its code is not 0
+  pub sprite : (n : ℕ) → layers m g v x ≡ 64 + n
+      → (picture m g v .colour x ≡ 16 + codeIn m g v n x)
+      × (solid (standsAt m g v n .start) (standsAt m g v n .end) (spriteCode m g (v .line) n) (columnAt m g v n x) ≡ true)
+  -- 1: priority held back a sprite's pixel there; 0: it held back none
+  pub held : layers m g v x ≡ 1 → some (laidOn m g v) (heldAt m g v x) ≡ true
+  pub none : layers m g v x ≡ 0 → some (laidOn m g v) (heldAt m g v x) ≡ false
+
+-- ---- a step
+-- With room for the layers, the answer (refusal, interrupt, report, row, and the device with its status) and the pixels are those of the step without.
+pub record Aside (a : RenderArea) (vram : List ℕ) (d : VdpState) (pixels layers : List ℕ) : Type 0 where
+  pub row-answer : columns a ≤ length layers
+      → stepWith (alsoLayers (columns a) (length layers) (rowLines a vram (length pixels))) a vram d ≡ rowStep a vram (length pixels) d
+  pub row-pixels : columns a ≤ length layers
+      → under (alsoLayers (columns a) (length layers) (rowLines a vram (length pixels))) (λ r. pixels) (rowWith (rowOn a (lineOf (counterUp d))) a vram (counterUp d) pixels)
+      ≡ rowAfter a vram d pixels
+  pub frame-answer : columns a ≤ length layers
+      → stepWith (alsoLayers (columns a) (length layers) (frameLines a vram (length pixels))) a vram d ≡ frameStep a vram (length pixels) d
+  pub frame-pixels : columns a ≤ length layers
+      → under (alsoLayers (columns a) (length layers) (frameLines a vram (length pixels))) (λ r. pixels) (frameWith (rowOn a (lineOf (counterUp d))) a vram (counterUp d) pixels)
+      ≡ frameAfter a vram d pixels
+  -- without room it is refused: by 16 exactly where the step without layers is accepted, else as that one is
+  pub row-short : length layers < columns a → first (rowLines a vram (length pixels)) ≡ Accepted
+      → first (alsoLayers (columns a) (length layers) (rowLines a vram (length pixels))) ≡ LayerLength
+  pub frame-short : length layers < columns a → first (frameLines a vram (length pixels)) ≡ Accepted
+      → first (alsoLayers (columns a) (length layers) (frameLines a vram (length pixels))) ≡ LayerLength
+  pub refused : (lines : List Line) → first lines ≢ Accepted → first (alsoLayers (columns a) (length layers) lines) ≡ first lines
+  -- whatever its lines, a step keeps the layer buffer's length and every byte past the columns
+  pub size : (lines : List Line) → length (layersAfter lines a vram d layers) ≡ length layers
+  pub past : (lines : List Line) → drop (columns a) (layersAfter lines a vram d layers) ≡ drop (columns a) layers

@@ -1,0 +1,49 @@
+// Writes the picture that a recording draws on a fresh device as a binary PPM, each pixel coloured by the layer that owns it.
+ghost use mathlib.Core.Path.{_≡_};
+ghost use lib.ListN.{length, replicate};
+use vdp::VdpState;
+
+// A visible frame, zeroed: the contract says so, and gives its length, which the caller's check then need not compute.
+fn blank() -> [u8; 92_160]
+    ensures { λ r. ⌜ r ≡ replicate 92160 0 ⌝ }
+    ensures { λ r. ⌜ 92160 ≡ length r ⌝ }
+{
+    [0; 92_160]
+}
+
+// Room for a picture.
+fn room() -> [u8; 69_135]
+    ensures { λ r. ⌜ 69135 ≡ length r ⌝ }
+{
+    [0; 69_135]
+}
+
+fn main() {
+    let mut vram = [0u8; 16384];
+    let mut row = [0u8; 1024];
+    let mut frame = blank();
+    let mut picture = room();
+    let mut input = io::large_buffer();
+    let taken = program::input(
+        b"layers",
+        b"usage: layers [FILE] > PICTURE.ppm\n\
+            Runs the trace in FILE, or on standard input, as snapshot does, and colours each pixel by the layer that owns it.\n\
+            Background 32,32,32; background that holds a sprite back 255,0,255; sprite n 4n,255-4n,128; black where nothing was drawn.\n\
+            Of a trace that is bad or too long it writes only a line, as trace does: 'bad' and an offset, or 'long'.\n\
+            The exit status is always 0: what cannot be read or written is told on standard error.\n",
+        &mut input,
+    );
+    if !taken.ready {
+        return;
+    }
+    let n = taken.len;
+    let k = recording::layers(
+        VdpState::new(),
+        &input[..n],
+        &mut vram,
+        &mut row,
+        &mut frame,
+        &mut picture,
+    );
+    program::output(b"layers", &picture[..k]);
+}

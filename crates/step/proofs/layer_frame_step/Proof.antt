@@ -1,0 +1,44 @@
+use borrow.Author.Needs.{needs}
+use mathlib.Core.Path.{refl}
+use Rattle.step.proofs.layer_frame_step.Statement.{statement}
+use Rattle.step.proofs.layer_frame_step.Tie as tie
+use Rattle.step.proofs.layer_frame_step.Reads as reads
+use Rattle.step.proofs.layer_frame_step.Lts as lts
+use Rattle.step.proofs.colours_of.Reads as colours-of-reads
+use Rattle.step.proofs.join.Reads as join-reads
+use Rattle.step.proofs.layer_frame_points.Reads as layer-frame-points-reads
+
+-- src/lib.rt:486:19
+colours-of-requires : tie.Need-colours-of-requires
+colours-of-requires c κs = search needs
+
+-- src/lib.rt:487:9
+layer-frame-points-requires : tie.Need-layer-frame-points-requires
+layer-frame-points-requires c κs = search needs
+
+-- src/lib.rt:488:5
+join-requires : tie.Need-join-requires
+join-requires c κs = search needs
+
+-- src/lib.rt:475:1
+same-length : tie.Need-same-length
+same-length c = search needs
+
+-- src/lib.rt:475:1
+same-length-2 : tie.Need-same-length-2
+same-length-2 c = search needs
+
+-- src/lib.rt:475:1
+returns : tie.Need-returns
+returns c = rw (c .join .ensures) (c .before .before .before .before .before .layer-frame-points .ensures (c .before .before .before .before .before .before .before .before .before .before .before .before .before .before .before .args .vdp) record { registers = refl; lines = refl; bits = refl; cache = c .before .before .before .before .before .before .before .before .before .colours-of .ensures })
+
+pub layer-frame-step-spec : {M : Type 1} → statement M
+layer-frame-step-spec =
+    tie.close
+    (tie.spec
+    colours-of-requires
+    layer-frame-points-requires
+    join-requires
+    same-length
+    same-length-2
+    returns)

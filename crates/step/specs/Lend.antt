@@ -1,0 +1,27 @@
+-- R7.2: how a frame is lent to a step, row by row.
+-- Assumes nothing.
+use mathlib.Core.Path.{_≡_}
+use mathlib.Core.Logic.{_≢_}
+use mathlib.Core.Bool.{true, false}
+use mathlib.Core.List.{List}
+use Prim.Native.Nat.{ℕ, _+_, _≤_}
+use lib.ListN.{length}
+use Rattle.laws.specs.Lists.{at}
+use Rattle.laws.specs.Sizes.{vramSize}
+use Rattle.picture.specs.declared.RenderArea.{RenderArea}
+use Rattle.picture.specs.Area.{rowSize, frameSize}
+use Rattle.raster.specs.declared.Raster.{Raster}
+use Rattle.raster.specs.Raster.{advanced}
+use Rattle.vdp.specs.Refusals.{refusalNumber, first}
+use Rattle.step.specs.declared.Lent.{Lent}
+use Rattle.step.specs.Step.{rowOn, frameLines}
+use Rattle.step.specs.Frame.{startOf}
+
+-- A frame of `size` bytes for a step on these registers and this raster: refused by the first line that holds; or the part of it that the coming row has.
+pub record LentOut (a : RenderArea) (reg : List ℕ) (raster : Raster) (vram : List ℕ) (size : ℕ) (r : Lent) : Type 0 where
+  pub refused : r .good ≡ false → (first (frameLines a vram size) ≡ r .refusal) × (refusalNumber (r .refusal) ≢ 0)
+  pub memory : r .good ≡ true → length vram ≡ vramSize
+  pub exact : r .good ≡ true → size ≡ frameSize a
+  pub place : r .good ≡ true → r .start ≡ startOf a (rowOn a (advanced (at reg) raster .«v_counter»))
+  pub part : r .good ≡ true → r .end ≡ r .start + rowSize a
+  pub inside : (r .start ≤ r .end) × (r .end ≤ frameSize a)
