@@ -185,6 +185,7 @@ fn time(rounds: usize, seed: u64, counts: &[f64], plot: &str) {
     }
     let (ours, rust) = first.expect("the table has lines");
     println!();
+    pixels(rounds, seed, count(2 * LINES.len() + 2));
     println!(
         "bench: ours {:.1} us, Rust {:.1} us, ratio {:.3} (of the least times; of the medians {:.3})",
         ours.least,
@@ -192,6 +193,35 @@ fn time(rounds: usize, seed: u64, counts: &[f64], plot: &str) {
         ours.least / rust.least,
         ours.middle / rust.middle
     );
+}
+
+/// Our rows and our pixels of the first line's workload, once they have given the same frame: a clean record, as a paused game has it.
+fn rows_and_pixels(seed: u64) -> (engine::Row, engine::Pixels) {
+    let line = &LINES[0];
+    let (block, video) = workload::make(line.list, seed);
+    let mut rows = engine::Row::new(line.area, &block, &video);
+    let frame = rows.drawn();
+    let mut pixels = engine::Pixels::new(line.area, &rows.state(), &video);
+    if pixels.drawn() != frame {
+        println!("bench: the pixels are not those of the rows: the times mean nothing");
+        std::process::exit(1);
+    }
+    (rows, pixels)
+}
+
+/// One pixel beside one row, both ours.
+fn pixels(rounds: usize, seed: u64, count: Option<f64>) {
+    let (mut rows, mut pixels) = rows_and_pixels(seed);
+    let (mut row_times, mut pixel_times) = (Vec::new(), Vec::new());
+    for _ in 0..rounds {
+        row_times.push(timed(|| rows.pass()));
+        pixel_times.push(timed(|| pixels.pass()));
+    }
+    let (width, height) = (LINES[0].area.width() as f64, LINES[0].area.height() as f64);
+    let row = Times::of(row_times).least * 1000.0 / height;
+    let pixel = Times::of(pixel_times).least * 1000.0 / (width * height);
+    let counted = count.map_or(String::new(), |n| format!(", {:.0} instructions", n / (width * height)));
+    println!("bench: one pixel {:.1} ns{}; one row, a pass of row steps by its {} rows, {:.1} ns: a pixel costs {:.3} of a row", pixel, counted, height, row, pixel / row);
 }
 
 /// Marks that whoever counts from outside knows by name: one stands before each pass, the other behind it.
@@ -222,6 +252,8 @@ fn count(seed: u64, lines: usize) {
     let mut floor = Floor::new(Area::Visible);
     counted(|| floor.colour());
     counted(|| floor.store());
+    let (_, mut pixels) = rows_and_pixels(seed);
+    counted(|| pixels.pass());
 }
 
 fn main() {

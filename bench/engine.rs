@@ -108,6 +108,38 @@ impl Engine for Layers {
     }
 }
 
+/// Ours pixel by pixel: each of the frame by a call of its own.
+pub struct Pixels {
+    area: Area,
+    block: Vec<u8>,
+    video: Vec<u8>,
+    frame: Vec<u8>,
+}
+
+impl Pixels {
+    pub fn new(area: Area, block: &[u8], video: &[u8]) -> Pixels {
+        Pixels { area, block: block.to_vec(), video: video.to_vec(), frame: vec![0; area.frame_size()] }
+    }
+}
+
+impl Engine for Pixels {
+    fn pass(&mut self) {
+        let width = self.area.width();
+        for (n, bytes) in self.frame.chunks_exact_mut(4).enumerate() {
+            let word = face::vdp_pixel(&self.block, &self.video, self.area as u8, (n / width) as u32, (n % width) as u32);
+            bytes.copy_from_slice(&((word >> 32) as u32).to_le_bytes());
+        }
+    }
+    fn drawn(&mut self) -> Vec<u8> {
+        self.frame.fill(0);
+        self.pass();
+        self.frame.clone()
+    }
+    fn state(&self) -> Vec<u8> {
+        self.block.clone()
+    }
+}
+
 /// The published Rust, by its only step.
 pub struct Rust {
     area: Area,

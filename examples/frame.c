@@ -1,4 +1,5 @@
-/* frame.c: draws a frame with libvdp, all through the ports, and answers the author's question.
+/* frame.c: draws a frame with libvdp, all through the ports, asks a cursor what stands at a pixel, and answers
+ * the author's question.
  *
  *   frame            prints a line for each check
  *   frame FILE.ppm   also writes the frame as a picture (binary PPM)
@@ -148,6 +149,53 @@ static void draw_a_frame(void)
     check(pixel_is(116, 117, 15, 3, 3), "the eighth sprite");
 }
 
+/* The layer that owns a pixel of the row as it would be drawn now: a step of a copy, whose counter is just before the row's line. */
+static unsigned layer_at(unsigned x, unsigned y)
+{
+    uint8_t copy[VDP_STATE_SIZE], row[VDP_VISIBLE_ROW_SIZE], layers[VDP_VISIBLE_LAYERS_SIZE] = {0};
+
+    memcpy(copy, state, sizeof state);
+    copy[VDP_AT_COUNTER] = (uint8_t)(y + 23);
+    vdp_layer_row_step(copy, sizeof copy, vram, sizeof vram, row, sizeof row, layers, sizeof layers, VDP_VISIBLE);
+    return layers[x];
+}
+
+/* A debugger's cursor: prints the colour and the layer under a pixel; answers whether they are these. */
+static int cursor(unsigned x, unsigned y, unsigned red, unsigned green, unsigned blue, unsigned layer)
+{
+    uint64_t pixel = vdp_pixel(state, sizeof state, vram, sizeof vram, VDP_VISIBLE, y, x);
+    unsigned owner = layer_at(x, y);
+
+    printf("      cursor at row %u, column %u: red %u, green %u, blue %u, ", y, x, vdp_red(pixel), vdp_green(pixel), vdp_blue(pixel));
+    if (owner >= VDP_LAYER_SPRITE)
+        printf("sprite %u\n", owner - VDP_LAYER_SPRITE);
+    else
+        printf("background%s\n", owner == VDP_LAYER_HELD_BACK ? ", which holds a sprite back" : "");
+    return owner == layer && vdp_refusal((uint32_t)pixel) == VDP_OK && vdp_there(pixel) && vdp_red(pixel) == 17 * red && vdp_green(pixel) == 17 * green
+           && vdp_blue(pixel) == 17 * blue;
+}
+
+/* The cursor on the frame that was drawn: a sprite, the background, every pixel, and none. */
+static void cursor_on_a_frame(void)
+{
+    uint8_t kept[VDP_STATE_SIZE];
+    unsigned same = 0;
+
+    memcpy(kept, state, sizeof state);
+    check(cursor(4, 5, 15, 3, 3, VDP_LAYER_SPRITE + 0) && cursor(0, 1, 15, 15, 0, VDP_LAYER_SPRITE + 0), "the cursor on the first sprite: inside and edge");
+    check(cursor(100, 4, 2, 4, 8, VDP_LAYER_BACKGROUND), "the cursor on the background");
+    for (unsigned y = 0; y < VDP_VISIBLE_HEIGHT; y++)
+        for (unsigned x = 0; x < VDP_VISIBLE_WIDTH; x++) {
+            uint64_t pixel = vdp_pixel(state, sizeof state, vram, sizeof vram, VDP_VISIBLE, y, x);
+            const uint8_t *drawn = frame + 4 * (VDP_VISIBLE_WIDTH * y + x);
+            same += vdp_there(pixel) && vdp_red(pixel) == drawn[0] && vdp_green(pixel) == drawn[1] && vdp_blue(pixel) == drawn[2];
+        }
+    check(same == VDP_VISIBLE_WIDTH * VDP_VISIBLE_HEIGHT, "the cursor at every pixel finds what the frame shows");
+    check(vdp_pixel(state, sizeof state, vram, sizeof vram, VDP_VISIBLE, VDP_VISIBLE_HEIGHT, 0) == 0, "below the last row there is no pixel");
+    check(vdp_pixel(state, sizeof state, vram, sizeof vram - 1, VDP_VISIBLE, 0, 0) == VDP_REFUSED_VRAM_LENGTH, "the cursor is refused short video memory (8)");
+    check(memcmp(kept, state, sizeof state) == 0, "the cursor changes nothing");
+}
+
 /* Colour 3 is changed when the line counter reads 90. Which pixels change? */
 static void authors_question(void)
 {
@@ -294,6 +342,7 @@ int main(int count, char **words)
     draw_a_frame();
     if (count > 1)
         check(write_picture(words[1]), "the frame is written as a picture");
+    cursor_on_a_frame();
     authors_question();
     layers_of_a_row();
     tables();

@@ -7,7 +7,7 @@
  * A lent buffer is a pointer and a length in bytes. The buffers of one call must not overlap, and each must be
  * readable (and writable, where it is not const) over its whole length. A buffer of length 0 may have any pointer.
  *
- * Every call ends, for any bytes in any of them, and answers one 32-bit word:
+ * Every call ends, for any bytes in any of them, and answers one 32-bit word (vdp_pixel, see there, one of 64 bits):
  *   bits 0 to 7    refusal (VDP_OK and so on, below)
  *   vdp_input:     bits 8 to 15   the byte that was read, 0 on a refusal
  *   the steps:     bit 8          interrupt
@@ -41,7 +41,7 @@ extern "C" {
 /* The number of this face, 65536 * major + 256 * minor + small; vdp_version() gives that of the library at hand. Major goes
  * up where a program that was right may have to change, minor where calls are added, small where neither is so. */
 #define VDP_VERSION_MAJOR 4
-#define VDP_VERSION_MINOR 1
+#define VDP_VERSION_MINOR 2
 #define VDP_VERSION_SMALL 0
 #define VDP_VERSION (65536 * VDP_VERSION_MAJOR + 256 * VDP_VERSION_MINOR + VDP_VERSION_SMALL)
 
@@ -178,6 +178,15 @@ uint32_t vdp_layer_row_step(uint8_t *state, size_t state_len, const uint8_t *vra
 uint32_t vdp_dump_tileset(const uint8_t *state, size_t state_len, const uint8_t *vram, size_t vram_len,
                           uint8_t *pixels, size_t pixels_len);
 
+/* One pixel of the row as it would be drawn now, with the block's registers, latched scroll and colours (made anew from the palette where they are
+ * dirty), whatever its counter reads. No row is drawn, and nothing is written: status and colours stay. Answers a word of 64 bits:
+ *   bits 0 to 7    refusal, in this order: 10, 11, 8
+ *   bit 24         there is a pixel: row and column lie in the area
+ *   bits 32 to 63  its four bytes, red lowest
+ * and all other bits are 0; where there is no pixel, or on a refusal, the four bytes are 0. */
+uint64_t vdp_pixel(const uint8_t *state, size_t state_len, const uint8_t *vram, size_t vram_len, uint8_t area,
+                   uint32_t row, uint32_t column);
+
 /* Puts the tile of 64 codes, row by row, into video memory: its 32 bytes, and no other byte. No device is asked, and none changes: a byte that one
  * has read ahead stays as it was. Refusals, in this order: 8, 13, 14, 15. */
 uint32_t vdp_write_tile(uint8_t *vram, size_t vram_len, uint16_t tile, const uint8_t *codes, size_t codes_len);
@@ -195,6 +204,11 @@ static inline int vdp_interrupt(uint32_t answer) { return (int)(answer >> 8 & 1)
 static inline unsigned vdp_report(uint32_t answer) { return answer >> 9 & 3; }              /* of a step */
 static inline unsigned vdp_row(uint32_t answer) { return answer >> 16 & 0xFF; }             /* of a step */
 static inline int vdp_drawn(uint32_t answer) { return (int)(answer >> 24 & 1); }            /* of a step */
+
+static inline int vdp_there(uint64_t pixel) { return (int)(pixel >> 24 & 1); }              /* of vdp_pixel */
+static inline uint8_t vdp_red(uint64_t pixel) { return (uint8_t)(pixel >> 32); }            /* of vdp_pixel */
+static inline uint8_t vdp_green(uint64_t pixel) { return (uint8_t)(pixel >> 40); }          /* of vdp_pixel */
+static inline uint8_t vdp_blue(uint64_t pixel) { return (uint8_t)(pixel >> 48); }           /* of vdp_pixel */
 
 #ifdef __cplusplus
 }

@@ -3,6 +3,7 @@
 #   compare   build/oracle/compare, for x86-64, with build/libvdp.a and the published Rust (GEARS)
 #   traces    build/oracle/traces, for this machine; needs neither of the two
 #   tiles     build/oracle/tiles, for x86-64, with build/libvdp.a
+#   pixels    build/oracle/pixels, for x86-64, with build/libvdp.a; where HERE_LIB is set, build/oracle/here/pixels, for this machine, with that
 #   here      build/oracle/here/compare, for this machine, with HERE_LIB (an object or archive of the library for it, as build/native/libvdp.a);
 #             where HERE_LIB is not set, with a stand-in made of the model
 # GEARS names the folder that holds the published vdp.rs and io.rs (tools/gears.sh).
@@ -29,6 +30,17 @@ for what in "$@"; do
         mkdir -p $out/x86
         $RUSTC $flags --crate-type rlib --crate-name rules oracle/rules.rs -o $out/x86/librules.rlib
         $RUSTC $flags --extern rules=$out/x86/librules.rlib -L native=build -l static=vdp oracle/tiles.rs -o $out/tiles
+        ;;
+    pixels)
+        if [ -n "${HERE_LIB:-}" ]; then
+            mkdir -p $out/here
+            $RUSTC_HERE $flags --crate-type rlib --crate-name rules oracle/rules.rs -o $out/here/librules.rlib
+            $RUSTC_HERE $flags --extern rules=$out/here/librules.rlib -C "link-arg=$HERE_LIB" oracle/pixels.rs -o $out/here/pixels
+        else
+            mkdir -p $out/x86
+            $RUSTC $flags --crate-type rlib --crate-name rules oracle/rules.rs -o $out/x86/librules.rlib
+            $RUSTC $flags --extern rules=$out/x86/librules.rlib -L native=build -l static=vdp oracle/pixels.rs -o $out/pixels
+        fi
         ;;
     traces)
         mkdir -p $out/here

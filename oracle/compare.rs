@@ -8,6 +8,7 @@
 //! Our side is the linked library; with --model it is the model; with --tight it is the library, each buffer lent as memory of its
 //! own (for a memory checker). Exit status 1 on any difference, 2 on bad usage.
 
+#[allow(dead_code)] // one pixel has a program of its own
 mod face;
 mod gears;
 #[allow(dead_code)] // the published file, of which we use the trait alone

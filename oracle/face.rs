@@ -23,6 +23,7 @@ mod raw {
         pub fn vdp_dump_tileset(
             state: *const u8, state_len: usize, vram: *const u8, vram_len: usize, pixels: *mut u8, pixels_len: usize,
         ) -> u32;
+        pub fn vdp_pixel(state: *const u8, state_len: usize, vram: *const u8, vram_len: usize, area: u8, row: u32, column: u32) -> u64;
     }
 }
 
@@ -68,4 +69,8 @@ pub fn vdp_layer_row_step(state: &mut [u8], vram: &[u8], row: &mut [u8], layers:
 
 pub fn vdp_dump_tileset(state: &[u8], vram: &[u8], pixels: &mut [u8]) -> u32 {
     unsafe { raw::vdp_dump_tileset(state.as_ptr(), state.len(), vram.as_ptr(), vram.len(), pixels.as_mut_ptr(), pixels.len()) }
+}
+
+pub fn vdp_pixel(state: &[u8], vram: &[u8], area: u8, row: u32, column: u32) -> u64 {
+    unsafe { raw::vdp_pixel(state.as_ptr(), state.len(), vram.as_ptr(), vram.len(), area, row, column) }
 }

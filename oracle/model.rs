@@ -543,6 +543,19 @@ impl Device {
         }
     }
 
+    /// One pixel of the row as it would be drawn now (R16.1 to R16.3): its four bytes, if there is a pixel, or the refusal.
+    pub fn pixel(&self, video: &[u8], area: Area, row: u32, column: u32) -> Result<Option<[u8; 4]>, u32> {
+        if video.len() != VIDEO_SIZE {
+            return Err(8);
+        }
+        let (row, column) = (row as usize, column as usize);
+        if row >= area.height() || column >= area.width() {
+            return Ok(None);
+        }
+        let number = self.picture(video, area, row, &mut Notes::default()).colour[column];
+        Ok(Some(if self.dirty { colours(&self.palette) } else { self.cache }[number as usize]))
+    }
+
     /// The tile dump (R5.13 to R5.15), with the cached colours as they stand; answers the refusal.
     pub fn dump(&self, video: &[u8], sheet: &mut [u8]) -> u32 {
         if video.len() != VIDEO_SIZE {
@@ -825,5 +838,22 @@ pub fn vdp_dump_tileset(state: &[u8], video: &[u8], sheet: &mut [u8]) -> u32 {
     match Device::decode(state) {
         None => 10,
         Some(device) => device.dump(video, sheet),
+    }
+}
+
+/// One pixel over the block (R16.6).
+pub fn vdp_pixel(state: &[u8], video: &[u8], area: u8, row: u32, column: u32) -> u64 {
+    let device = match Device::decode(state) {
+        None => return 10,
+        Some(device) => device,
+    };
+    let area = match Area::from_number(area) {
+        None => return 11,
+        Some(area) => area,
+    };
+    match device.pixel(video, area, row, column) {
+        Err(refusal) => refusal as u64,
+        Ok(None) => 0,
+        Ok(Some(bytes)) => 1 << 24 | (u32::from_le_bytes(bytes) as u64) << 32,
     }
 }

@@ -92,3 +92,8 @@ pub unsafe extern "C" fn vdp_write_tile(vram: *mut u8, vram_len: usize, tile: u1
 pub unsafe extern "C" fn vdp_read_tile(vram: *const u8, vram_len: usize, tile: u16, codes: *mut u8, codes_len: usize) -> u32 {
     tile::vdp_read_tile(lent(vram, vram_len), tile, lent_mut(codes, codes_len))
 }
+
+#[no_mangle]
+pub unsafe extern "C" fn vdp_pixel(state: *const u8, state_len: usize, vram: *const u8, vram_len: usize, area: u8, row: u32, column: u32) -> u64 {
+    model::vdp_pixel(lent(state, state_len), lent(vram, vram_len), area, row, column)
+}

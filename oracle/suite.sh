@@ -29,6 +29,12 @@ tell "traces by the table with 261 steps beside the model" $?
 build/oracle/traces snapshot $((${TRACES:-1000} / 10)) "${SEED:-1}" build/bin/snapshot-261 --table=0
 tell "snapshots by the table with 261 steps beside the model" $?
 
+# One pixel beside the row step, on the library for this machine and as it is shipped.
+HERE_LIB=build/native/libvdp.a sh oracle/build.sh pixels && build/oracle/here/pixels "${STATES:-300}" "${SEED:-1}"
+tell "every pixel of both areas on ${STATES:-300} states, the library for this machine" $?
+sh oracle/build.sh pixels && $RUN build/oracle/pixels 8 "${SEED:-1}"
+tell "every pixel of both areas on 8 states, and all refusals" $?
+
 # The library beside the published Rust.
 if has_gears; then
     sh oracle/build.sh compare && $RUN build/oracle/compare rows "${SEED:-1}"

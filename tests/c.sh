@@ -25,7 +25,7 @@ cc -std=c99 $strict -Iinclude examples/frame.c -Lbuild/native -lvdp -Wl,-rpath,"
 tell "the C example with the shared library: the same picture" $?
 
 # The names of the header, and no others.
-sed -nE 's/^uint32_t (vdp_[a-z_]+)\(.*/\1/p' include/vdp.h | sort >$out/header
+sed -nE 's/^uint(32|64)_t (vdp_[a-z_]+)\(.*/\2/p' include/vdp.h | sort >$out/header
 for names in "-D --defined-only build/native/libvdp.so" "-g --defined-only build/native/libvdp.a"; do
     nm $names | awk 'NF == 3 { print $3 }' | sort >$out/names
     cmp $out/header $out/names

@@ -1,2 +1,3 @@
--- The laws of a row of background.
+-- The laws of a row of background, and of the views that ask for one.
 pub mod Laws
+pub mod Views

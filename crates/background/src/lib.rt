@@ -31,7 +31,7 @@ fn turn(flip: bool, k: usize) -> usize
 }
 
 // Where line y of the tile with these entry bytes stands.
-fn line_at(lo: u8, hi: u8, y: usize) -> usize
+pub fn line_at(lo: u8, hi: u8, y: usize) -> usize
     ensures { λ r. ⌜ r ≡ tileLine lo hi y ⌝ }
     ensures { λ r. ⌜ r + 4 ≤ vramSize ⌝ }
 {

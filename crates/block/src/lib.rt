@@ -133,7 +133,7 @@ fn word(low: u8, high: u8) -> u16
 }
 
 // Four bytes of src, the lowest first.
-fn colour_at(src: &[u8], at: usize) -> u32
+pub fn colour_at(src: &[u8], at: usize) -> u32
     requires { ⌜ at + 4 ≤ length (now src) ⌝ }
     ensures { λ r. ⌜ r ≡ colourAt (now (src .entry)) at ⌝ }
 {

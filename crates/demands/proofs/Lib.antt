@@ -9,4 +9,5 @@ pub mod Always
 pub mod Split
 pub mod Author
 pub mod Layers
+pub mod Pixel
 pub mod Outcome

@@ -1,7 +1,12 @@
 -- One outcome for every public contract: each theorem names the contract that the toolchain generates from the function's own clauses.
 -- Assumes nothing.
-use mathlib.Core.Path.{refl, sym, _∙_}
+use mathlib.Core.Path.{_≡_, refl, sym, ap, _∙_}
+use Prim.Native.Nat.{ℕ, _-_, _<_, _≤_}
+use native.Mathlib.Decide.{decLt}
+use native.Mathlib.Omega.{arith}
 use denote.Ref.{now}
+use Rattle.picture.specs.Picture.{topOf}
+use Rattle.sprites.specs.Sprites.{Follows}
 use Rattle.step.proofs.Steps.{reads-so, same-points}
 use Rattle.demands.specs.Outcome.{OneOutcome, OneOutcomeSeen, PaintedRow}
 use Rattle.bitmap.proofs.Bitmap.new as bitmap-new
@@ -23,6 +28,8 @@ use Rattle.small.proofs.smaller
 use Rattle.small.proofs.weight
 use Rattle.small.proofs.is_set
 use Rattle.small.proofs.both
+use Rattle.tile.proofs.mark
+use Rattle.tile.proofs.pixel_code
 use Rattle.tile.proofs.pixel_set_full
 use Rattle.tile.proofs.character_line
 use Rattle.tile.proofs.character_whole
@@ -31,7 +38,14 @@ use Rattle.tile.proofs.character_line_sprite
 use Rattle.tile.proofs.character_line_sprite_bitmap
 use Rattle.tile.proofs.own_columns
 use Rattle.background.proofs.names_at
+use Rattle.background.proofs.line_at as tile-line-at
 use Rattle.background.proofs.render_background_line
+use Rattle.sprites.proofs.settings
+use Rattle.sprites.proofs.early_of
+use Rattle.sprites.proofs.table_at
+use Rattle.sprites.proofs.line_at as sprite-line-at
+use Rattle.sprites.proofs.next_sprite
+use Rattle.pixel.proofs.spot_at
 use Rattle.row.proofs.render_line
 use Rattle.vdp.proofs.refusal_number
 use Rattle.vdp.proofs.VdpState.new
@@ -54,6 +68,7 @@ use Rattle.step.proofs.row_view
 use Rattle.sprites.proofs.render_sprites_line
 use Rattle.dump.proofs.dump_tileset as dump_rows
 use Rattle.step.proofs.dump_tileset
+use Rattle.step.proofs.pixel_at
 use Rattle.tiles.proofs.write_tile
 use Rattle.tiles.proofs.read_tile
 use Rattle.tiles.proofs.sheet
@@ -61,6 +76,7 @@ use Rattle.block.proofs.well_formed
 use Rattle.block.proofs.decode
 use Rattle.block.proofs.encode
 use Rattle.block.proofs.has_room
+use Rattle.block.proofs.colour_at
 use Rattle.block.proofs.registers
 use Rattle.block.proofs.raster_in
 use Rattle.block.proofs.palette_in
@@ -79,6 +95,7 @@ use Rattle.face.proofs.vdp_dump_tileset
 use Rattle.face.proofs.vdp_version
 use Rattle.face.proofs.vdp_write_tile
 use Rattle.face.proofs.vdp_read_tile
+use Rattle.face.proofs.vdp_pixel
 use Rattle.recording.proofs.record_at
 use Rattle.recording.proofs.trace
 use Rattle.recording.proofs.snapshot
@@ -147,6 +164,11 @@ pub both-once : OneOutcome 0 both.Kinds.ps both.Kinds.r both.Reads.Asked both.Re
 both-once κs a q z z′ w w′ e f = (e ∙ sym f, refl)
 
 -- ---- tile
+pub mark-once : OneOutcome 0 mark.Kinds.ps mark.Kinds.r mark.Reads.Asked mark.Reads.Learnt
+mark-once κs a q z z′ w w′ e f = (e ∙ sym f, refl)
+
+pub pixel-code-once : OneOutcome 1 pixel_code.Kinds.ps pixel_code.Kinds.r pixel_code.Reads.Asked pixel_code.Reads.Learnt
+pixel-code-once κs a q z z′ w w′ e f = (e .0 ∙ sym (f .0), refl)
 pub pixel-set-full-once : OneOutcome 1 pixel_set_full.Kinds.ps pixel_set_full.Kinds.r pixel_set_full.Reads.Asked pixel_set_full.Reads.Learnt
 pixel-set-full-once κs a q z z′ w w′ e f = (refl, λ i. ((e ∙ sym f) i, w .1))
 
@@ -186,11 +208,51 @@ own-columns-once κs a q z z′ w w′ e f = (refl, λ i. ((e ∙ sym f) i, w .1
 pub names-at-once : OneOutcome 0 names_at.Kinds.ps names_at.Kinds.r names_at.Reads.Asked names_at.Reads.Learnt
 names-at-once κs a q z z′ w w′ e f = (e .0 ∙ sym (f .0), refl)
 
+pub tile-line-at-once : OneOutcome 0 tile-line-at.Kinds.ps tile-line-at.Kinds.r tile-line-at.Reads.Asked tile-line-at.Reads.Learnt
+tile-line-at-once κs a q z z′ w w′ e f = (e .0 ∙ sym (f .0), refl)
+
 pub render-background-line-once : OneOutcome 3 render_background_line.Kinds.ps render_background_line.Kinds.r render_background_line.Reads.Asked render_background_line.Reads.Learnt
 render-background-line-once κs a q z z′ w w′ e f =
     (λ i. record { bits = (e .1 ∙ sym (f .1)) i }, λ i. ((e .0 ∙ sym (f .0)) i, w .1))
 
 -- ---- sprites
+pub settings-once : OneOutcome 0 settings.Kinds.ps settings.Kinds.r settings.Reads.Asked settings.Reads.Learnt
+settings-once κs a q z z′ w w′ e f = (e .0 ∙ sym (f .0), refl)
+
+pub early-of-once : OneOutcome 0 early_of.Kinds.ps early_of.Kinds.r early_of.Reads.Asked early_of.Reads.Learnt
+early-of-once κs a q z z′ w w′ e f = (e .0 ∙ sym (f .0), refl)
+
+pub table-at-once : OneOutcome 0 table_at.Kinds.ps table_at.Kinds.r table_at.Reads.Asked table_at.Reads.Learnt
+table-at-once κs a q z z′ w w′ e f = (e .0 ∙ sym (f .0), refl)
+
+pub sprite-line-at-once : OneOutcome 0 sprite-line-at.Kinds.ps sprite-line-at.Kinds.r sprite-line-at.Reads.Asked sprite-line-at.Reads.Learnt
+sprite-line-at-once κs a q z z′ w w′ e f = (e .0 ∙ sym (f .0), refl)
+
+-- what the list begins with is one sprite, and its line one; there is no line where there is no sprite
+same-next : {m g : ℕ → ℕ} {l from n n′ d d′ : ℕ} → Follows m g l from n d → Follows m g l from n′ d′ → (n ≤ 64) × (64 ≤ n → d ≡ 0) → (n′ ≤ 64) × (64 ≤ n′ → d′ ≡ 0)
+    → (n ≡ n′) × (d ≡ d′)
+same-next {m} {g} {l} {n} {n′} {d} {d′} e f b c =
+    elim (decLt n 64) [
+      | yes h ↦
+          elim (decLt n′ 64) [
+            | yes k ↦
+                let s = sym (e .next h) ∙ f .next k in
+                let q : n ≡ n′ = cc in
+                (q, e .below h ∙ ap (λ (i : ℕ). l - topOf m g i) q ∙ sym (f .below k))
+            | no k ↦ let s = sym (e .next h) ∙ f .none (omega arith) in absurd (let z : _≡_ {A = ℕ} 0 1 = cc in omega arith)
+          ]
+      | no h ↦
+          elim (decLt n′ 64) [
+            | yes k ↦ let s = sym (f .next k) ∙ e .none (omega arith) in absurd (let z : _≡_ {A = ℕ} 0 1 = cc in omega arith)
+            | no k ↦ (omega (arith, b .0, c .0), b .1 (omega arith) ∙ sym (c .1 (omega arith)))
+          ]
+    ]
+
+pub next-sprite-once : OneOutcome 1 next_sprite.Kinds.ps next_sprite.Kinds.r next_sprite.Reads.Asked next_sprite.Reads.Learnt
+next-sprite-once κs a q z z′ w w′ e f =
+    let s = same-next (e .0) (f .0) (e .1 .1, e .1 .3) (f .1 .1, f .1 .3) in
+    (λ i. record { n = s .0 i; d = s .1 i }, refl)
+
 -- the contract speaks of a row that is painted in the colours, as `row` lends it
 pub render-sprites-line-once :
     OneOutcome 4 render_sprites_line.Kinds.ps render_sprites_line.Kinds.r
@@ -201,6 +263,10 @@ render-sprites-line-once κs a q z z′ w w′ e f =
       λ i. record { hit = (x .struck ∙ sym (y .struck)) i; ninth = (x .many ∙ sym (y .many)) i },
       λ i. ((x .bytes ∙ sym (y .bytes)) i, ((x .owners ∙ sym (y .owners)) i, w .1 .1)),
     )
+
+-- ---- pixel
+pub spot-at-once : OneOutcome 1 spot_at.Kinds.ps spot_at.Kinds.r spot_at.Reads.Asked spot_at.Reads.Learnt
+spot-at-once κs a q z z′ w w′ e f = (e .0 ∙ sym (f .0), refl)
 
 -- ---- row
 pub render-line-once : OneOutcome 4 render_line.Kinds.ps render_line.Kinds.r render_line.Reads.Asked render_line.Reads.Learnt
@@ -286,6 +352,9 @@ layer-frame-step-once κs a q z z′ w w′ e f =
 pub dump-tileset-once : OneOutcome 2 dump_tileset.Kinds.ps dump_tileset.Kinds.r dump_tileset.Reads.Asked dump_tileset.Reads.Learnt
 dump-tileset-once κs a q z z′ w w′ e f = (e .refusal ∙ sym (f .refusal), λ i. (tt, (tt, ((e .bytes ∙ sym (f .bytes)) i, tt))))
 
+pub pixel-at-once : OneOutcome 1 pixel_at.Kinds.ps pixel_at.Kinds.r pixel_at.Reads.Asked pixel_at.Reads.Learnt
+pixel-at-once κs a q z z′ w w′ e f = (e ∙ sym f, refl)
+
 -- its answer is a part of the frame that it is lent: the bytes are told, and no contract tells an address
 pub row-view-once : OneOutcomeSeen 1 row_view.Kinds.ps row_view.Kinds.r row_view.Reads.Asked row_view.Reads.Learnt (λ κs z. now z)
 row-view-once κs a q z z′ w w′ e f = (e ∙ sym f, refl)
@@ -316,6 +385,9 @@ has-room-once κs a q z z′ w w′ e f = (e ∙ sym f, refl)
 
 pub encode-once : OneOutcome 1 encode.Kinds.ps encode.Kinds.r encode.Reads.Asked encode.Reads.Learnt
 encode-once κs a q z z′ w w′ e f = (refl, λ i. (tt, ((e ∙ sym f) i, w .1 .1)))
+
+pub colour-at-once : OneOutcome 1 colour_at.Kinds.ps colour_at.Kinds.r colour_at.Reads.Asked colour_at.Reads.Learnt
+colour-at-once κs a q z z′ w w′ e f = (e ∙ sym f, refl)
 
 pub registers-once : OneOutcome 1 registers.Kinds.ps registers.Kinds.r registers.Reads.Asked registers.Reads.Learnt
 registers-once κs a q z z′ w w′ e f = (e ∙ sym f, refl)
@@ -379,6 +451,9 @@ vdp-write-tile-once κs a q z z′ w w′ e f = (e .word ∙ sym (f .word), λ i
 
 pub vdp-read-tile-once : OneOutcome 2 vdp_read_tile.Kinds.ps vdp_read_tile.Kinds.r vdp_read_tile.Reads.Asked vdp_read_tile.Reads.Learnt
 vdp-read-tile-once κs a q z z′ w w′ e f = (e .word ∙ sym (f .word), λ i. (tt, (tt, ((e .lent ∙ sym (f .lent)) i, tt))))
+
+pub vdp-pixel-once : OneOutcome 2 vdp_pixel.Kinds.ps vdp_pixel.Kinds.r vdp_pixel.Reads.Asked vdp_pixel.Reads.Learnt
+vdp-pixel-once κs a q z z′ w w′ e f = (e ∙ sym f, refl)
 
 -- ---- recording
 pub record-at-once : OneOutcome 1 record_at.Kinds.ps record_at.Kinds.r record_at.Reads.Asked record_at.Reads.Learnt

@@ -10,3 +10,4 @@ pub mod Outcome
 pub mod Examples
 pub mod Further
 pub mod Chart
+pub mod Pixel

@@ -1,6 +1,7 @@
 -- The laws of the C face.
 pub mod Laws
 pub mod Exact
+pub mod Pixels
 pub mod Behind
 pub mod Shapes
 pub mod Blocks

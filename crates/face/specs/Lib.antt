@@ -5,3 +5,4 @@ pub mod Version
 pub mod Tiles
 pub mod Kept
 pub mod Layers
+pub mod Pixel

@@ -1,9 +1,11 @@
 // The C face (R7.4): the device's calls over a state block, and answers by R7.7. A slice passes as a pointer and a length.
 ghost use mathlib.Core.List.{[]};
 ghost use mathlib.Core.Path.{_≡_};
+ghost use mathlib.Core.Bool.{cond};
 ghost use Prim.Native.Nat.{ℕ, _+_, _*_, _≤_, _<_};
 ghost use Rattle.vdp.specs.Refusals.{refusalNumber};
 ghost use lib.ListN.{length};
+ghost use Rattle.laws.specs.Lists.{at};
 ghost use Rattle.vdp.specs.declared.VdpState.{VdpState};
 ghost use Rattle.block.specs.Block.{oldSize, stateOf, blockOf, Sized};
 ghost use Rattle.step.specs.Step.{interruptNumber, reportNumber, coloursNow};
@@ -12,6 +14,7 @@ ghost use Rattle.face.specs.Tiles.{writeTileCall, readTileCall};
 ghost use Rattle.face.specs.Face.{rowBits, stepWord, newTableCall, newCall, outCall, inputCall, stepCall, rowStepCall, dumpCall, Leaves};
 ghost use Rattle.face.specs.Layers.{LayerRowLeaves, LayerFrameLeaves};
 ghost use Rattle.face.specs.Version.{version};
+ghost use Rattle.face.specs.Pixel.{pixelBits, pixelCall};
 use step::DisplayRefresh;
 use step::DrawnRow;
 use step::Points;
@@ -283,7 +286,7 @@ pub extern "C" fn vdp_dump_tileset(state: &[u8], vram: &[u8], pixels: &mut [u8])
 pub extern "C" fn vdp_version() -> u32
     ensures { λ r. ⌜ r ≡ version ⌝ }
 {
-    262400
+    262656
 }
 
 // The tile of these 64 codes into video memory; no device is asked.
@@ -300,4 +303,60 @@ pub extern "C" fn vdp_read_tile(vram: &[u8], tile: u16, codes: &mut [u8]) -> u32
     ensures { λ r. ⌜ Leaves (readTileCall (now (vram .entry)) tile (now (codes .entry))) r [] (now (codes .exit)) ⌝ }
 {
     number(tiles::read_tile(vram, tile, codes))
+}
+
+// ---- one pixel
+
+// A word of 32 bits as one of 64.
+fn long(word: u32) -> u64
+    ensures { λ r. ⌜ (r ≡ word) × (r < 4294967296) ⌝ }
+{
+    word as u64
+}
+
+// The colour with number n that a row of the block's device is drawn with: that one is made of the palette, where the colours are dirty.
+fn colour_of(state: &[u8], n: usize) -> u32
+    requires { ⌜ (oldSize ≤ length (now state)) × (n < 32) ⌝ }
+    ensures { λ r. ⌜ r ≡ at (coloursNow (stateOf (now (state .entry)))) n ⌝ }
+{
+    if state[26] == 1 {
+        return colour::rgb(state[27 + 2 * n], state[27 + (2 * n + 1)]);
+    }
+    block::colour_at(state, 91 + 4 * n)
+}
+
+// A pixel's part of the word: that it is there, and its colour.
+fn pixel_bits(state: &[u8], there: bool, n: usize) -> u64
+    requires { ⌜ (oldSize ≤ length (now state)) × (n < 32) ⌝ }
+    ensures { λ r. ⌜ r ≡ pixelBits there (cond there (at (coloursNow (stateOf (now (state .entry)))) n) 0) ⌝ }
+    ensures { λ r. ⌜ r ≤ 18446744069431361536 ⌝ }
+{
+    if !there {
+        return 0;
+    }
+    16777216 + 4294967296 * long(colour_of(state, n))
+}
+
+// One pixel of the row as it would be drawn now; the block is only read.
+#[no_mangle]
+pub extern "C" fn vdp_pixel(state: &[u8], vram: &[u8], area: u8, row: u32, column: u32) -> u64
+    ensures { λ r. ⌜ r ≡ pixelCall (now (state .entry)) (now (vram .entry)) area row column ⌝ }
+{
+    if !block::well_formed(state) {
+        return long(number(Refusal::BlockMalformed));
+    }
+    if 1 < area {
+        return long(number(Refusal::UnknownArea));
+    }
+    let raster = block::raster_in(state);
+    let spot = pixel::spot_at(
+        vram,
+        picture::area_from(area),
+        block::registers(state),
+        raster.vertical_scroll,
+        row,
+        column,
+    );
+    let refusal = spot.refusal;
+    long(number(refusal)) + pixel_bits(state, spot.there, spot.colour)
 }

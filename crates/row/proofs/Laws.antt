@@ -4,14 +4,11 @@ use mathlib.Core.Path.{_≡_, ap, _∙_}
 use mathlib.Core.List.{List, _++_}
 use mathlib.Core.Bool.{Bool, cond}
 use Prim.Native.Nat.{ℕ, _+_, _-_, _*_, _%_, _<_, _≤_}
-use native.Mathlib.Decide.{decLt}
 use native.Mathlib.Omega.{arith}
 use lib.ListN.{length, drop, length-append, length-drop}
 use lib.Seq.{drop-at}
-use borrow.Author.Tests.{lt-ltb, le-ltb}
 use Rattle.laws.specs.Lists.{at}
 use Rattle.laws.specs.Paint.{painted}
-use Rattle.laws.proofs.Any.{any-cong}
 use Rattle.laws.proofs.Paint.{painted-cong, painted-all}
 use Rattle.bitmap.specs.Mask.{bytesOf}
 use Rattle.bitmap.proofs.Circle.{bytesOf-ext}
@@ -22,7 +19,8 @@ use Rattle.picture.specs.Picture.{Row, back, front, picture}
 use Rattle.picture.specs.Layers.{layers, layersIn}
 use Rattle.picture.specs.Area.{columns, rowSize, rowBytes, statusBits}
 use Rattle.picture.proofs.Laws.{length-rowBytes, row-size}
-use Rattle.background.specs.Background.{backColour, backFront, prioTo}
+use Rattle.background.specs.Background.{backColour, prioTo}
+use Rattle.background.proofs.Views.{back-at, front-at}
 use Rattle.sprites.specs.Sprites.{Finished}
 use Rattle.row.specs.Row.{Drawn}
 
@@ -33,28 +31,10 @@ module _
   where
     pub back-is : (row₀ colours : List ℕ)
         → painted row₀ 0 (v .width) (λ x. at colours (backColour vram names sx y x)) ≡ painted row₀ 0 (v .width) (λ x. at colours (back (at vram) (at reg) v x))
-    unfolding back backColour
-    back-is row₀ colours = painted-cong row₀ 0 (v .width) _ _ (λ x l. rw (ex x l, ey x, ne))
+    back-is row₀ colours = painted-cong row₀ 0 (v .width) _ _ (λ x l. ap (at colours) (back-at vram reg v names sx y ne ex ey cut em x l))
 
     pub front-is : bytesOf (prioTo vram names sx y cut (v .width)) ≡ bytesOf (front (at vram) (at reg) v)
-    unfolding front prioTo backFront
-    front-is = bytesOf-ext _ _ (λ i h. any-cong (v .width) _ _ (λ x l. rw (ex x l, ey x, em x l, ne)))
-
--- ---- the visible view
-pub visible-x : (r x : ℕ) → r < 256 → (x + 304 - r) % 256 ≡ ((304 - r) % 256 + x) % 256
-visible-x r x h = omega arith
-
--- ---- the effective view
-pub effective-x : (x : ℕ) → x < 256 → x ≡ (0 + x) % 256
-effective-x x h = omega arith
-
-pub effective-mark : (x : ℕ) → x < 256 → x ≡ cutMark 0 x
-unfolding cutMark
-effective-mark x h =
-    elim (decLt x 8) [
-      | yes l ↦ rw (lt-ltb x 8 l) (omega arith)
-      | no l ↦ let k : 8 ≤ x = omega arith in rw (le-ltb x 8 k)
-    ]
+    front-is = bytesOf-ext _ _ (λ i h. front-at vram reg v names sx y ne ex ey cut em i)
 
 -- ---- a finished line of sprites over it is the picture
 as-bytes : (row₀ colours : List ℕ) (width : ℕ) (p : Row) {row : List ℕ} → row ≡ painted row₀ 0 width (λ x. at colours (p .colour x)) → width * 4 ≤ length row₀

@@ -23,9 +23,9 @@ use picture::Stand;
 use tile::Columns;
 
 // The next sprite of the list that is on a line, and the line of it that is shown there; number 64 where there is none.
-struct Next {
-    n: usize,
-    d: usize,
+pub struct Next {
+    pub n: usize,
+    pub d: usize,
 }
 
 // What one sprite leaves: the pixels that it marks, and how many sprites the line has with it.
@@ -126,7 +126,7 @@ fn sprite_line_settings_effective(e: u8, h: u8) -> Stand
 }
 
 // The same in either area.
-fn settings(area: RenderArea, e: u8, h: u8) -> Stand
+pub fn settings(area: RenderArea, e: u8, h: u8) -> Stand
     requires { ⌜ e ≤ 8 ⌝ }
     ensures { λ r. ⌜ r ≡ standOf area e h ⌝ }
     ensures { λ r. ⌜ Fits r ⌝ }
@@ -140,7 +140,7 @@ fn settings(area: RenderArea, e: u8, h: u8) -> Stand
 // ---- what the registers and the table say of a sprite
 
 // What the early clock takes off X.
-fn early_of(reg: [u8; 11]) -> u8
+pub fn early_of(reg: [u8; 11]) -> u8
     ensures { λ r. ⌜ r ≡ early (at reg) ⌝ }
     ensures { λ r. ⌜ r ≤ 8 ⌝ }
 {
@@ -148,7 +148,7 @@ fn early_of(reg: [u8; 11]) -> u8
 }
 
 // Where the sprite table starts.
-fn table_at(reg: [u8; 11]) -> usize
+pub fn table_at(reg: [u8; 11]) -> usize
     ensures { λ r. ⌜ r ≡ tableAt (at reg) ⌝ }
     ensures { λ r. ⌜ r ≤ 16128 ⌝ }
 {
@@ -194,7 +194,7 @@ fn sprite_double_size_src_line(tall: bool, num: u8, d: usize) -> usize
 }
 
 // Where that line stands.
-fn line_at(reg: [u8; 11], num: u8, d: usize) -> usize
+pub fn line_at(reg: [u8; 11], num: u8, d: usize) -> usize
     requires { ⌜ d < 16 ⌝ }
     ensures { λ r. ⌜ r ≡ spriteLine (at reg) num d ⌝ }
     ensures { λ r. ⌜ r + 4 ≤ vramSize ⌝ }
@@ -294,7 +294,7 @@ fn render_sprite(
 fn next_on(vram: &[u8], table: usize, from: usize, line: usize, lines: usize) -> Next
     requires { ⌜ (length (now vram) ≡ vramSize) × (table ≤ 16128) × (from ≤ 64) × (lines ≤ 16) ⌝ }
     ensures { λ r. ⌜ ((g : ℕ → ℕ) → table ≡ tableAt g → lines ≡ cond (tall g) 16 8 → Follows (at (now (vram .entry))) g line from (r .n) (r .d)) ⌝ }
-    ensures { λ r. ⌜ (from ≤ r .n) × (r .n ≤ 64) × (r .d < 16) ⌝ }
+    ensures { λ r. ⌜ (from ≤ r .n) × (r .n ≤ 64) × (r .d < 16) × (64 ≤ r .n → r .d ≡ 0) ⌝ }
 {
     let mut n = from;
     while n < 64 {
@@ -309,6 +309,21 @@ fn next_on(vram: &[u8], table: usize, from: usize, line: usize, lines: usize) ->
         n += 1;
     }
     Next { n: 64, d: 0 }
+}
+
+// The same by the registers.
+pub fn next_sprite(vram: &[u8], reg: [u8; 11], from: usize, line: usize) -> Next
+    requires { ⌜ (length (now vram) ≡ vramSize) × (from ≤ 64) ⌝ }
+    ensures { λ r. ⌜ Follows (at (now (vram .entry))) (at reg) line from (r .n) (r .d) ⌝ }
+    ensures { λ r. ⌜ (from ≤ r .n) × (r .n ≤ 64) × (r .d < 16) × (64 ≤ r .n → r .d ≡ 0) ⌝ }
+{
+    next_on(
+        vram,
+        table_at(reg),
+        from,
+        line,
+        height(small::is_set(reg[1], 1)),
+    )
 }
 
 // The sprites of a line, over its background, under the priority mask `prio`, with what they mark joined to `mask`, and the layers that they own. Both

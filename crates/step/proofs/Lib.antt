@@ -5,3 +5,4 @@ pub mod Views
 pub mod Dumps
 pub mod Laws
 pub mod Kept
+pub mod Pixels

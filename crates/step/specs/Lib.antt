@@ -5,3 +5,4 @@ pub mod Frame
 pub mod Layers
 pub mod Lend
 pub mod Dump
+pub mod Pixel

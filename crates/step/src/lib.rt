@@ -1,5 +1,5 @@
 // The step: its five points by what they read and leave of a device, and the step of a whole device, into a row buffer or into a frame of which it lends one row.
-// And the view of a frame's row, and the dump of all tiles.
+// And the view of a frame's row, the dump of all tiles, and one pixel on its own.
 ghost use mathlib.Core.Path.{_≡_};
 ghost use mathlib.Core.Bool.{false, cond, _&&_, _||_};
 ghost use Prim.Native.Nat.{_≤_, _<_};
@@ -21,6 +21,7 @@ ghost use Rattle.step.specs.Layers.{RowLayersLeave, FrameLayersLeave};
 ghost use Rattle.step.specs.Lend.{LentOut};
 ghost use Rattle.step.specs.Points.{RowIn, bitsOf, bytesOf, ownersOf, refusedPoints, Reads, cleaned, joined};
 ghost use Rattle.step.specs.Dump.{DumpLeaves};
+ghost use Rattle.step.specs.Pixel.{pixelOf};
 ghost use Rattle.step.specs.Frame.{startOf, RowStepLeaves, FrameStepLeaves, rowView};
 use picture::RenderArea;
 use raster::Raster;
@@ -560,4 +561,35 @@ pub fn dump_tileset(vdp: VdpState, vram: &[u8], pixels: &mut [u8]) -> Refusal
     let colours = colours_of(vdp, false);
     dump::dump_tileset(pixels, vram, &colours, reg);
     Refusal::Accepted
+}
+
+// A pixel: whether there is one, and its colour, 0 where there is none.
+pub struct Pixel {
+    pub refusal: Refusal,
+    pub there: bool,
+    pub colour: u32,
+}
+
+// The colour where there is a pixel, else 0.
+fn shown(there: bool, colour: u32) -> u32
+    ensures { λ r. ⌜ r ≡ cond there colour 0 ⌝ }
+{
+    if there { colour } else { 0 }
+}
+
+// One pixel of the row as it would be drawn now, whatever the counter reads. No row is drawn, and the device is only read.
+pub fn pixel_at(vdp: VdpState, vram: &[u8], area: RenderArea, row: u32, column: u32) -> Pixel
+    ensures { λ r. ⌜ r ≡ pixelOf area (now (vram .entry)) vdp row column ⌝ }
+{
+    let reg = vdp.reg;
+    let raster = vdp.raster;
+    let spot = pixel::spot_at(vram, area, reg, raster.vertical_scroll, row, column);
+    let colours = colours_of(vdp, vdp.cram_dirty);
+    let refusal = spot.refusal;
+    let n = spot.colour;
+    Pixel {
+        refusal: refusal,
+        there: spot.there,
+        colour: shown(spot.there, colours[n]),
+    }
 }

@@ -18,7 +18,7 @@ ghost use Rattle.tile.specs.Line.{lineColour, lineSolid, lineMarked, lin
 // ---- marks
 
 // The byte with bit i set where `on`.
-fn mark(bits: u8, i: usize, on: bool) -> u8
+pub fn mark(bits: u8, i: usize, on: bool) -> u8
     requires { ⌜ i < 8 ⌝ }
     ensures { λ r. ⌜ r ≡ cond on (bitOr bits (1 * 2 ^ i % 256)) bits ⌝ }
 {
@@ -39,6 +39,28 @@ fn color_code(b0: u8, b1: u8, b2: u8, b3: u8, offset: usize) -> usize
             | (((b1 >> offset) & 1) << 1)
             | (((b0 >> offset) & 1) << 0),
     )
+}
+
+// The bit at which pixel p of a tile's line stands: the leftmost at bit 7, or at bit 0 where the tile is flipped.
+fn offset_of(flip: bool, p: usize) -> usize
+    requires { ⌜ p < 8 ⌝ }
+    ensures { λ r. ⌜ r ≡ 7 - turned flip p ⌝ }
+    ensures { λ r. ⌜ r < 8 ⌝ }
+{
+    if flip { p } else { 7 - p }
+}
+
+// The code of pixel p of the line at addr.
+pub fn pixel_code(vram: &[u8], addr: usize, flip: bool, p: usize) -> usize
+    requires { ⌜ (p < 8) × (addr + 4 ≤ length (now vram)) ⌝ }
+    ensures { λ r. ⌜ r ≡ codeAt (at (now (vram .entry))) addr (turned flip p) ⌝ }
+    ensures { λ r. ⌜ r < 16 ⌝ }
+{
+    let p0 = vram[addr];
+    let p1 = vram[addr + 1];
+    let p2 = vram[addr + 2];
+    let p3 = vram[addr + 3];
+    color_code(p0, p1, p2, p3, offset_of(flip, p))
 }
 
 // The four bytes of a colour, at pixel x of the row.

@@ -6,7 +6,8 @@ use Rattle.picture.specs.View.{View, effective}
 use Rattle.picture.specs.Picture.{back, front}
 use Rattle.picture.specs.Area.{pictureOf}
 use Rattle.picture.specs.Layers.{layersOf}
-use Rattle.row.proofs.Laws.{back-is, front-is, effective-x, effective-mark, row-is}
+use Rattle.background.proofs.Views.{effective-x, effective-mark}
+use Rattle.row.proofs.Laws.{back-is, front-is, row-is}
 use Rattle.row.proofs.render_line_effective.Statement.{statement}
 use Rattle.row.proofs.render_line_effective.Tie as tie
 use Rattle.row.proofs.render_line_effective.Reads as reads

@@ -6,7 +6,8 @@ use Rattle.picture.specs.View.{View, cutMark, visible}
 use Rattle.picture.specs.Picture.{back, front}
 use Rattle.picture.specs.Area.{pictureOf}
 use Rattle.picture.specs.Layers.{layersOf}
-use Rattle.row.proofs.Laws.{back-is, front-is, visible-x, row-is}
+use Rattle.background.proofs.Views.{visible-x}
+use Rattle.row.proofs.Laws.{back-is, front-is, row-is}
 use Prim.Native.Nat.{ℕ, _+_, _-_, _%_, _<_}
 use lib.ListN.{getD}
 use mir.Syntax.{w8}

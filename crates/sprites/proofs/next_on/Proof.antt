@@ -49,7 +49,7 @@ returns c =
             next = λ h. absurd (omega arith);
             below = λ h. absurd (omega arith);
           },
-      (omega arith, omega arith, omega arith),
+      (omega arith, omega arith, omega arith, λ h. refl),
     )
 
 -- src/lib.rt:283:52
@@ -80,7 +80,7 @@ returns-2 c =
                 (on-line m g (a .line) n te refl top (a .lines) d (c .before .before .top-of .ensures .0) le (c .before .wrapping-sub-usize .ensures) low (c .if2 .taken));
             below = λ h. below-top m g (a .line) n te refl top (a .lines) d (c .before .before .top-of .ensures .0) le (c .before .wrapping-sub-usize .ensures) low (c .if2 .taken);
           },
-      (omega arith, omega arith, omega arith),
+      (omega arith, omega arith, omega arith, λ h. absurd (omega arith)),
     )
 
 -- src/lib.rt:287:9
@@ -123,7 +123,7 @@ returns-3 c =
     let l : 64 ≤ n = omega arith in (
       λ g te le.
           record { none = λ h. v g te le ∙ list-done m g (a .line) n l; next = λ h. absurd (omega arith); below = λ h. absurd (omega arith) },
-      (omega arith, omega arith, omega arith),
+      (omega arith, omega arith, omega arith, λ h. refl),
     )
 
 pub next-on-spec : {M : Type 1} → statement M

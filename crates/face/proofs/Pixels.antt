@@ -1,0 +1,61 @@
+-- One pixel in the C face: the colour that a block gives to a number, and when the call is refused.
+-- Assumes nothing.
+use mathlib.Core.Path.{_≡_, refl, sym, ap, _∙_}
+use mathlib.Core.Logic.{_≢_}
+use mathlib.Core.Bool.{Bool, true, false, cond}
+use mathlib.Core.List.{List}
+use Prim.Native.Nat.{ℕ, _+_, _*_, _%_, _<_}
+use native.Mathlib.Omega.{arith}
+use lib.Dec.{leb}
+use lib.ListN.{length, take, drop}
+use lib.Seq.{getD-take, getD-drop}
+use borrow.Author.Tests.{eq-eqb, ne-eqb, eqb-true, eqb-false}
+use Rattle.laws.specs.Lists.{at}
+use Rattle.laws.specs.Sizes.{vramSize}
+use Rattle.laws.proofs.Tables.{getD-table}
+use Rattle.laws.proofs.Tests.{split}
+use Rattle.colour.specs.Colour.{colour, coloursOf}
+use Rattle.picture.specs.Area.{areaFrom}
+use Rattle.vdp.specs.declared.Refusal.{Refusal}
+use Rattle.vdp.specs.Refusals.{refusalNumber, whole, first}
+use Rattle.block.specs.Block.{wellFormed, stateOf, colourAt, coloursAt}
+use Rattle.pixel.specs.Pixel.{pixelLines}
+use Rattle.step.specs.declared.Pixel.{Pixel}
+use Rattle.step.specs.Step.{coloursNow}
+use Rattle.step.specs.Pixel.{pixelOf}
+use Rattle.step.proofs.Pixels.{pixel-exact}
+use Rattle.face.specs.Refused.{refusalIn, stepCallLines}
+use Rattle.face.specs.Pixel.{pixelBits, pixelWord, pixelCall}
+use Rattle.face.proofs.Exact.{number-low, alone}
+
+module _ (b : List ℕ) (n : ℕ) (h : n < 32) where
+  pub colour-dirty : at b 26 ≡ 1 → colour (at b (27 + 2 * n)) (at b (27 + (2 * n + 1))) ≡ at (coloursNow (stateOf b)) n
+  unfolding stateOf coloursOf
+  colour-dirty e =
+      rw (eq-eqb (at b 26) 1 e)
+      (sym (getD-table 32 (λ i. colour (at (take 64 (drop 27 b)) (2 * i)) (at (take 64 (drop 27 b)) (2 * i + 1))) n h
+      ∙ rw (getD-take 64 (drop 27 b) (2 * n) 0 (omega arith), getD-take 64 (drop 27 b) (2 * n + 1) 0 (omega arith), getD-drop 27 b (2 * n) 0, getD-drop 27 b (2 * n + 1) 0)))
+
+  pub colour-clean : (at b 26 ≡ 1 → ⊥) → colourAt b (91 + 4 * n) ≡ at (coloursNow (stateOf b)) n
+  unfolding stateOf coloursAt
+  colour-clean e = rw (ne-eqb (at b 26) 1 e) (sym (getD-table 32 (λ i. colourAt b (91 + 4 * i)) n h))
+
+-- ---- the word
+word-low : (r : Refusal) (there : Bool) (colour : ℕ) → refusalIn (refusalNumber r + pixelBits there colour) ≡ refusalNumber r
+word-low r true colour = omega (arith, number-low r)
+word-low r false colour = omega (arith, number-low r)
+
+-- R16.3: refused by the first line of its table that holds, and then the word is the refusal alone
+module _ (b m : List ℕ) (n y x : ℕ) where
+  pub pixel-call-exact : refusalIn (pixelCall b m n y x) ≡ refusalNumber (first (stepCallLines b n (pixelLines m)))
+  unfolding pixelCall
+  pixel-call-exact =
+      split (wellFormed b)
+      (λ e.
+      split (leb n 1)
+      (λ l.
+      simp (e, l)
+      (word-low (pixelOf (areaFrom n) m (stateOf b) y x .refusal) (pixelOf (areaFrom n) m (stateOf b) y x .there) (pixelOf (areaFrom n) m (stateOf b) y x .colour)
+      ∙ ap refusalNumber (pixel-exact (areaFrom n) m (stateOf b) y x)))
+      (λ l. simp (e, l)))
+      (λ e. simp e)

@@ -1,0 +1,275 @@
+-- One column of a sprite laid on a canvas, and the list of sprites on one column.
+-- Assumes nothing.
+use mathlib.Core.Path.{_≡_, refl, sym, ap, _∙_, subst}
+use mathlib.Core.Logic.{_⊎_, inl, inr, ⊎-elim}
+use mathlib.Core.List.{List, [], _∷_}
+use mathlib.Core.Bool.{Bool, true, false, cond, _&&_, _||_, not}
+use Prim.Native.Nat.{ℕ, zero, suc, _+_, _-_, _%_, _<_, _≤_, min}
+use native.Mathlib.Decide.{decLt}
+use native.Mathlib.Nat.{add-zero}
+use native.Mathlib.Omega.{arith}
+use lib.Bits.{bitOr, or-zero-r}
+use lib.Dec.{eqb, ltb, leb}
+use lib.ListN.{take}
+use borrow.Author.Tests.{lt-ltb, le-ltb, le-leb, lt-leb, ltb-true, leb-true, ltb-false, ne-eqb}
+use Rattle.laws.specs.Bits.{bit}
+use Rattle.laws.specs.Circle.{past}
+use Rattle.laws.specs.Lists.{at}
+use Rattle.laws.proofs.Bits.{bit-above, bit-or}
+use Rattle.laws.proofs.Tests.{both}
+use Rattle.picture.specs.declared.Stand.{Stand}
+use Rattle.picture.specs.declared.RenderArea.{RenderArea}
+use Rattle.picture.specs.declared.RenderArea.the-variants.{VisibleOnly, EffectiveArea}
+use Rattle.picture.specs.Tile.{codeAt}
+use Rattle.picture.specs.View.{visibleStand, visibleSeen, visibleEnd, effectiveStand}
+use Rattle.picture.specs.Picture.{Canvas, solid, heldBack, marked, struck, drawn, laid, bare, tableAt, topOf, tall, onLine, listed, withSprites}
+use Rattle.sprites.specs.Sprites.{standOf}
+use Rattle.sprites.proofs.List.{Going, list-skips}
+use Rattle.pixel.specs.declared.Scene.{Scene}
+use Rattle.pixel.specs.declared.Column.{Column}
+use Rattle.pixel.specs.Column.{Clear, frontAt, leftOf, offOf, reachOf, marksLeft, colourWith, Tied, Shows}
+
+-- ---- every stand is tied to its column
+visible-tied : (e h : ℕ) → e ≤ 8 → Tied (48 + e) (visibleStand e h)
+unfolding visibleStand
+visible-tied e h l =
+    record {
+      mark = λ q. rw q (omega arith);
+      prio = λ q. rw q (omega arith);
+      edge = λ q.
+          elim (decLt h (48 + e)) [
+            | yes a ↦ inr (omega arith)
+            | no a ↦ inl (omega arith)
+          ];
+    }
+
+effective-tied : (e h : ℕ) → e ≤ 8 → Tied e (effectiveStand e h)
+unfolding effectiveStand
+effective-tied e h l = record { mark = λ q. omega arith; prio = λ q. omega arith; edge = λ q. inl refl }
+
+pub tied : (area : RenderArea) (e h : ℕ) → e ≤ 8 → Tied (offOf area e) (standOf area e h)
+tied VisibleOnly e h l = visible-tied e h l
+tied EffectiveArea e h l = effective-tied e h l
+
+visible-low : (e h : ℕ) → visibleStand e h .end ≤ 8
+unfolding visibleStand visibleEnd
+visible-low e h =
+    elim (decLt 160 (h - 48 - e)) [
+      | yes a ↦ rw (lt-ltb 160 (h - 48 - e) a) (omega arith)
+      | no a ↦ let k : h - 48 - e ≤ 160 = omega arith in rw (le-ltb 160 (h - 48 - e) k) (omega arith)
+    ]
+
+effective-low : (e h : ℕ) → effectiveStand e h .end ≤ 8
+unfolding effectiveStand
+effective-low e h = omega arith
+
+end-low : (area : RenderArea) (e h : ℕ) → standOf area e h .end ≤ 8
+end-low VisibleOnly e h = visible-low e h
+end-low EffectiveArea e h = effective-low e h
+
+-- ---- places around the circle
+further : (a b k : ℕ) → a % 256 ≡ b % 256 → (a + k) % 256 ≡ (b + k) % 256
+further a b k e = omega arith
+
+back : (a b k : ℕ) → (a + k) % 256 ≡ (b + k) % 256 → a % 256 ≡ b % 256
+back a b k e = omega arith
+
+-- a column that is so far past the mark
+past-mark : (i mark : ℕ) → i < 256 → (mark + past i mark) % 256 ≡ i
+past-mark i mark h = let m = mark % 256 in further mark (mark % 256) (past i mark) (omega arith) ∙ omega arith
+
+-- what stands j to the left of the column stands as far to the left of its place in the mask
+prio-place : (col off j mark prio : ℕ) → j < 8 → (prio + off) % 256 ≡ mark % 256 → leftOf col j ≡ (prio + past (leftOf (col + off) j) mark) % 256
+prio-place col off j mark prio h e =
+    let i = leftOf (col + off) j in
+    let k = past i mark in
+    let l : i < 256 = omega arith in
+    let a : (prio + off + k) % 256 ≡ i = further (prio + off) mark k e ∙ past-mark i mark l in
+    let r : prio + off + k ≡ prio + k + off = omega arith in
+    let q : col + off + 256 - j ≡ col + 256 - j + off = omega arith in
+    sym (back (prio + k) (col + 256 - j) off (ap (λ (n : ℕ). n % 256) (sym r) ∙ a ∙ ap (λ (n : ℕ). n % 256) q))
+
+-- a sprite's column col - x stands `start` to the left of the column's place
+mark-place : (col off start x mark : ℕ) → start < 8 → x ≤ col → (mark + start) % 256 ≡ (x + off) % 256 → leftOf (col + off) start ≡ (mark + (col - x)) % 256
+mark-place col off start x mark s l e =
+    let d = col - x in
+    let r : mark + start + d ≡ mark + d + start = omega arith in
+    let q : (x + off + d) % 256 ≡ (col + off + 256 - start + start) % 256 = omega arith in
+    sym (back (mark + d) (col + off + 256 - start) start (ap (λ (n : ℕ). n % 256) (sym r) ∙ further (mark + start) (x + off) d e ∙ q))
+
+past-place : (i mark k : ℕ) → k < 256 → i ≡ (mark + k) % 256 → past i mark ≡ k
+past-place i mark k h e = omega arith
+
+-- so far to the right of a sprite's X byte none of the places to the left that are needed is one of its columns
+far-place : (i j h c : ℕ) → h < 256 → c ≤ 7 → j < 8 - c → 15 - c ≤ (i + 256 - h) % 256 → 8 ≤ past (leftOf i j) h
+far-place i j h c hl cl l d = omega arith
+
+-- ---- a test that counts only where another holds
+when : (t : Bool) {x y : Bool} → (t ≡ true → x ≡ y) → (t && x) ≡ (t && y)
+when true e = e refl
+when false e = refl
+
+same-tests : (seen left own bits taken mark struck : Bool) → (seen ≡ true → left ≡ true → own ≡ true → (bits ≡ mark) × (taken ≡ struck)) → (own ≡ false → mark ≡ false)
+    → (seen && (left && (own && (bits && not taken)))) ≡ (left && (seen && (mark && not struck)))
+same-tests true true true bits taken mark struck e f = rw (e refl refl refl .0, e refl refl refl .1)
+same-tests true true false bits taken mark struck e f = rw (f refl)
+same-tests true false own bits taken mark struck e f = refl
+same-tests false true own bits taken mark struck e f = refl
+same-tests false false own bits taken mark struck e f = refl
+
+-- ---- one sprite
+module _
+    (vram : List ℕ) (b : Scene) (s : Stand) (addr col off : ℕ) (t : Tied off s) (low : s .end ≤ 8) (cl : col < 256) (f : ℕ → Bool) (c : Canvas)
+    (pe : (i : ℕ) → i < 256 → frontAt vram b i ≡ f i)
+  where
+    abbrev code : ℕ → ℕ
+    code = codeAt (at vram) addr
+
+    near : (j : ℕ) → j < 8 → marksLeft vram b s addr col off j ≡ marked s code f c (past (leftOf (col + off) j) (s .mark))
+    unfolding marksLeft marked heldBack
+    near j h =
+        ap (λ (z : Bool). solid (s .start) (s .end) code (past (leftOf (col + off) j) (s .mark)) && not z)
+        (when (s .seen) (λ q. pe (leftOf col j) (omega arith) ∙ ap f (prio-place col off j (s .mark) (s .prio) h (t .prio q))))
+
+    module _ (under : Column) (sh : Shows col off c under) (bits : ℕ) (be : (j : ℕ) → j < reachOf col → bit bits j ≡ marksLeft vram b s addr col off j) where
+      bit-near : (j : ℕ) → j < reachOf col → bit bits j ≡ marked s code f c (past (leftOf (col + off) j) (s .mark))
+      bit-near j h = let k : j < 8 = omega arith in be j h ∙ near j k
+
+      mask-after : (j : ℕ) → j < reachOf col → bit (bitOr (under .taken) bits) j ≡ laid s code f c .mask (leftOf (col + off) j)
+      unfolding laid
+      mask-after j h = bit-or (under .taken) bits j ∙ rw (sh .mask j h, bit-near j h)
+
+      -- where it is seen and has a pixel at the column
+      module _ (q : s .seen ≡ true) (l : s .x ≤ col) (o : s .start + (col - s .x) < s .end) where
+        reached : s .start < reachOf col
+        reached = let p : s .start + (col - s .x) < 8 = omega (arith, low) in ⊎-elim (λ z. omega arith) (λ z. omega arith) (t .edge q)
+
+        place : leftOf (col + off) (s .start) ≡ (s .mark + (col - s .x)) % 256
+        place =
+            let p : s .start < 8 = omega (arith, low) in
+            mark-place col off (s .start) (s .x) (s .mark) p l (t .mark q)
+
+        bits-here : bit bits (s .start) ≡ marked s code f c (col - s .x)
+        bits-here =
+            let k : col - s .x < 256 = omega arith in
+            bit-near (s .start) reached ∙ ap (λ (i : ℕ). marked s code f c i) (past-place (leftOf (col + off) (s .start)) (s .mark) (col - s .x) k place)
+
+        taken-here : bit (under .taken) (s .start) ≡ struck s code f c (col - s .x)
+        unfolding struck
+        taken-here = sh .mask (s .start) reached ∙ ap (λ (i : ℕ). c .mask i) place
+
+      no-pixel : ltb (s .start + (col - s .x)) (s .end) ≡ false → marked s code f c (col - s .x) ≡ false
+      unfolding marked solid
+      no-pixel e = rw e
+
+      colour-after : colourWith vram s addr col bits (under .taken) (under .colour) ≡ laid s code f c .colour col
+      unfolding colourWith laid drawn
+      colour-after =
+          rw (sh .colour)
+          (ap (λ (z : Bool). cond z (16 + code (s .start + (col - s .x))) (c .colour col))
+          (same-tests (s .seen) (leb (s .x) col) (ltb (s .start + (col - s .x)) (s .end)) (bit bits (s .start)) (bit (under .taken) (s .start))
+          (marked s code f c (col - s .x)) (struck s code f c (col - s .x))
+          (λ q l o.
+          let l′ = leb-true (s .x) col l in
+          let o′ = ltb-true (s .start + (col - s .x)) (s .end) o in
+          (bits-here q l′ o′, taken-here q l′ o′))
+          no-pixel))
+
+      pub column-laid : {r : Column} → r .colour ≡ colourWith vram s addr col bits (under .taken) (under .colour) → r .taken ≡ bitOr (under .taken) bits
+          → Shows col off (laid s code f c) r
+      column-laid ce te = record { colour = ce ∙ colour-after; mask = λ j h. rw te (mask-after j h) }
+
+-- ---- a sprite that is far from the column
+no-bit : (j : ℕ) → bit 0 j ≡ false
+no-bit j = bit-above 0 0 j (omega arith) (omega arith)
+
+-- one that can mark anything has its column 0 at its X byte
+visible-mark : (e h : ℕ) → e ≤ 8 → (8 ≤ visibleStand e h .start) ⊎ (visibleStand e h .mark ≡ h)
+unfolding visibleStand visibleSeen
+visible-mark e h l =
+    elim (decLt 40 h) [
+      | yes a ↦ elim (decLt h 208) [
+        | yes k ↦ inr (rw (lt-ltb 40 h a, lt-ltb h 208 k))
+        | no k ↦ let m : 208 ≤ h = omega arith in inr (rw (lt-ltb 40 h a, le-ltb h 208 m) (omega arith))
+      ]
+      | no a ↦ inl (omega arith)
+    ]
+
+effective-mark-at : (e h : ℕ) → effectiveStand e h .mark ≡ h
+unfolding effectiveStand
+effective-mark-at e h = refl
+
+mark-at : (area : RenderArea) (e h : ℕ) → e ≤ 8 → (8 ≤ standOf area e h .start) ⊎ (standOf area e h .mark ≡ h)
+mark-at VisibleOnly e h l = visible-mark e h l
+mark-at EffectiveArea e h l = inr (effective-mark-at e h)
+
+module _ (vram : List ℕ) (b : Scene) (area : RenderArea) (e h addr col off : ℕ) (el : e ≤ 8) (d : 15 - min col 7 ≤ (col + off + 256 - h) % 256) (hl : h < 256) where
+  far-column : (j : ℕ) → j < reachOf col → standOf area e h .end ≤ standOf area e h .start + past (leftOf (col + off) j) (standOf area e h .mark)
+  far-column j l =
+      let low = end-low area e h in
+      ⊎-elim (λ z. omega (arith, low)) (λ z. rw z (let k : 8 ≤ past (leftOf (col + off) j) h = far-place (col + off) j h (min col 7) hl (omega arith) l d in omega (arith, low))) (mark-at area e h el)
+
+  far-marks : (j : ℕ) → j < reachOf col → bit 0 j ≡ marksLeft vram b (standOf area e h) addr col off j
+  unfolding marksLeft solid
+  far-marks j l = no-bit j ∙ rw (le-ltb (standOf area e h .start + past (leftOf (col + off) j) (standOf area e h .mark)) (standOf area e h .end) (far-column j l))
+
+  none : (t u v : Bool) → (t && (u && (v && false))) ≡ false
+  none true true true = refl
+  none true true false = refl
+  none true false v = refl
+  none false u v = refl
+
+  far-colour : (taken old : ℕ) → old ≡ colourWith vram (standOf area e h) addr col 0 taken old
+  unfolding colourWith
+  far-colour taken old =
+      let s = standOf area e h in
+      rw (no-bit (s .start), none (s .seen) (leb (s .x) col) (ltb (s .start + (col - s .x)) (s .end)))
+
+  -- it changes neither the column nor the places near it
+  pub column-far : (f : ℕ → Bool) (c : Canvas) (under : Column) → Tied off (standOf area e h) → col < 256 → ((i : ℕ) → i < 256 → frontAt vram b i ≡ f i) → Shows col off c under
+      → Shows col off (laid (standOf area e h) (codeAt (at vram) addr) f c) under
+  column-far f c under t cl pe sh =
+      column-laid vram b (standOf area e h) addr col off t (end-low area e h) cl f c pe under sh 0 far-marks (far-colour (under .taken) (under .colour)) (sym (or-zero-r (under .taken)))
+
+-- ---- the list
+pub column-starts : (col off : ℕ) (colour : ℕ → ℕ) {r : Column} → r .colour ≡ colour col → r .taken ≡ 0 → Shows col off (bare colour) r
+unfolding bare
+column-starts col off colour e z = record { colour = e; mask = λ j h. rw z (no-bit j) }
+
+-- the search may begin behind sprites that are not on the line
+pub going-from : (m g : ℕ → ℕ) (stand : ℕ → Stand) (l : ℕ) (f : ℕ → Bool) (colour : ℕ → ℕ) {n : ℕ} (S : Canvas → Type 0) → listed m g l 64 0 ≡ listed m g l (64 - n) n
+    → S (bare colour) → Going m g stand l f colour n 0 (λ c L. S c)
+going-from m g stand l f colour S e s = record { canvas = bare colour; layer = λ x. 0; shows = s; rest = rw e; owners = rw e; many = rw e }
+
+-- a clear Y byte is that of a sprite which is passed over
+module _ (m g : ℕ → ℕ) (l n : ℕ) (low : l < 256) where
+  clear-off : Clear l (cond (tall g) 16 8) (m (tableAt g + n)) → onLine m g l n ≡ false
+  unfolding onLine topOf
+  clear-off c =
+      let top = (m (tableAt g + n) + 1) % 256 in
+      elim (decLt l top) [
+        | yes h ↦ rw (lt-leb top l h)
+        | no h ↦
+            let a : top ≤ l = omega arith in
+            let k : top + cond (tall g) 16 8 ≤ l = omega (arith, c .1) in
+            rw (le-leb top l a) (le-ltb l (top + cond (tall g) 16 8) k)
+      ]
+
+  clear-skips : n < 64 → Clear l (cond (tall g) 16 8) (m (tableAt g + n)) → listed m g l (64 - n) n ≡ listed m g l (64 - (n + 1)) (n + 1)
+  clear-skips h c = list-skips m g l n h (ne-eqb (m (tableAt g + n)) 0xD0 (c .0)) (clear-off c)
+
+pub clear-is : {l l′ lines lines′ y y′ : ℕ} → l ≡ l′ → lines ≡ lines′ → y ≡ y′ → Clear l lines y → Clear l′ lines′ y′
+clear-is a b c q = rw (← a, ← b, ← c) q
+
+pub clear-all : (m g : ℕ → ℕ) (l n k : ℕ) → l < 256 → n + k ≤ 64 → ((i : ℕ) → i < k → Clear l (cond (tall g) 16 8) (m (tableAt g + (n + i))))
+    → listed m g l (64 - n) n ≡ listed m g l (64 - (n + k)) (n + k)
+clear-all m g l n zero low h c = rw (add-zero n)
+clear-all m g l n (suc k) low h c =
+    let e : n + suc k ≡ n + k + 1 = omega arith in
+    clear-all m g l n k low (omega arith) (λ i j. c i (omega arith)) ∙ clear-skips m g l (n + k) low (omega arith) (c k (omega arith)) ∙ rw e
+
+-- eight sprites are laid: none of what is left of the list is
+pub going-eight : (m g : ℕ → ℕ) (stand : ℕ → Stand) (l : ℕ) (f : ℕ → Bool) (colour : ℕ → ℕ) {n count : ℕ} (S : Canvas → Type 0) → count ≡ 8
+    → Going m g stand l f colour n count (λ c L. S c) → S (withSprites m g stand l f (take 8 (listed m g l 64 0)) (bare colour))
+unfolding withSprites
+going-eight m g stand l f colour {n} {count} S e o = let k : 8 - count ≡ 0 = omega arith in subst S (rw k at (o .rest)) (o .shows)

@@ -1,0 +1,3 @@
+-- What the contracts of `pixel` cite.
+pub mod Column
+pub mod Pixel

@@ -1,0 +1,478 @@
+// One pixel on its own (R16.1 to R16.4): the map's pixel, and the sprites of its line in turn on that one column. No row is drawn, and the row's engine is not called.
+ghost use mathlib.Core.Path.{_≡_};
+ghost use mathlib.Core.Bool.{Bool, true, cond, _&&_};
+ghost use Prim.Native.Nat.{ℕ, _+_, _-_, _%_, _<_, _≤_};
+ghost use lib.ListN.{length, take};
+ghost use Rattle.laws.specs.Bits.{number};
+ghost use Rattle.laws.specs.Lists.{at};
+ghost use Rattle.laws.specs.Sizes.{vramSize};
+ghost use Rattle.picture.specs.Tile.{codeAt, mapColour, mapFront};
+ghost use Rattle.picture.specs.View.{early};
+ghost use Rattle.picture.specs.Picture.{Canvas, spriteLine, laid, listed, withSprites, bare};
+ghost use Rattle.picture.specs.declared.RenderArea.the-variants.{VisibleOnly, EffectiveArea};
+ghost use Rattle.picture.specs.Area.{columns, rows, pictureOf};
+ghost use Rattle.background.specs.Background.{Room, backFront};
+ghost use Rattle.sprites.specs.Sprites.{standOf, Fits};
+ghost use Rattle.pixel.specs.Column.{Set, Clear, frontAt, offOf, reachOf, marksLeft, colourWith, Tied, Shows};
+ghost use Rattle.pixel.specs.Pixel.{inArea, noSpot, spotOf};
+use picture::RenderArea;
+use picture::Stand;
+use vdp::Refusal;
+
+// Sizes of both areas, the first line of the visible one, and the bytes of video memory.
+const GG_VISIBLE_PIXEL_WIDTH: usize = 160;
+
+const GG_VISIBLE_PIXEL_HEIGHT: usize = 144;
+
+const GG_VISIBLE_AREA_START_Y: usize = 24;
+
+const SCROLL_PIXEL_WIDTH: usize = 256;
+
+const SCROLL_PIXEL_HEIGHT: usize = 224;
+
+const VRAM_SIZE: usize = 0x4000;
+
+// ---- the background
+
+// The map as a row shows it: where its entries start, the map's pixel (sx, y) that column 0 shows, how far to the left the first tile marks, and the
+// row's width.
+struct Scene {
+    names: usize,
+    sx: usize,
+    y: usize,
+    cut: usize,
+    width: usize,
+}
+
+// A pixel of the map: its colour number, and whether it stands in front of sprites.
+struct Ground {
+    colour: usize,
+    front: bool,
+}
+
+fn map_pixel(vram: &[u8], names: usize, x: usize, y: usize) -> Ground
+    requires { ⌜ Room (now vram) names x y ⌝ }
+    ensures { λ r. ⌜ (r .colour ≡ mapColour (at (now (vram .entry))) names x y) × (r .front ≡ mapFront (at (now (vram .entry))) names x y) ⌝ }
+{
+    let e = names + 2 * (32 * (y / 8) + x / 8);
+    let lo = vram[e];
+    let hi = vram[e + 1];
+    let addr = background::line_at(lo, hi, y);
+    let code = tile::pixel_code(vram, addr, small::is_set(hi, 1), x % 8);
+    Ground {
+        colour: small::weight(small::is_set(hi, 3), 16) + code,
+        front: small::both(small::is_set(hi, 4), code != 0),
+    }
+}
+
+// Whether column x of the row stands in front of sprites, where that is asked.
+fn column_front(vram: &[u8], b: Scene, asked: bool, x: usize) -> bool
+    requires { ⌜ Set (now vram) b ⌝ }
+    requires { ⌜ x < 256 ⌝ }
+    ensures { λ r. ⌜ r ≡ (asked && backFront (now (vram .entry)) (b .names) (b .sx) (b .y) x) ⌝ }
+{
+    if !asked {
+        return false;
+    }
+    let here = map_pixel(vram, b.names, (b.sx + x) % 256, b.y);
+    here.front
+}
+
+// A place of the row's priority mask: the columns that mark it are one of the first tile, which stands `cut` to the right, and the one that stands there.
+fn in_front(vram: &[u8], b: Scene, place: usize) -> bool
+    requires { ⌜ Set (now vram) b ⌝ }
+    requires { ⌜ place < 256 ⌝ }
+    ensures { λ r. ⌜ r ≡ frontAt (now (vram .entry)) b place ⌝ }
+{
+    let first = 8 - b.cut;
+    let x = (place + b.cut) % 256;
+    if column_front(vram, b, x < first, x) {
+        return true;
+    }
+    column_front(vram, b, small::both(first <= place, place < b.width), place)
+}
+
+// ---- one sprite
+
+// What the sprites so far leave of a column: its colour number, and their marks at the column's own place of the mask (bit 0) and at those to the
+// left of it, where a sprite that the left edge cuts is tested.
+struct Column {
+    colour: usize,
+    taken: u8,
+}
+
+// Whether a sprite marks the place j to the left of the column's.
+fn marks_left(
+    vram: &[u8],
+    b: Scene,
+    s: Stand,
+    addr: usize,
+    col: usize,
+    off: usize,
+    j: usize,
+) -> bool
+    requires { ⌜ Set (now vram) b ⌝ }
+    requires { ⌜ Fits s ⌝ }
+    requires { ⌜ (addr + 4 ≤ length (now vram)) × (col < 256) × (off < 256) × (j < 8) ⌝ }
+    ensures { λ r. ⌜ r ≡ marksLeft (now (vram .entry)) b s addr col off j ⌝ }
+{
+    let seen = s.seen;
+    let place = (col + off + 256 - j) % 256;
+    let k = (place + (256 - s.mark % 256)) % 256;
+    let p = s.start + k;
+    if s.end <= p {
+        return false;
+    }
+    if tile::pixel_code(vram, addr, false, p) == 0 {
+        return false;
+    }
+    if !seen {
+        return true;
+    }
+    !in_front(vram, b, (col + 256 - j) % 256)
+}
+
+// The same of all places that the column needs.
+fn marks_near(vram: &[u8], b: Scene, s: Stand, addr: usize, col: usize, off: usize) -> u8
+    requires { ⌜ Set (now vram) b ⌝ }
+    requires { ⌜ Fits s ⌝ }
+    requires { ⌜ (addr + 4 ≤ length (now vram)) × (col < 256) × (off < 256) ⌝ }
+    ensures { λ r. ⌜ r ≡ number (reachOf col) (marksLeft (now (vram .entry)) b s addr col off) ⌝ }
+{
+    let reach = 8 - small::smaller(col, 7);
+    let mut bits: u8 = 0;
+    let mut j: usize = 0;
+    while j < reach {
+        bits = tile::mark(bits, j, marks_left(vram, b, s, addr, col, off, j));
+        j += 1;
+    }
+    bits
+}
+
+// The colour number of the column with a sprite whose marks are `bits`: its own where it is seen, has a pixel there that is marked, and no sprite
+// before has marked that place.
+fn colour_with(
+    vram: &[u8],
+    s: Stand,
+    addr: usize,
+    col: usize,
+    bits: u8,
+    taken: u8,
+    old: usize,
+) -> usize
+    requires { ⌜ Fits s ⌝ }
+    requires { ⌜ (addr + 4 ≤ length (now vram)) × (col < 256) ⌝ }
+    ensures { λ r. ⌜ r ≡ colourWith (now (vram .entry)) s addr col bits taken old ⌝ }
+{
+    let seen = s.seen;
+    let x = s.x;
+    let start = s.start;
+    let end = s.end;
+    if !seen {
+        return old;
+    }
+    if col < x {
+        return old;
+    }
+    let p = start + (col - x);
+    if end <= p {
+        return old;
+    }
+    if !small::is_set(bits, start) {
+        return old;
+    }
+    if small::is_set(taken, start) {
+        return old;
+    }
+    16 + tile::pixel_code(vram, addr, false, p)
+}
+
+// The column with a sprite that stands at s and whose tile line is at addr.
+fn with_sprite(
+    vram: &[u8],
+    b: Scene,
+    s: Stand,
+    addr: usize,
+    col: usize,
+    off: usize,
+    under: Column,
+) -> Column
+    requires { ⌜ Set (now vram) b ⌝ }
+    requires { ⌜ Fits s ⌝ }
+    requires { ⌜ (addr + 4 ≤ length (now vram)) × (col < 256) × (off < 256) ⌝ }
+    ensures { λ r. ⌜ (Tied off s → (f : ℕ → Bool) (c : Canvas) → ((i : ℕ) → i < 256 → frontAt (now (vram .entry)) b i ≡ f i) → Shows col off c under → Shows col off (laid s (codeAt (at (now (vram .entry))) addr) f c) r) ⌝ }
+{
+    let taken = under.taken;
+    let bits = marks_near(vram, b, s, addr, col, off);
+    Column {
+        colour: colour_with(vram, s, addr, col, bits, taken, under.colour),
+        taken: taken | bits,
+    }
+}
+
+// ---- the line
+
+// How far the mark of a sprite that is seen stands to the right of its column.
+fn off_of(area: RenderArea, e: u8) -> usize
+    requires { ⌜ e ≤ 8 ⌝ }
+    ensures { λ r. ⌜ r ≡ offOf area e ⌝ }
+    ensures { λ r. ⌜ r < 256 ⌝ }
+{
+    match area {
+        RenderArea::VisibleOnly => 48 + small::wide(e),
+        RenderArea::EffectiveArea => small::wide(e),
+    }
+}
+
+// How far the line is below the top of a sprite with this Y byte, around a circle of 256 lines; 0 where the byte ends the list.
+fn below_top(y: u8, line: u8) -> u8
+    ensures { λ r. ⌜ ((n : ℕ) → 0 < n → n ≤ r → Clear line n y) ⌝ }
+{
+    let d = std::num::wrapping_sub_u8(line, std::num::wrapping_add_u8(y, 1));
+    if y == 0xD0 { 0 } else { d }
+}
+
+// The smaller of two bytes.
+fn least(a: u8, b: u8) -> u8
+    ensures { λ r. ⌜ (r ≤ a) × (r ≤ b) ⌝ }
+{
+    if a <= b { a } else { b }
+}
+
+// Whether none of the 16 Y bytes from k on is that of a sprite on the line, or ends the list. There is no branch in the loop, so that the compiler
+// takes them all at once.
+fn none_of(vram: &[u8], k: usize, line: u8, lines: u8) -> bool
+    requires { ⌜ (k + 16 ≤ length (now vram)) × (0 < lines) ⌝ }
+    ensures { λ r. ⌜ (r ≡ true → (i : ℕ) → i < 16 → Clear line lines (at (now (vram .entry)) (k + i))) ⌝ }
+{
+    let mut nearest: u8 = 255;
+    let mut i: usize = 0;
+    while i < 16 {
+        nearest = least(nearest, below_top(vram[k + i], line));
+        i += 1;
+    }
+    lines <= nearest
+}
+
+// The lines of a sprite.
+fn height(tall: bool) -> u8
+    ensures { λ r. ⌜ (r ≡ cond tall 16 8) × (0 < r) ⌝ }
+{
+    if tall { 16 } else { 8 }
+}
+
+// Where the search of the list may begin: behind the sixteens at its start that have no sprite on the line.
+fn first_group(vram: &[u8], reg: [u8; 11], line: usize) -> usize
+    requires { ⌜ (length (now vram) ≡ vramSize) × (line < 256) ⌝ }
+    ensures { λ r. ⌜ (r ≤ 64) × (listed (at (now (vram .entry))) (at reg) line 64 0 ≡ listed (at (now (vram .entry))) (at reg) line (64 - r) r) ⌝ }
+{
+    let table = sprites::table_at(reg);
+    let lines = height(small::is_set(reg[1], 1));
+    let l = line as u8;
+    let mut n: usize = 0;
+    while n < 64 {
+        if !none_of(vram, table + n, l, lines) {
+            return n;
+        }
+        n += 16;
+    }
+    n
+}
+
+// The column with the sprite whose X byte stands at k, its tile behind it, and of which line d is shown. Where the column is so far past
+// the X byte that no place which it needs is one of the sprite's eight, nothing more is asked.
+fn sprite_at(
+    vram: &[u8],
+    area: RenderArea,
+    reg: [u8; 11],
+    b: Scene,
+    e: u8,
+    k: usize,
+    d: usize,
+    col: usize,
+    off: usize,
+    under: Column,
+) -> Column
+    requires { ⌜ Set (now vram) b ⌝ }
+    requires { ⌜ (k + 2 ≤ vramSize) × (e ≤ 8) × (d < 16) × (col < 256) × (off ≡ offOf area e) × (off < 256) ⌝ }
+    ensures { λ r. ⌜ ((f : ℕ → Bool) (c : Canvas) → ((i : ℕ) → i < 256 → frontAt (now (vram .entry)) b i ≡ f i) → Shows col off c under → Shows col off (laid (standOf area e (at (now (vram .entry)) k)) (codeAt (at (now (vram .entry))) (spriteLine (at reg) (at (now (vram .entry)) (k + 1)) d)) f c) r) ⌝ }
+{
+    let h = vram[k];
+    let far = 15 - small::smaller(col, 7);
+    if far <= (col + off + 256 - small::wide(h)) % 256 {
+        return under;
+    }
+    let s = sprites::settings(area, e, h);
+    let addr = sprites::line_at(reg, vram[k + 1], d);
+    with_sprite(vram, b, s, addr, col, off, under)
+}
+
+// The colour number of a column of a row: the map's, and over it the first eight sprites of the line in turn.
+fn column_at(
+    vram: &[u8],
+    area: RenderArea,
+    reg: [u8; 11],
+    b: Scene,
+    line: usize,
+    col: usize,
+) -> usize
+    requires { ⌜ Set (now vram) b ⌝ }
+    requires { ⌜ (col < 256) × (line < 256) ⌝ }
+    ensures { λ r. ⌜ ((f : ℕ → Bool) (colour : ℕ → ℕ) → ((i : ℕ) → i < 256 → frontAt (now (vram .entry)) b i ≡ f i) → mapColour (at (now (vram .entry))) (b .names) ((b .sx + col) % 256) (b .y) ≡ colour col → r ≡ withSprites (at (now (vram .entry))) (at reg) (standOf area (early (at reg))) line f (take 8 (listed (at (now (vram .entry))) (at reg) line 64 0)) (bare colour) .colour col) ⌝ }
+{
+    let table = sprites::table_at(reg);
+    let e = sprites::early_of(reg);
+    let off = off_of(area, e);
+    let under = map_pixel(vram, b.names, (b.sx + col) % 256, b.y);
+    let mut column = Column {
+        colour: under.colour,
+        taken: 0,
+    };
+    let mut from = first_group(vram, reg, line);
+    let mut count: usize = 0;
+    while count < 8 {
+        let next = sprites::next_sprite(vram, reg, from, line);
+        let n = next.n;
+        if 64 <= n {
+            return column.colour;
+        }
+        column = sprite_at(
+            vram,
+            area,
+            reg,
+            b,
+            e,
+            table + 128 + 2 * n,
+            next.d,
+            col,
+            off,
+            column,
+        );
+        from = n + 1;
+        count += 1;
+    }
+    column.colour
+}
+
+// ---- the pixel
+
+// The colour number of a pixel of the visible area: the map is scrolled both ways, and the sprites are those of the line that is 24 further down.
+fn visible_number(vram: &[u8], reg: [u8; 11], scroll: usize, row: usize, col: usize) -> usize
+    requires { ⌜ (length (now vram) ≡ vramSize) × (scroll < 256) × (row < rows VisibleOnly) × (col < columns VisibleOnly) ⌝ }
+    ensures { λ r. ⌜ r ≡ pictureOf VisibleOnly reg scroll (now (vram .entry)) row .colour col ⌝ }
+{
+    let sx = (304 - small::wide(reg[8])) % 256;
+    let b = Scene {
+        names: background::names_at(reg),
+        sx: sx,
+        y: (row + GG_VISIBLE_AREA_START_Y + scroll) % SCROLL_PIXEL_HEIGHT,
+        cut: sx % 8,
+        width: GG_VISIBLE_PIXEL_WIDTH,
+    };
+    column_at(
+        vram,
+        RenderArea::VisibleOnly,
+        reg,
+        b,
+        row + GG_VISIBLE_AREA_START_Y,
+        col,
+    )
+}
+
+// The same of the effective area: the map is the screen, whatever the scroll.
+fn effective_number(vram: &[u8], reg: [u8; 11], row: usize, col: usize) -> usize
+    requires { ⌜ (length (now vram) ≡ vramSize) × (row < rows EffectiveArea) × (col < columns EffectiveArea) ⌝ }
+    ensures { λ r. ⌜ ((scroll : ℕ) → r ≡ pictureOf EffectiveArea reg scroll (now (vram .entry)) row .colour col) ⌝ }
+{
+    let b = Scene {
+        names: background::names_at(reg),
+        sx: 0,
+        y: row,
+        cut: 0,
+        width: SCROLL_PIXEL_WIDTH,
+    };
+    column_at(vram, RenderArea::EffectiveArea, reg, b, row, col)
+}
+
+// The same of either area.
+fn colour_number(
+    vram: &[u8],
+    area: RenderArea,
+    reg: [u8; 11],
+    scroll: u8,
+    row: usize,
+    col: usize,
+) -> usize
+    requires { ⌜ (length (now vram) ≡ vramSize) × (row < rows area) × (col < columns area) ⌝ }
+    ensures { λ r. ⌜ r ≡ pictureOf area reg scroll (now (vram .entry)) row .colour col ⌝ }
+{
+    match area {
+        RenderArea::VisibleOnly => visible_number(vram, reg, small::wide(scroll), row, col),
+        RenderArea::EffectiveArea => effective_number(vram, reg, row, col),
+    }
+}
+
+// A pixel: whether there is one, and its colour number; 0 where there is none.
+pub struct Spot {
+    pub refusal: Refusal,
+    pub there: bool,
+    pub colour: usize,
+}
+
+fn no_spot(refusal: Refusal) -> Spot
+    ensures { λ r. ⌜ r ≡ noSpot refusal ⌝ }
+{
+    Spot {
+        refusal: refusal,
+        there: false,
+        colour: 0,
+    }
+}
+
+// A number of 32 bits as one of 64.
+fn long(x: u32) -> usize
+    ensures { λ r. ⌜ r ≡ x ⌝ }
+{
+    x as usize
+}
+
+// Whether row and column lie in the area.
+fn in_area(area: RenderArea, row: usize, col: usize) -> bool
+    ensures { λ r. ⌜ r ≡ inArea area row col ⌝ }
+{
+    match area {
+        RenderArea::VisibleOnly => {
+            small::both(row < GG_VISIBLE_PIXEL_HEIGHT, col < GG_VISIBLE_PIXEL_WIDTH)
+        }
+        RenderArea::EffectiveArea => {
+            small::both(row < SCROLL_PIXEL_HEIGHT, col < SCROLL_PIXEL_WIDTH)
+        }
+    }
+}
+
+// The pixel at a row and a column of an area, by the registers, the latched scroll and video memory.
+pub fn spot_at(
+    vram: &[u8],
+    area: RenderArea,
+    reg: [u8; 11],
+    scroll: u8,
+    row: u32,
+    column: u32,
+) -> Spot
+    ensures { λ r. ⌜ r ≡ spotOf area reg scroll (now (vram .entry)) row column ⌝ }
+    ensures { λ r. ⌜ r .colour < 32 ⌝ }
+{
+    if vram.len() != VRAM_SIZE {
+        return no_spot(Refusal::VramLength);
+    }
+    let y = long(row);
+    let x = long(column);
+    if !in_area(area, y, x) {
+        return no_spot(Refusal::Accepted);
+    }
+    Spot {
+        refusal: Refusal::Accepted,
+        there: true,
+        colour: colour_number(vram, area, reg, scroll, y, x),
+    }
+}
