@@ -7,7 +7,7 @@ CALLS ?= 1000000
 SEED ?= 1
 ROUNDS ?= 400
 PREFIX ?= /usr/local
-PROGRAMS := trace snapshot layers trace_261 snapshot_261 sheet
+PROGRAMS := trace snapshot layers trace_261 snapshot_261 sheet repair
 # A program's file has a hyphen where its crate has a line.
 BINS := $(addprefix build/bin/,$(subst _,-,$(PROGRAMS)))
 

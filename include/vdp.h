@@ -41,7 +41,7 @@ extern "C" {
 /* The number of this face, 65536 * major + 256 * minor + small; vdp_version() gives that of the library at hand. Major goes
  * up where a program that was right may have to change, minor where calls are added, small where neither is so. */
 #define VDP_VERSION_MAJOR 4
-#define VDP_VERSION_MINOR 2
+#define VDP_VERSION_MINOR 3
 #define VDP_VERSION_SMALL 0
 #define VDP_VERSION (65536 * VDP_VERSION_MAJOR + 256 * VDP_VERSION_MINOR + VDP_VERSION_SMALL)
 
@@ -59,6 +59,7 @@ extern "C" {
 #define VDP_VISIBLE_LAYERS_SIZE  160    /* a byte for each pixel of a row */
 #define VDP_EFFECTIVE_LAYERS_SIZE 256
 #define VDP_TILESET_SIZE         131072 /* 128 x 256 pixels of 4 bytes: 512 tiles, 16 across */
+#define VDP_LIST_SIZE            220    /* the list of a repair, at least */
 #define VDP_TILE_CODES           64     /* the codes of a tile, 0 to 15, row by row */
 
 /* Sizes in pixels. A pixel is four bytes: red, green, blue, 255. */
@@ -113,6 +114,7 @@ extern "C" {
 #define VDP_REFUSED_CODES_LENGTH  14 /* codes not exactly VDP_TILE_CODES bytes: unchanged */
 #define VDP_REFUSED_CODE          15 /* a code above 15: unchanged */
 #define VDP_REFUSED_LAYERS_LENGTH 16 /* layer buffer with fewer bytes than a row of the area has pixels: unchanged */
+#define VDP_REFUSED_LIST_LENGTH   17 /* list of a repair under VDP_LIST_SIZE bytes: unchanged */
 
 /* Display reports of a step. */
 #define VDP_NO_DISPLAY             0
@@ -194,12 +196,19 @@ uint32_t vdp_write_tile(uint8_t *vram, size_t vram_len, uint16_t tile, const uin
 /* Fills a buffer of 64 bytes with the codes of a tile. Refusals, in this order: 8, 13, 14. */
 uint32_t vdp_read_tile(const uint8_t *vram, size_t vram_len, uint16_t tile, uint8_t *codes, size_t codes_len);
 
+/* Mends a damaged block of VDP_STATE_SIZE or VDP_OLD_STATE_SIZE bytes: the mark by its length; a table, flag or chosen memory out of range becomes 0;
+ * a byte under an empty latch 0; an address outside its memory is reduced modulo its size; and colours that are claimed clean and do not match the palette
+ * make it dirty. The changed offsets go to the start of the list in rising order, a byte each, and their number to bits 8 to 15 of the answer; the list's
+ * other bytes stay. Every call accepts the result. Refusals, in this order: 10 (another length), 17. */
+uint32_t vdp_repair(uint8_t *block, size_t block_len, uint8_t *list, size_t list_len);
+
 /* The number of the library's face: VDP_VERSION of the header that belongs to it. */
 uint32_t vdp_version(void);
 
 /* The parts of an answer. */
 static inline unsigned vdp_refusal(uint32_t answer) { return answer & 0xFF; }
 static inline uint8_t vdp_byte(uint32_t answer) { return (uint8_t)(answer >> 8); }          /* of vdp_input */
+static inline unsigned vdp_changed(uint32_t answer) { return answer >> 8 & 0xFF; }          /* of vdp_repair */
 static inline int vdp_interrupt(uint32_t answer) { return (int)(answer >> 8 & 1); }         /* of a step */
 static inline unsigned vdp_report(uint32_t answer) { return answer >> 9 & 3; }              /* of a step */
 static inline unsigned vdp_row(uint32_t answer) { return answer >> 16 & 0xFF; }             /* of a step */

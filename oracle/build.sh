@@ -4,8 +4,10 @@
 #   traces    build/oracle/traces, for this machine; needs neither of the two
 #   tiles     build/oracle/tiles, for x86-64, with build/libvdp.a
 #   pixels    build/oracle/pixels, for x86-64, with build/libvdp.a; where HERE_LIB is set, build/oracle/here/pixels, for this machine, with that
+#   repair    build/oracle/repair, the same
 #   here      build/oracle/here/compare, for this machine, with HERE_LIB (an object or archive of the library for it, as build/native/libvdp.a);
 #             where HERE_LIB is not set, with a stand-in made of the model
+#   repair-here  build/oracle/here/repair, the same, with no published Rust
 # GEARS names the folder that holds the published vdp.rs and io.rs (tools/gears.sh).
 set -eu
 cd "$(dirname "$0")/.."
@@ -26,10 +28,10 @@ for what in "$@"; do
         $RUSTC $flags --crate-type rlib --crate-name rules oracle/rules.rs -o $out/x86/librules.rlib
         $RUSTC $flags --extern rules=$out/x86/librules.rlib -L native=build -l static=vdp oracle/compare.rs -o $out/compare
         ;;
-    tiles)
+    tiles | repair)
         mkdir -p $out/x86
         $RUSTC $flags --crate-type rlib --crate-name rules oracle/rules.rs -o $out/x86/librules.rlib
-        $RUSTC $flags --extern rules=$out/x86/librules.rlib -L native=build -l static=vdp oracle/tiles.rs -o $out/tiles
+        $RUSTC $flags --extern rules=$out/x86/librules.rlib -L native=build -l static=vdp oracle/$what.rs -o $out/$what
         ;;
     pixels)
         if [ -n "${HERE_LIB:-}" ]; then
@@ -47,8 +49,12 @@ for what in "$@"; do
         $RUSTC_HERE $flags --crate-type rlib --crate-name rules oracle/rules.rs -o $out/here/librules.rlib
         $RUSTC_HERE $flags --extern rules=$out/here/librules.rlib oracle/traces.rs -o $out/traces
         ;;
-    here)
-        need_gears
+    here | repair-here)
+        program=repair
+        if [ $what = here ]; then
+            need_gears
+            program=compare
+        fi
         mkdir -p $out/here
         $RUSTC_HERE $flags --crate-type rlib --crate-name rules oracle/rules.rs -o $out/here/librules.rlib
         # The stand-in is looked for beside the program, wherever that stands.
@@ -58,7 +64,7 @@ for what in "$@"; do
             $RUSTC_HERE $flags --crate-type cdylib --crate-name vdp --extern rules=$out/here/librules.rlib oracle/standin.rs -o $out/here/libvdp.so
             set -- -L native=$out/here -l dylib=vdp -C 'link-arg=-Wl,-rpath,$ORIGIN'
         fi
-        $RUSTC_HERE $flags --extern rules=$out/here/librules.rlib "$@" oracle/compare.rs -o $out/here/compare
+        $RUSTC_HERE $flags --extern rules=$out/here/librules.rlib "$@" oracle/$program.rs -o $out/here/$program
         ;;
     *)
         echo "build.sh: unknown: $what" >&2

@@ -24,6 +24,7 @@ mod raw {
             state: *const u8, state_len: usize, vram: *const u8, vram_len: usize, pixels: *mut u8, pixels_len: usize,
         ) -> u32;
         pub fn vdp_pixel(state: *const u8, state_len: usize, vram: *const u8, vram_len: usize, area: u8, row: u32, column: u32) -> u64;
+        pub fn vdp_repair(block: *mut u8, block_len: usize, list: *mut u8, list_len: usize) -> u32;
     }
 }
 
@@ -73,4 +74,9 @@ pub fn vdp_dump_tileset(state: &[u8], vram: &[u8], pixels: &mut [u8]) -> u32 {
 
 pub fn vdp_pixel(state: &[u8], vram: &[u8], area: u8, row: u32, column: u32) -> u64 {
     unsafe { raw::vdp_pixel(state.as_ptr(), state.len(), vram.as_ptr(), vram.len(), area, row, column) }
+}
+
+#[allow(dead_code)] // the program `repair` alone calls it
+pub fn vdp_repair(block: &mut [u8], list: &mut [u8]) -> u32 {
+    unsafe { raw::vdp_repair(block.as_mut_ptr(), block.len(), list.as_mut_ptr(), list.len()) }
 }

@@ -4,6 +4,7 @@ pub mod call;
 pub mod model;
 pub mod random;
 pub mod recording;
+pub mod salvage;
 pub mod sessions;
 pub mod tile;
 pub mod turns;

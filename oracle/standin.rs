@@ -2,7 +2,7 @@
 //! and the proved library is not at hand (and, damaged on purpose, shows that the programs notice).
 
 use rules::model::{self, Notes};
-use rules::tile;
+use rules::{salvage, tile};
 
 /// The bytes that a caller lends.
 unsafe fn lent<'a>(at: *const u8, len: usize) -> &'a [u8] {
@@ -96,4 +96,9 @@ pub unsafe extern "C" fn vdp_read_tile(vram: *const u8, vram_len: usize, tile: u
 #[no_mangle]
 pub unsafe extern "C" fn vdp_pixel(state: *const u8, state_len: usize, vram: *const u8, vram_len: usize, area: u8, row: u32, column: u32) -> u64 {
     model::vdp_pixel(lent(state, state_len), lent(vram, vram_len), area, row, column)
+}
+
+#[no_mangle]
+pub unsafe extern "C" fn vdp_repair(block: *mut u8, block_len: usize, list: *mut u8, list_len: usize) -> u32 {
+    salvage::vdp_repair(lent_mut(block, block_len), lent_mut(list, list_len))
 }

@@ -35,6 +35,12 @@ tell "every pixel of both areas on ${STATES:-300} states, the library for this m
 sh oracle/build.sh pixels && $RUN build/oracle/pixels 8 "${SEED:-1}"
 tell "every pixel of both areas on 8 states, and all refusals" $?
 
+# The repair of state blocks beside the model: the library as it is shipped, and for this machine.
+sh oracle/build.sh repair && $RUN build/oracle/repair calls "${REPAIRS:-20000}" "${SEED:-1}"
+tell "repairs: every length, every byte of a good block damaged to every value, many bytes at once" $?
+HERE_LIB=build/native/libvdp.a sh oracle/build.sh repair-here && build/oracle/here/repair calls "${REPAIRS:-20000}" "${SEED:-1}"
+tell "the library for this machine: the same repairs" $?
+
 # The library beside the published Rust.
 if has_gears; then
     sh oracle/build.sh compare && $RUN build/oracle/compare rows "${SEED:-1}"

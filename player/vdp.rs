@@ -209,6 +209,7 @@ fn refusal_text(number: u8) -> &'static str {
         14 => "not the codes of one tile",
         15 => "a code above 15",
         16 => "layer buffer too short",
+        17 => "list of a repair too short",
         _ => "unknown refusal",
     }
 }

@@ -1,6 +1,6 @@
 #!/usr/bin/env bash
 # programs.sh: what the programs do around their work: the input by name or on standard input, --help, and what is told on standard error where
-# a read or a write fails. What they print of a trace is in traces.sh.
+# a read or a write fails. What they print of a trace is in traces.sh, of a block in repair.sh.
 set -u
 cd "$(dirname "$0")/.."
 unset MAKEFLAGS MAKELEVEL
@@ -14,7 +14,6 @@ work=$PWD/build/test/programs
 rm -rf "$work"
 mkdir -p "$work/a folder"
 trace=tests/traces/split90.trace
-cp $trace "$work/a folder/a trace"
 
 # told NAME LINE: the last run wrote nothing to standard output, this one line to standard error, and ended well.
 told() {
@@ -29,19 +28,25 @@ run() {
     status=$?
 }
 
-for program in trace snapshot layers; do
-    run $program <$trace
+for program in trace snapshot layers repair; do
+    # an input that is told nothing of: a trace, or a block with nothing wrong
+    case $program in
+    repair) sample=crates/repair/stdout ;;
+    *) sample=$trace ;;
+    esac
+    cp $sample "$work/a folder/a sample"
+    run $program <$sample
     mv "$work/out" "$work/expected"
     [ "$status" -eq 0 ] && [ ! -s "$work/err" ] && [ -s "$work/expected" ]
     tell "$program: standard input" $?
-    run $program $trace </dev/null
+    run $program $sample </dev/null
     [ "$status" -eq 0 ] && [ ! -s "$work/err" ] && cmp "$work/expected" "$work/out"
     tell "$program: a file by name" $?
-    run $program "$work/a folder/a trace" </dev/null
+    run $program "$work/a folder/a sample" </dev/null
     [ "$status" -eq 0 ] && [ ! -s "$work/err" ] && cmp "$work/expected" "$work/out"
     tell "$program: a name with spaces" $?
     # with standard input closed the file gets its number
-    run $program $trace <&-
+    run $program $sample <&-
     [ "$status" -eq 0 ] && [ ! -s "$work/err" ] && cmp "$work/expected" "$work/out"
     tell "$program: a file by name, standard input closed" $?
 
@@ -61,17 +66,17 @@ for program in trace snapshot layers; do
     told "$program: an empty name" "$program: : No such file or directory"
     run $program "$(head -c 5000 /dev/zero | tr '\000' a)" </dev/null
     told "$program: a name that is too long" "$program: its argument: File name too long"
-    run $program $trace $trace </dev/null
+    run $program $sample $sample </dev/null
     told "$program: two names" "$program: one file at most; --help tells more"
 
     : >"$work/out"
-    $RUN build/bin/$program $trace >/dev/full 2>"$work/err"
+    $RUN build/bin/$program $sample >/dev/full 2>"$work/err"
     status=$?
     told "$program: nothing more can be written" "$program: standard output: No space left on device"
     $RUN build/bin/$program --help >/dev/full 2>"$work/err"
     status=$?
     told "$program: the help cannot be written" "$program: standard output: No space left on device"
-    $RUN build/bin/$program $trace >&- 2>"$work/err"
+    $RUN build/bin/$program $sample >&- 2>"$work/err"
     status=$?
     told "$program: standard output closed" "$program: standard output: Bad file descriptor"
 done

@@ -64,6 +64,13 @@ static void make_layer_row_step(void)
 }
 static void make_dump(void) { vdp_dump_tileset(state, sizeof state, vram, sizeof vram, pixels, VDP_TILESET_SIZE - (next() % 8 == 0)); }
 static void make_pixel(void) { vdp_pixel(state, sizeof state, vram, sizeof vram - (next() % 8 == 0), (uint8_t)(next() % 3), next() % 230, next() % 260); }
+static void make_repair(void)
+{
+    static uint8_t list[VDP_LIST_SIZE];
+    state[next() % sizeof state] = (uint8_t)next();
+    vdp_repair(state, sizeof state, list, sizeof list - (next() % 8 == 0));
+    vdp_repair(state, sizeof state, list, sizeof list);
+}
 static void make_version(void) { vdp_version(); }
 
 static void (*call)(void);
@@ -97,7 +104,7 @@ static unsigned long measure(const char *name, void (*what)(void), unsigned turn
 
 int main(void)
 {
-    unsigned long most = 0, each[10];
+    unsigned long most = 0, each[11];
     for (unsigned n = 0; n < sizeof vram; n++)
         vram[n] = (uint8_t)next();
     each[0] = measure("vdp_new", make_new, TURNS);
@@ -110,7 +117,8 @@ int main(void)
     each[7] = measure("vdp_layer_step", make_layer_step, TURNS);
     each[8] = measure("vdp_layer_row_step", make_layer_row_step, TURNS);
     each[9] = measure("vdp_pixel", make_pixel, TURNS);
-    for (unsigned n = 0; n < 10; n++)
+    each[10] = measure("vdp_repair", make_repair, TURNS);
+    for (unsigned n = 0; n < 11; n++)
         most = each[n] > most ? each[n] : most;
     printf("stack: %lu bytes at the most; the header allows %d\n", most, VDP_STACK_NEED);
     return most > VDP_STACK_NEED;

@@ -226,21 +226,21 @@ latch-byte-in : (f y : ℕ) → latchFits f y ≡ true → latchByte (latchFrom 
 latch-byte-in zero y h = sym (eqb-true y 0 h)
 latch-byte-in (suc f) y h = rw (ne-eqb (suc f) 0 (λ e. omega arith))
 
-module _ (b : List ℕ) (w : wellFormed b ≡ true) (bytes : (i : ℕ) → at b i < 256) where
+module _ (b : List ℕ) (w : wellFormed b ≡ true) where
   -- what well formed says, part by part
-  record Said : Type 0 where
-    mark-0 : at b 0 ≡ 0x56
-    mark-1 : at b 1 ≡ markOf (length b)
-    flag-15 : at b 15 ≤ 1
-    chosen-20 : at b 20 ≤ 2
-    flag-21 : at b 21 ≤ 1
-    flag-23 : at b 23 ≤ 1
-    flag-26 : at b 26 ≤ 1
-    table-219 : at b 219 ≤ 1
-    command : latchFits (at b 21) (at b 22) ≡ true
-    palette : latchFits (at b 23) (at b 24) ≡ true
+  pub record Said : Type 0 where
+    pub mark-0 : at b 0 ≡ 0x56
+    pub mark-1 : at b 1 ≡ markOf (length b)
+    pub flag-15 : at b 15 ≤ 1
+    pub chosen-20 : at b 20 ≤ 2
+    pub flag-21 : at b 21 ≤ 1
+    pub flag-23 : at b 23 ≤ 1
+    pub flag-26 : at b 26 ≤ 1
+    pub table-219 : at b 219 ≤ 1
+    pub command : latchFits (at b 21) (at b 22) ≡ true
+    pub palette : latchFits (at b 23) (at b 24) ≡ true
 
-  said : Said
+  pub said : Said
   unfolding wellFormed
   said =
       let c = latchFits (at b 21) (at b 22) in
@@ -273,16 +273,17 @@ module _ (b : List ℕ) (w : wellFormed b ≡ true) (bytes : (i : ℕ) → at b 
         palette = three .1;
       }
 
+module _ (b : List ℕ) (w : wellFormed b ≡ true) (bytes : (i : ℕ) → at b i < 256) where
   head-in : head (length b) (stateOf b) ≡ take 3 (drop 0 b)
   unfolding head stateOf tableFrom
-  head-in = rw (← said .mark-0, ← said .mark-1) (part-table 3 0 b (omega (arith, long b w)))
+  head-in = rw (← said b w .mark-0, ← said b w .mark-1) (part-table 3 0 b (omega (arith, long b w)))
 
   small-in : small (stateOf b) ≡ take 13 (drop 14 b)
   unfolding small stateOf tableFrom
   small-in =
       let low : (at b 17 + 256 * at b 18) % 256 ≡ at b 17 = omega (arith, bytes 17) in
       let high : (at b 17 + 256 * at b 18) / 256 ≡ at b 18 = omega (arith, bytes 17) in
-      rw (flag-in (at b 15) (said .flag-15), low, high, chosen-in (at b 20) (said .chosen-20), latch-flag-in (at b 21) (at b 22) (said .flag-21), latch-byte-in (at b 21) (at b 22) (said .command), latch-flag-in (at b 23) (at b 24) (said .flag-23), latch-byte-in (at b 23) (at b 24) (said .palette), flag-in (at b 26) (said .flag-26))
+      rw (flag-in (at b 15) (said b w .flag-15), low, high, chosen-in (at b 20) (said b w .chosen-20), latch-flag-in (at b 21) (at b 22) (said b w .flag-21), latch-byte-in (at b 21) (at b 22) (said b w .command), latch-flag-in (at b 23) (at b 24) (said b w .flag-23), latch-byte-in (at b 23) (at b 24) (said b w .palette), flag-in (at b 26) (said b w .flag-26))
       (part-table 13 14 b (omega (arith, long b w)))
 
   four : (i r : ℕ) → r < 4 → byteOfColour (colourAt b i) r ≡ at b (i + r)
@@ -315,7 +316,7 @@ module _ (b : List ℕ) (w : wellFormed b ≡ true) (bytes : (i : ℕ) → at b 
       (λ t.
       let e : length b ≡ 220 = eqb-true (length b) 220 (rw t at (length-of b w)) in
       last-new (length b) (stateOf b) e
-      ∙ rw (number-in (at b 219) (said .table-219))
+      ∙ rw (number-in (at b 219) (said b w .table-219))
       (sym (one-left (drop 219 b) (simp length-drop (omega arith)) ∙ rw (getD-drop 219 b 0 0))))
 
   -- encode after decode

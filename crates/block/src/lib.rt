@@ -80,7 +80,7 @@ fn latch_from(flag: u8, byte: u8) -> Latch
 }
 
 // The second byte of the mark, by the length.
-fn mark_of(len: usize) -> u8
+pub fn mark_of(len: usize) -> u8
     ensures { λ r. ⌜ r ≡ markOf len ⌝ }
 {
     if len == OLD_SIZE { 0x53 } else { 0x54 }

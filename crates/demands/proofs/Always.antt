@@ -2,12 +2,12 @@
 -- Assumes nothing.
 use mathlib.Core.Path.{_≡_, subst}
 use mathlib.Core.Logic.{_≢_}
-use mathlib.Core.Bool.{Bool, true, false, not, _&&_}
+use mathlib.Core.Bool.{Bool, true, false, not, _&&_, _||_}
 use mathlib.Core.List.{List, [], _∷_}
 use Prim.Native.Nat.{ℕ, _≤_, _<_}
 use native.Mathlib.Omega.{arith}
 use lib.Dec.{ltb}
-use borrow.Author.Tests.{ltb-false, not-true}
+use borrow.Author.Tests.{ltb-true, ltb-false, not-true}
 use Rattle.laws.proofs.Tests.{either, both}
 use Rattle.picture.specs.declared.RenderArea.{RenderArea}
 use Rattle.raster.specs.declared.LineTable.{LineTable}
@@ -22,7 +22,10 @@ use Rattle.step.specs.Step.{rowLines, frameLines, stepWith}
 use Rattle.step.specs.Dump.{dumpLines}
 use Rattle.step.proofs.Laws.{step-exact, dump-exact}
 use Rattle.demands.specs.Pass.{Call, out, input, step-frame, step-row, dump-tiles, refusalOf, History, deviceAfter}
-use Rattle.demands.specs.Always.{Always}
+use Rattle.block.specs.Block.{wellFormed, stateOf}
+use Rattle.salvage.specs.Repair.{matching, mended}
+use Rattle.salvage.proofs.Salvaged.{sound as mended-sound}
+use Rattle.demands.specs.Always.{Always, RepairedAnswers}
 use Rattle.demands.proofs.Counter.{Within}
 use Rattle.demands.proofs.Sound.{sound}
 
@@ -87,3 +90,9 @@ always t h =
       in-memory = s .aimed;
       no-seven = λ c. not-seven c d (s .aimed);
     }
+
+pub repaired-answers : RepairedAnswers
+repaired-answers b s c =
+    let d = stateOf (mended b) in
+    let w = both (wellFormed (mended b) && ltb (d .addr) (size (d .dest))) (d .«cram_dirty» || matching (mended b)) (mended-sound b s) in
+    not-seven c d (ltb-true (d .addr) (size (d .dest)) (both (wellFormed (mended b)) (ltb (d .addr) (size (d .dest))) (w .0) .1))

@@ -75,6 +75,7 @@ use Rattle.tiles.proofs.sheet
 use Rattle.block.proofs.well_formed
 use Rattle.block.proofs.decode
 use Rattle.block.proofs.encode
+use Rattle.block.proofs.mark_of
 use Rattle.block.proofs.has_room
 use Rattle.block.proofs.colour_at
 use Rattle.block.proofs.registers
@@ -83,7 +84,9 @@ use Rattle.block.proofs.palette_in
 use Rattle.block.proofs.cache_in
 use Rattle.block.proofs.store_raster
 use Rattle.block.proofs.store_cache
+use Rattle.salvage.proofs.repair
 use Rattle.face.proofs.vdp_new
+use Rattle.face.proofs.vdp_repair
 use Rattle.face.proofs.vdp_new_table
 use Rattle.face.proofs.vdp_out
 use Rattle.face.proofs.vdp_input
@@ -169,6 +172,7 @@ mark-once κs a q z z′ w w′ e f = (e ∙ sym f, refl)
 
 pub pixel-code-once : OneOutcome 1 pixel_code.Kinds.ps pixel_code.Kinds.r pixel_code.Reads.Asked pixel_code.Reads.Learnt
 pixel-code-once κs a q z z′ w w′ e f = (e .0 ∙ sym (f .0), refl)
+
 pub pixel-set-full-once : OneOutcome 1 pixel_set_full.Kinds.ps pixel_set_full.Kinds.r pixel_set_full.Reads.Asked pixel_set_full.Reads.Learnt
 pixel-set-full-once κs a q z z′ w w′ e f = (refl, λ i. ((e ∙ sym f) i, w .1))
 
@@ -380,6 +384,9 @@ well-formed-once κs a q z z′ w w′ e f = (e ∙ sym f, refl)
 pub decode-once : OneOutcome 1 decode.Kinds.ps decode.Kinds.r decode.Reads.Asked decode.Reads.Learnt
 decode-once κs a q z z′ w w′ e f = (e ∙ sym f, refl)
 
+pub mark-of-once : OneOutcome 0 mark_of.Kinds.ps mark_of.Kinds.r mark_of.Reads.Asked mark_of.Reads.Learnt
+mark-of-once κs a q z z′ w w′ e f = (e ∙ sym f, refl)
+
 pub has-room-once : OneOutcome 0 has_room.Kinds.ps has_room.Kinds.r has_room.Reads.Asked has_room.Reads.Learnt
 has-room-once κs a q z z′ w w′ e f = (e ∙ sym f, refl)
 
@@ -407,7 +414,17 @@ store-raster-once κs a q z z′ w w′ e f = (refl, λ i. ((e ∙ sym f) i, w .
 pub store-cache-once : OneOutcome 2 store_cache.Kinds.ps store_cache.Kinds.r store_cache.Reads.Asked store_cache.Reads.Learnt
 store-cache-once κs a q z z′ w w′ e f = (refl, λ i. ((e ∙ sym f) i, w .1))
 
+-- ---- salvage
+pub repair-once : OneOutcome 2 repair.Kinds.ps repair.Kinds.r repair.Reads.Asked repair.Reads.Learnt
+repair-once κs a q z z′ w w′ e f = (
+  λ i. record { refusal = (e .0 .refusal ∙ sym (f .0 .refusal)) i; count = (e .0 .count ∙ sym (f .0 .count)) i },
+  λ i. ((e .0 .block ∙ sym (f .0 .block)) i, ((e .0 .list ∙ sym (f .0 .list)) i, tt)),
+)
+
 -- ---- face
+pub vdp-repair-once : OneOutcome 2 vdp_repair.Kinds.ps vdp_repair.Kinds.r vdp_repair.Reads.Asked vdp_repair.Reads.Learnt
+vdp-repair-once κs a q z z′ w w′ e f = (e .word ∙ sym (f .word), λ i. ((e .block ∙ sym (f .block)) i, ((e .lent ∙ sym (f .lent)) i, tt)))
+
 pub vdp-new-table-once : OneOutcome 1 vdp_new_table.Kinds.ps vdp_new_table.Kinds.r vdp_new_table.Reads.Asked vdp_new_table.Reads.Learnt
 vdp-new-table-once κs a q z z′ w w′ e f = (e .word ∙ sym (f .word), λ i. ((e .block ∙ sym (f .block)) i, w .1))
 

@@ -3,11 +3,15 @@
 use mathlib.Core.Path.{_≡_}
 use mathlib.Core.Logic.{_≢_}
 use mathlib.Core.Bool.{true, false}
-use Prim.Native.Nat.{_≤_, _<_}
+use mathlib.Core.List.{List}
+use Prim.Native.Nat.{ℕ, _≤_, _<_}
+use lib.ListN.{length}
 use Rattle.colour.specs.Colour.{coloursOf}
 use Rattle.raster.specs.Raster.{jumpLine, jumpTo}
 use Rattle.vdp.specs.declared.VdpState.{VdpState}
 use Rattle.vdp.specs.Refusals.{refusalNumber, size}
+use Rattle.block.specs.Block.{sized, stateOf}
+use Rattle.salvage.specs.Repair.{mended}
 use Rattle.demands.specs.Pass.{Call, after, refusalOf}
 
 -- R4.8: no call of any kind, refused or not, changes the table of any device
@@ -23,3 +27,7 @@ pub record Always (d : VdpState) : Type 0 where
   -- the address lies in its memory, and no call is refused by 7
   pub in-memory : d .addr < size (d .dest)
   pub no-seven : (c : Call) → refusalNumber (refusalOf c d) ≢ 7
+
+-- R17.6: on its next call, whatever it is, a block that was repaired is not refused by 7
+abbrev pub RepairedAnswers : Type 0
+RepairedAnswers = (b : List ℕ) → sized (length b) ≡ true → (c : Call) → refusalNumber (refusalOf c (stateOf (mended b))) ≢ 7

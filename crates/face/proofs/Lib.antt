@@ -7,3 +7,4 @@ pub mod Shapes
 pub mod Blocks
 pub mod Tiles
 pub mod Kept
+pub mod Repairs

@@ -6,3 +6,4 @@ pub mod Tiles
 pub mod Kept
 pub mod Layers
 pub mod Pixel
+pub mod Repair

@@ -13,6 +13,7 @@ ghost use Rattle.step.specs.Points.{cleaned, joined};
 ghost use Rattle.face.specs.Tiles.{writeTileCall, readTileCall};
 ghost use Rattle.face.specs.Face.{rowBits, stepWord, newTableCall, newCall, outCall, inputCall, stepCall, rowStepCall, dumpCall, Leaves};
 ghost use Rattle.face.specs.Layers.{LayerRowLeaves, LayerFrameLeaves};
+ghost use Rattle.face.specs.Repair.{repairCall};
 ghost use Rattle.face.specs.Version.{version};
 ghost use Rattle.face.specs.Pixel.{pixelBits, pixelCall};
 use step::DisplayRefresh;
@@ -286,7 +287,7 @@ pub extern "C" fn vdp_dump_tileset(state: &[u8], vram: &[u8], pixels: &mut [u8])
 pub extern "C" fn vdp_version() -> u32
     ensures { λ r. ⌜ r ≡ version ⌝ }
 {
-    262656
+    262912
 }
 
 // The tile of these 64 codes into video memory; no device is asked.
@@ -359,4 +360,14 @@ pub extern "C" fn vdp_pixel(state: &[u8], vram: &[u8], area: u8, row: u32, colum
     );
     let refusal = spot.refusal;
     long(number(refusal)) + pixel_bits(state, spot.there, spot.colour)
+}
+
+// A damaged block mended, and the changed offsets at the start of the list.
+#[no_mangle]
+pub extern "C" fn vdp_repair(state: &mut [u8], list: &mut [u8]) -> u32
+    ensures { λ r. ⌜ Leaves (repairCall (now (state .entry)) (now (list .entry))) r (now (state .exit)) (now (list .exit)) ⌝ }
+{
+    let repaired = salvage::repair(state, list);
+    let refusal = repaired.refusal;
+    number(refusal) + 256 * (repaired.count as u32)
 }

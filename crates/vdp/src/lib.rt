@@ -54,6 +54,7 @@ pub enum Refusal {
     CodesLength,
     HighCode,
     LayerLength,
+    ListLength,
 }
 
 // The number of a refusal (R2.1).
@@ -79,6 +80,7 @@ pub fn refusal_number(refusal: Refusal) -> u8
         Refusal::CodesLength => 14,
         Refusal::HighCode => 15,
         Refusal::LayerLength => 16,
+        Refusal::ListLength => 17,
     }
 }
 

@@ -73,6 +73,9 @@ enum-told-16 c = search needs
 enum-told-17 : tie.Need-enum-told-17
 enum-told-17 c = search needs
 
+enum-told-18 : tie.Need-enum-told-18
+enum-told-18 c = search needs
+
 -- src/lib.rt:59:1
 returns : tie.Need-returns
 returns c = (rw (c .enum-told .given .1), omega arith)
@@ -141,6 +144,9 @@ returns-16 c = (rw (c .enum-told16 .given .1), omega arith)
 returns-17 : tie.Need-returns-17
 returns-17 c = (rw (c .enum-told17 .given .1), omega arith)
 
+returns-18 : tie.Need-returns-18
+returns-18 c = (rw (c .enum-told18 .given .1), omega arith)
+
 pub refusal-number-spec : {M : Type 1} → statement M
 refusal-number-spec =
     tie.close
@@ -162,6 +168,7 @@ refusal-number-spec =
     enum-told-15
     enum-told-16
     enum-told-17
+    enum-told-18
     returns
     returns-2
     returns-3
@@ -178,4 +185,5 @@ refusal-number-spec =
     returns-14
     returns-15
     returns-16
-    returns-17)
+    returns-17
+    returns-18)

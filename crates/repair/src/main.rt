@@ -1,0 +1,84 @@
+// Mends a damaged state block, or says `bad`; each byte that changes is told on standard error.
+use libc::STDERR_FILENO;
+use vdp::Refusal;
+
+// What stands at an offset of a block that a repair may change; answers as write_all does.
+fn tell_field(at: usize) -> bool {
+    match at {
+        0 => io::write_all(STDERR_FILENO, b"mark"),
+        1 => io::write_all(STDERR_FILENO, b"mark"),
+        15 => io::write_all(STDERR_FILENO, b"jump flag"),
+        17 => io::write_all(STDERR_FILENO, b"address (low byte)"),
+        18 => io::write_all(STDERR_FILENO, b"address (high byte)"),
+        20 => io::write_all(STDERR_FILENO, b"chosen memory"),
+        21 => io::write_all(STDERR_FILENO, b"command latch (flag)"),
+        22 => io::write_all(STDERR_FILENO, b"command latch (byte)"),
+        23 => io::write_all(STDERR_FILENO, b"palette latch (flag)"),
+        24 => io::write_all(STDERR_FILENO, b"palette latch (byte)"),
+        26 => io::write_all(STDERR_FILENO, b"dirty flag"),
+        219 => io::write_all(STDERR_FILENO, b"table"),
+        _ => io::write_all(STDERR_FILENO, b"other"),
+    }
+}
+
+// One byte that has changed, on a line: its offset in decimal, then what stands there, and the byte before and after in hexadecimal.
+fn tell_change(at: usize, old: u8, new: u8) {
+    io::write_all(STDERR_FILENO, b"repair: byte ");
+    io::print_decimal(STDERR_FILENO, at as u64);
+    io::write_all(STDERR_FILENO, b", ");
+    tell_field(at);
+    io::write_all(STDERR_FILENO, b": ");
+    io::print_hex(STDERR_FILENO, old as u64, 2);
+    io::write_all(STDERR_FILENO, b" -> ");
+    io::print_hex(STDERR_FILENO, new as u64, 2);
+    io::write_all(STDERR_FILENO, b"\n");
+}
+
+// Each offset at which the two differ, in rising order: those of a repair's list.
+fn tell_changes(old: &[u8], new: &[u8]) {
+    let mut i = 0;
+    while i < old.len() {
+        if i < new.len() {
+            if old[i] != new[i] {
+                tell_change(i, old[i], new[i]);
+            }
+        }
+        i += 1;
+    }
+}
+
+// Writes the block mended, and tells what has changed since it was `old`.
+fn mend(old: &[u8], block: &mut [u8]) {
+    let mut list = [0u8; 220];
+    let done = salvage::repair(block, &mut list);
+    let refusal = done.refusal;
+    match refusal {
+        Refusal::Accepted => {
+            program::output(b"repair", block);
+            tell_changes(old, block);
+        }
+        _ => {
+            program::output(b"repair", b"bad\n");
+        }
+    }
+}
+
+fn main() {
+    // Room for the longest block and one byte more: where that is filled, there is too much, and nothing that follows could change it.
+    let mut block = [0u8; 221];
+    let taken = program::input(
+        b"repair",
+        b"usage: repair [FILE]\n\
+            Reads a state block of 219 or 220 bytes from FILE, or from standard input, and writes it mended (docs/SAVES.md).\n\
+            Each byte that has changed is told on standard error, in a line; of a block with nothing wrong, nothing is.\n\
+            For an input of any other length it writes the line 'bad' and nothing more.\n\
+            The exit status is always 0: what cannot be read or written is told on standard error.\n",
+        &mut block,
+    );
+    if !taken.ready {
+        return;
+    }
+    let n = taken.len;
+    let old = block;
+    mend(&old[..n], &mut block[..n]);
+}

@@ -1,0 +1,3 @@
+-- The laws of salvage.
+pub mod Laws
+pub mod Salvaged

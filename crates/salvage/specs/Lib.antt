@@ -1,0 +1,3 @@
+-- What the contract of `salvage` cites, and what is shown of it.
+pub mod Repair
+pub mod Salvaged
