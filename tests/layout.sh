@@ -1,7 +1,7 @@
 #!/usr/bin/env bash
 # layout.sh: what no proof says of the sources: their layout, that every definition file tells what it assumes, that the rules which are cited are those
-# of docs/RULES.md and no others, that every public function has its theorem of one outcome or stands among the exceptions, and that every edit which must fail was tried, and refused
-# for a fact.
+# of docs/RULES.md and no others, that every public function has its theorem of one outcome or stands among the exceptions, that docs/CONTRACTS.md tells of every edit which must fail,
+# and that each of them was tried, and refused for a fact.
 set -u
 cd "$(dirname "$0")/.."
 . tools/tell.sh
@@ -56,6 +56,16 @@ done
 [ -z "$bare" ] || printf 'no theorem of one outcome:%s\n' "$bare"
 [ -z "$bare" ]
 tell "every public function has its theorem of one outcome, or is an exception of docs/CONTRACTS.md" $?
+
+# docs/CONTRACTS.md names each edit as CRATE/`NAME`, and no other.
+told=$(grep -oE '[a-z_0-9]+/`[a-z_0-9]+`' docs/CONTRACTS.md | tr -d '`' | sort -u)
+there=$(for edit in crates/*/must-fail/*.edit; do
+    crate=${edit#crates/}
+    echo "${crate%%/*}/$(basename "$edit" .edit)"
+done | sort -u)
+[ "$told" = "$there" ] || diff <(printf '%s\n' "$told") <(printf '%s\n' "$there")
+[ -n "$there" ] && [ "$told" = "$there" ]
+tell "docs/CONTRACTS.md tells of every edit that must fail, and of no other" $?
 
 # Every edit was tried, and is refused for a fact: one that only makes a proof unfit for the code shows nothing of the contract.
 # (The suite `proofs` leaves a log for each.)
