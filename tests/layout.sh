@@ -1,7 +1,7 @@
 #!/usr/bin/env bash
 # layout.sh: what no proof says of the sources: their layout, that every definition file tells what it assumes, that the rules which are cited are those
-# of docs/RULES.md and no others, that every public function has its theorem of one outcome or stands among the exceptions, that docs/CONTRACTS.md tells of every edit which must fail,
-# and that each of them was tried, and refused for a fact.
+# of docs/RULES.md and no others, that every public function has its theorem of one outcome or stands among the exceptions, that the theorem on refusal 7 speaks of every call there is,
+# that docs/CONTRACTS.md tells of every edit which must fail, and that each of them was tried, and refused for a fact.
 set -u
 cd "$(dirname "$0")/.."
 . tools/tell.sh
@@ -56,6 +56,33 @@ done
 [ -z "$bare" ] || printf 'no theorem of one outcome:%s\n' "$bare"
 [ -z "$bare" ]
 tell "every public function has its theorem of one outcome, or is an exception of docs/CONTRACTS.md" $?
+
+# The calls that refusal 7 is shown never to come from: the constructors of `Call` and `FaceCall`, each with the name of its function.
+# constructors FILE TYPE: those of a data type, as the code writes them. named FILE WORDS: the names behind `-- WORDS: `, up to the full stop.
+constructors() { awk -v type="$2" '/^[^ ]/ { on = $0 ~ "^pub data " type " " } on && /^  [a-z]/ { print $1 }' "$1" | tr - _; }
+named() { sed -nE "s/^-- $2: ([a-z0-9_, ]+)\..*/\1/p" "$1" | tr -d ' ' | tr , '\n'; }
+pass=crates/demands/specs/Pass.antt seven=crates/demands/specs/Seven.antt
+public=$(for crate in vdp step tiles; do
+    sed -nE 's/^ *pub fn ([a-z0-9_]+).*/\1/p; s/^pub use [a-z_]+::([a-z0-9_]+);/\1/p' crates/$crate/src/lib.rt
+done | sort)
+calls=$(constructors $pass Call)
+[ -n "$calls" ] && diff <(printf '%s\n' "$public") <({ printf '%s\n' "$calls"; named $pass 'No calls of [a-z]+'; } | sort)
+tell "the theorem on refusal 7 speaks of every call of a device, and what else is public is named there" $?
+
+# The calls of the face, each with a 1 where it takes a state.
+face=$(awk '/^pub extern "C" fn/ { name = $5; sub(/[(].*/, "", name); on = 1; takes = 0 } on && /state:/ { takes = 1 } on && /-> / { print name, takes; on = 0 }' crates/face/src/lib.rt)
+calls=$(constructors $seven FaceCall)
+status=0
+[ "$(printf '%s\n' "$face" | wc -l)" -eq "$(grep -c '^pub extern "C" fn' crates/face/src/lib.rt)" ] || status=1
+for f in $(printf '%s\n' "$face" | sed -n 's/ 1$//p'); do
+    printf '%s\n' "$calls" | grep -qx "$f" || { echo "not in the theorem: $f"; status=1; }
+done
+for f in $calls; do
+    printf '%s\n' "$face" | grep -q "^$f " || { echo "no call of the face: $f"; status=1; }
+done
+diff <(printf '%s\n' "$face" | sed -n 's/ 0$//p' | sort) <(named $seven 'Take no state' | sort) || status=1
+[ -n "$calls" ] || status=1
+tell "and of every call of the C face that takes a state, and those that take none are named there" $status
 
 # docs/CONTRACTS.md names each edit as CRATE/`NAME`, and no other.
 told=$(grep -oE '[a-z_0-9]+/`[a-z_0-9]+`' docs/CONTRACTS.md | tr -d '`' | sort -u)

@@ -1,6 +1,6 @@
 -- What always holds, proved from what each call keeps.
 -- Assumes nothing.
-use mathlib.Core.Path.{_≡_, subst}
+use mathlib.Core.Path.{_≡_, refl, subst}
 use mathlib.Core.Logic.{_≢_}
 use mathlib.Core.Bool.{Bool, true, false, not, _&&_, _||_}
 use mathlib.Core.List.{List, [], _∷_}
@@ -10,6 +10,7 @@ use lib.Dec.{ltb}
 use borrow.Author.Tests.{ltb-true, ltb-false, not-true}
 use Rattle.laws.proofs.Tests.{either, both}
 use Rattle.picture.specs.declared.RenderArea.{RenderArea}
+use Rattle.picture.specs.Area.{columns}
 use Rattle.raster.specs.declared.LineTable.{LineTable}
 use Rattle.raster.specs.Raster.{jumpLine, jumpTo}
 use Rattle.vdp.specs.declared.VdpState.{VdpState}
@@ -20,8 +21,13 @@ use Rattle.vdp.proofs.Exact.{write-exact, read-exact}
 use Rattle.vdp.proofs.Invariant.{Aimed}
 use Rattle.step.specs.Step.{rowLines, frameLines, stepWith}
 use Rattle.step.specs.Dump.{dumpLines}
+use Rattle.step.specs.Layers.{alsoLayers}
 use Rattle.step.proofs.Laws.{step-exact, dump-exact}
-use Rattle.demands.specs.Pass.{Call, out, input, step-frame, step-row, dump-tiles, refusalOf, History, deviceAfter}
+use Rattle.step.proofs.Pixels.{pixel-exact}
+use Rattle.pixel.specs.Pixel.{pixelLines}
+use Rattle.tiles.specs.Calls.{readTileLines, writeTileLines, readTileRefusal, writeTileRefusal}
+use Rattle.face.proofs.Exact.{none, never}
+use Rattle.demands.specs.Pass.{Call, out, input, frame-step, row-step, layer-frame-step, layer-row-step, dump-tileset, pixel-at, write-tile, read-tile, refusalOf, History, deviceAfter}
 use Rattle.block.specs.Block.{wellFormed, stateOf}
 use Rattle.salvage.specs.Repair.{matching, mended}
 use Rattle.salvage.proofs.Salvaged.{sound as mended-sound}
@@ -60,17 +66,25 @@ module _ (d : VdpState) (m : List ℕ) (p : ℕ) (aimed : Aimed d) where
       (first-not (readLines d m p)
       (λ _. omega arith, (λ _. omega arith, (λ _. omega arith, (λ _. omega arith, (λ _. omega arith, (λ e. absurd (inside (isPort 0xBE p) e), tt)))))))
 
-step-not : (ls : List Line) (a : RenderArea) (vram : List ℕ) (d : VdpState) → Silent ls → NotSeven (stepWith ls a vram d .refusal)
-step-not ls a vram d s = rw (step-exact ls a vram d) (first-not ls s)
+-- a table that has no line of 7
+without : (ls : List Line) → none 7 ls ≡ true → NotSeven (first ls)
+without ls h = never 7 ls (λ z. omega arith) h
+
+step-not : (ls : List Line) (a : RenderArea) (vram : List ℕ) (d : VdpState) → none 7 ls ≡ true → NotSeven (stepWith ls a vram d .refusal)
+step-not ls a vram d h = rw (step-exact ls a vram d) (without ls h)
 
 not-seven : (c : Call) (d : VdpState) → Aimed d → NotSeven (refusalOf c d)
-unfolding refusalOf
+unfolding refusalOf readTileRefusal writeTileRefusal
 not-seven (out p v m) d h = write-not d m p h v
 not-seven (input p m) d h = read-not d m p h
-not-seven (step-frame a vram n) d h = step-not (frameLines a vram n) a vram d (λ _. omega arith, (λ _. omega arith, (λ _. omega arith, tt)))
-not-seven (step-row a vram n) d h = step-not (rowLines a vram n) a vram d (λ _. omega arith, (λ _. omega arith, tt))
-not-seven (dump-tiles vram n) d h =
-    rw (dump-exact vram n) (first-not (dumpLines vram n) (λ _. omega arith, (λ _. omega arith, tt)))
+not-seven (frame-step a vram n) d h = step-not (frameLines a vram n) a vram d refl
+not-seven (row-step a vram n) d h = step-not (rowLines a vram n) a vram d refl
+not-seven (layer-frame-step a vram n l) d h = step-not (alsoLayers (columns a) l (frameLines a vram n)) a vram d refl
+not-seven (layer-row-step a vram n l) d h = step-not (alsoLayers (columns a) l (rowLines a vram n)) a vram d refl
+not-seven (dump-tileset vram n) d h = rw (dump-exact vram n) (without (dumpLines vram n) refl)
+not-seven (pixel-at a vram y x) d h = rw (pixel-exact a vram d y x) (without (pixelLines vram) refl)
+not-seven (write-tile vram n codes) d h = without (writeTileLines vram n codes) refl
+not-seven (read-tile vram n k) d h = without (readTileLines vram n k) refl
 
 early : (J T : ℕ) (b : Bool) (c : ℕ) → Within J T b c → b ≡ false → c < J
 early J T b c w e = subst (λ (x : Bool). Within J T x c) e w

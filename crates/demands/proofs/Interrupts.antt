@@ -2,24 +2,26 @@
 -- Assumes nothing.
 use mathlib.Core.Path.{_≡_, refl, sym, _∙_, ap, subst}
 use mathlib.Core.Logic.{_↔_}
-use mathlib.Core.List.{List}
+use mathlib.Core.List.{List, [], _∷_}
 use Prim.Native.Nat.{ℕ, zero, suc, _+_, _≤_, _<_, _∣_}
 use native.Mathlib.Nat.{add-zero, dvd-refl, dvd-add-iff-left}
 use native.Mathlib.Omega.{arith}
 use Rattle.picture.specs.declared.RenderArea.{RenderArea}
+use Rattle.picture.specs.Area.{columns}
 use Rattle.raster.specs.declared.Raster.{Raster}
 use Rattle.raster.specs.declared.LineTable.{LineTable}
 use Rattle.raster.specs.Raster.{passLength, jumpTo, advanced, counted, ticked}
 use Rattle.raster.proofs.Tables.{jump-back, pass-is}
 use Rattle.vdp.specs.declared.VdpState.{VdpState}
-use Rattle.vdp.specs.declared.Refusal.the-variants.{Accepted}
+use Rattle.vdp.specs.declared.Refusal.the-variants.{Accepted, LayerLength}
 use Rattle.vdp.specs.Device.{made}
 use Rattle.vdp.specs.Refusals.{Line}
-use Rattle.vdp.proofs.Tables.{Refusing}
+use Rattle.vdp.proofs.Tables.{Refusing, refuses}
 use Rattle.step.specs.declared.Stepped.{Stepped}
 use Rattle.step.specs.Step.{register, lineOf, stepped, rowLines, frameLines, stepWith}
+use Rattle.step.specs.Layers.{alsoLayers}
 use Rattle.step.proofs.Laws.{row-refusing, frame-refusing, stepped-raster}
-use Rattle.demands.specs.Pass.{Call, out, input, step-frame, step-row, dump-tiles, Steps, LineInterruptsEvery, InterruptsWhen}
+use Rattle.demands.specs.Pass.{Call, out, input, frame-step, row-step, layer-frame-step, layer-row-step, dump-tileset, pixel-at, write-tile, read-tile, Steps, LineInterruptsEvery, InterruptsWhen}
 use Rattle.demands.specs.Interrupts.{AllSo, here, call, step, FromLine0, FirstPass}
 use Rattle.demands.proofs.Lines.{same-table, Due, Takes, due-first, takes-0, takes-next, sets, leaves, comes, comes-late}
 use Rattle.demands.proofs.Steps.{line-alone, is-stepped}
@@ -36,12 +38,24 @@ accepted :
 accepted ls a vram d s q e ok =
     record { area = a; vram = vram; is = e ∙ is-stepped ls a vram d q (sym (ap (λ (x : Stepped). x .refusal) e) ∙ ok) }
 
+-- the line of the layers refuses too
+also-refusing : (least size : ℕ) (ls : List Line) → Refusing ls → Refusing (alsoLayers least size ls)
+also-refusing least size [] q = (refuses LayerLength (λ z. omega arith), tt)
+also-refusing least size (l ∷ ls) q = (q .0, also-refusing least size ls (q .1))
+
 is-step : (c : Call) (d : VdpState) (s : Stepped) → Steps c d s → Is d s
 is-step (out p v m) d s e = absurd e
 is-step (input p m) d s e = absurd e
-is-step (step-frame a vram n) d s e = accepted (frameLines a vram n) a vram d s (frame-refusing a vram n) (e .0) (e .1)
-is-step (step-row a vram n) d s e = accepted (rowLines a vram n) a vram d s (row-refusing a vram n) (e .0) (e .1)
-is-step (dump-tiles vram n) d s e = absurd e
+is-step (frame-step a vram n) d s e = accepted (frameLines a vram n) a vram d s (frame-refusing a vram n) (e .0) (e .1)
+is-step (row-step a vram n) d s e = accepted (rowLines a vram n) a vram d s (row-refusing a vram n) (e .0) (e .1)
+is-step (layer-frame-step a vram n l) d s e =
+    accepted (alsoLayers (columns a) l (frameLines a vram n)) a vram d s (also-refusing (columns a) l (frameLines a vram n) (frame-refusing a vram n)) (e .0) (e .1)
+is-step (layer-row-step a vram n l) d s e =
+    accepted (alsoLayers (columns a) l (rowLines a vram n)) a vram d s (also-refusing (columns a) l (rowLines a vram n) (row-refusing a vram n)) (e .0) (e .1)
+is-step (dump-tileset vram n) d s e = absurd e
+is-step (pixel-at a vram y x) d s e = absurd e
+is-step (write-tile vram n codes) d s e = absurd e
+is-step (read-tile vram n k) d s e = absurd e
 
 raster-by : (d : VdpState) (s : Stepped) → Is d s → s .vdp .raster ≡ ticked (register d) (d .raster)
 raster-by d s i = ap (λ (x : Stepped). x .vdp .raster) (i .is) ∙ stepped-raster (i .area) (i .vram) d

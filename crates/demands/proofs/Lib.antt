@@ -6,6 +6,7 @@ pub mod Sound
 pub mod Interrupts
 pub mod Demand3
 pub mod Always
+pub mod Seven
 pub mod Split
 pub mod Author
 pub mod Layers

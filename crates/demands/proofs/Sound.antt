@@ -9,6 +9,7 @@ use lib.Dec.{eqb}
 use borrow.Author.Tests.{eqb-true, ne-eqb}
 use Rattle.laws.proofs.Tests.{split, clash}
 use Rattle.picture.specs.declared.RenderArea.{RenderArea}
+use Rattle.picture.specs.Area.{columns}
 use Rattle.raster.specs.declared.Raster.{Raster}
 use Rattle.raster.specs.declared.LineTable.{LineTable}
 use Rattle.raster.specs.Raster.{up, jumps, starts, jumpLine, advanced, counted, ticked}
@@ -19,7 +20,8 @@ use Rattle.vdp.proofs.Tables.{under-either}
 use Rattle.vdp.proofs.Invariant.{Aimed, write-aimed, read-aimed}
 use Rattle.step.specs.declared.Stepped.{Stepped}
 use Rattle.step.specs.Step.{register, lineOf, stepped, refusedStep, rowLines, frameLines, stepWith, rowStep, frameStep}
-use Rattle.demands.specs.Pass.{Call, out, input, step-frame, step-row, dump-tiles, History, after, deviceAfter, becomesZero, latched, NoStepOn, Between, then}
+use Rattle.step.specs.Layers.{alsoLayers}
+use Rattle.demands.specs.Pass.{Call, out, input, frame-step, row-step, layer-frame-step, layer-row-step, dump-tileset, pixel-at, write-tile, read-tile, layerFrameStep, layerRowStep, History, after, deviceAfter, becomesZero, latched, NoStepOn, Between, then}
 use Rattle.demands.specs.Always.{TableKept}
 use Rattle.demands.proofs.Counter.{InPass, tick, line}
 use Rattle.demands.proofs.Lines.{starts-at, same-table}
@@ -42,15 +44,16 @@ record Left (d d′ : VdpState) : Type 0 where
   clean : Clean d → Clean d′
   aimed : Aimed d → Aimed d′
 
+-- what only reads the device leaves it
+unmoved : (d : VdpState) → Left d d
+unmoved d = record { moved = stays refl; clean = λ k. k; aimed = λ k. k }
+
 step-left : (ls : List Line) (a : RenderArea) (vram : List ℕ) (d : VdpState) → Left d (stepWith ls a vram d .vdp)
 unfolding stepWith
-step-left ls a vram d = under-either LeftBy ls (λ r. refusedStep r d) (stepped a vram d) (λ _. none) (λ _. took)
+step-left ls a vram d = under-either LeftBy ls (λ r. refusedStep r d) (stepped a vram d) (λ _. unmoved d) (λ _. took)
   where
     LeftBy : Stepped → Type 0
     LeftBy s = Left d (s .vdp)
-
-    none : Left d d
-    none = record { moved = stays refl; clean = λ k. k; aimed = λ k. k }
 
     took : Left d (stepped a vram d .vdp)
     took =
@@ -68,9 +71,14 @@ left (out p v m) d =
 left (input p m) d =
     let k = read-keeps d m p in
     record { moved = stays (k .raster); clean = k .clean; aimed = read-aimed d m p }
-left (step-frame a vram n) d = step-left (frameLines a vram n) a vram d
-left (step-row a vram n) d = step-left (rowLines a vram n) a vram d
-left (dump-tiles vram n) d = record { moved = stays refl; clean = λ k. k; aimed = λ k. k }
+left (frame-step a vram n) d = step-left (frameLines a vram n) a vram d
+left (row-step a vram n) d = step-left (rowLines a vram n) a vram d
+left (layer-frame-step a vram n l) d = step-left (alsoLayers (columns a) l (frameLines a vram n)) a vram d
+left (layer-row-step a vram n l) d = step-left (alsoLayers (columns a) l (rowLines a vram n)) a vram d
+left (dump-tileset vram n) d = unmoved d
+left (pixel-at a vram y x) d = unmoved d
+left (write-tile vram n codes) d = unmoved d
+left (read-tile vram n k) d = unmoved d
 
 moved-within : {g : ℕ → ℕ} {x x′ : Raster} → Moved g x x′ → InPass x → InPass x′
 unfolding ticked counted advanced
@@ -132,9 +140,16 @@ pub quiet : (c : Call) (d : VdpState) → NoStepOn d c → after c d .raster ≡
 unfolding after
 quiet (out p v m) d n = write-keeps d m p v .raster
 quiet (input p m) d n = read-keeps d m p .raster
-quiet (step-frame a vram k) d n = refused-raster (frameLines a vram k) a vram d (λ e. n (frameStep a vram k d) (refl, e))
-quiet (step-row a vram k) d n = refused-raster (rowLines a vram k) a vram d (λ e. n (rowStep a vram k d) (refl, e))
-quiet (dump-tiles vram k) d n = refl
+quiet (frame-step a vram k) d n = refused-raster (frameLines a vram k) a vram d (λ e. n (frameStep a vram k d) (refl, e))
+quiet (row-step a vram k) d n = refused-raster (rowLines a vram k) a vram d (λ e. n (rowStep a vram k d) (refl, e))
+quiet (layer-frame-step a vram k l) d n =
+    refused-raster (alsoLayers (columns a) l (frameLines a vram k)) a vram d (λ e. n (layerFrameStep a vram k l d) (refl, e))
+quiet (layer-row-step a vram k l) d n =
+    refused-raster (alsoLayers (columns a) l (rowLines a vram k)) a vram d (λ e. n (layerRowStep a vram k l d) (refl, e))
+quiet (dump-tileset vram k) d n = refl
+quiet (pixel-at a vram y x) d n = refl
+quiet (write-tile vram k codes) d n = refl
+quiet (read-tile vram k l) d n = refl
 
 pub then-raster : (t : LineTable) (cs : List Between) (h : History) → deviceAfter t (then cs h) .raster ≡ deviceAfter t h .raster
 unfolding then deviceAfter

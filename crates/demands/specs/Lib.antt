@@ -3,6 +3,7 @@ pub mod Pass
 pub mod Rows
 pub mod Interrupts
 pub mod Always
+pub mod Seven
 pub mod Split
 pub mod Author
 pub mod Layers

@@ -25,35 +25,65 @@ use Rattle.step.specs.declared.Stepped.{Stepped}
 use Rattle.step.specs.declared.VdpInt.the-variants.{InterruptGenerated}
 use Rattle.step.specs.declared.DisplayRefresh.the-variants.{NoDisplay}
 use Rattle.step.specs.declared.DrawnRow.the-variants.{Drawn}
-use Rattle.step.specs.Step.{register, lineOf, rowStep, frameStep}
+use Rattle.step.specs.Step.{register, lineOf, rowLines, frameLines, stepWith, rowStep, frameStep}
 use Rattle.step.specs.Frame.{frameAfter}
+use Rattle.step.specs.Layers.{alsoLayers}
 use Rattle.step.specs.Dump.{dumpRefusal}
+use Rattle.step.specs.Pixel.{pixelOf}
+use Rattle.tiles.specs.Calls.{readTileRefusal, writeTileRefusal}
 
 -- ---- calls, from a fresh device of either table on
--- A call, with the video memory lent to it; `size` is the length of the pixel buffer lent to it.
--- (Nothing is assumed of how the memory lent to one call is related to that lent to the next.)
+-- A call, with the video memory lent to it; `size` is the length of the pixel buffer lent to it (of a tile read, of the buffer for the codes), and
+-- `layers` that of the layer buffer. (Nothing is assumed of how the memory lent to one call is related to that lent to the next.)
+-- It has the name of its function. The other public functions of these crates make a device, give a number, are parts that the calls are made of, or take no
+-- device and give no refusal; the test suite `layout` holds both lists to the code:
+-- No calls of vdp: new, with_table, with_raster, with_cache, refusal_number.
+-- No calls of step: interrupt_number, report_number, row_points, layer_row_points, frame_points, layer_frame_points, row_view.
+-- No calls of tiles: sheet.
 pub data Call : Type 0 where
   out : (port value : ℕ) (vram : List ℕ) → Call
   input : (port : ℕ) (vram : List ℕ) → Call
-  step-frame : (area : RenderArea) (vram : List ℕ) (size : ℕ) → Call
-  step-row : (area : RenderArea) (vram : List ℕ) (size : ℕ) → Call
-  dump-tiles : (vram : List ℕ) (size : ℕ) → Call
+  frame-step : (area : RenderArea) (vram : List ℕ) (size : ℕ) → Call
+  row-step : (area : RenderArea) (vram : List ℕ) (size : ℕ) → Call
+  layer-frame-step : (area : RenderArea) (vram : List ℕ) (size layers : ℕ) → Call
+  layer-row-step : (area : RenderArea) (vram : List ℕ) (size layers : ℕ) → Call
+  dump-tileset : (vram : List ℕ) (size : ℕ) → Call
+  pixel-at : (area : RenderArea) (vram : List ℕ) (row column : ℕ) → Call
+  write-tile : (vram : List ℕ) (tile : ℕ) (codes : List ℕ) → Call
+  read-tile : (vram : List ℕ) (tile size : ℕ) → Call
 
--- the device that a call leaves, refused or not; a dump leaves it as it is
+-- R15.3, R15.4: the two steps with a layer buffer of so many bytes
+abbrev pub layerFrameStep : RenderArea → List ℕ → (size layers : ℕ) → VdpState → Stepped
+layerFrameStep a vram size layers d = stepWith (alsoLayers (columns a) layers (frameLines a vram size)) a vram d
+
+abbrev pub layerRowStep : RenderArea → List ℕ → (size layers : ℕ) → VdpState → Stepped
+layerRowStep a vram size layers d = stepWith (alsoLayers (columns a) layers (rowLines a vram size)) a vram d
+
+-- the device that a call leaves, refused or not; what only reads it, or takes none, leaves it as it is
 unfoldable pub after : Call → VdpState → VdpState
 after (out port value vram) d = portWrite d vram port value .answer .vdp
 after (input port vram) d = portRead d vram port .vdp
-after (step-frame a vram size) d = frameStep a vram size d .vdp
-after (step-row a vram size) d = rowStep a vram size d .vdp
-after (dump-tiles vram size) d = d
+after (frame-step a vram size) d = frameStep a vram size d .vdp
+after (row-step a vram size) d = rowStep a vram size d .vdp
+after (layer-frame-step a vram size layers) d = layerFrameStep a vram size layers d .vdp
+after (layer-row-step a vram size layers) d = layerRowStep a vram size layers d .vdp
+after (dump-tileset vram size) d = d
+after (pixel-at a vram row column) d = d
+after (write-tile vram tile codes) d = d
+after (read-tile vram tile size) d = d
 
 -- the refusal that it gives, 0 among them
 unfoldable pub refusalOf : Call → VdpState → Refusal
 refusalOf (out port value vram) d = portWrite d vram port value .answer .refusal
 refusalOf (input port vram) d = portRead d vram port .refusal
-refusalOf (step-frame a vram size) d = frameStep a vram size d .refusal
-refusalOf (step-row a vram size) d = rowStep a vram size d .refusal
-refusalOf (dump-tiles vram size) d = dumpRefusal vram size
+refusalOf (frame-step a vram size) d = frameStep a vram size d .refusal
+refusalOf (row-step a vram size) d = rowStep a vram size d .refusal
+refusalOf (layer-frame-step a vram size layers) d = layerFrameStep a vram size layers d .refusal
+refusalOf (layer-row-step a vram size layers) d = layerRowStep a vram size layers d .refusal
+refusalOf (dump-tileset vram size) d = dumpRefusal vram size
+refusalOf (pixel-at a vram row column) d = pixelOf a vram d row column .refusal
+refusalOf (write-tile vram tile codes) d = writeTileRefusal vram tile codes
+refusalOf (read-tile vram tile size) d = readTileRefusal vram tile size
 
 -- the calls made so far, the last one first, and the device after them, which was made with table t before them
 abbrev pub History : Type 0
@@ -72,19 +102,24 @@ latched t [] = 0
 latched t (c ∷ h) = cond (becomesZero (deviceAfter t h) (deviceAfter t (c ∷ h))) (register (deviceAfter t h) 9) (latched t h)
 
 -- ---- R13.3: accepted steps on one frame, one after another, with calls between them that do not write it
--- Call c on device d is an accepted step, of either kind and area, and answers s.
+-- Call c on device d is an accepted step, of either kind and area, with layers or without, and answers s.
 abbrev pub Steps : Call → VdpState → Stepped → Type 0
 Steps (out port value vram) d s = ⊥
 Steps (input port vram) d s = ⊥
-Steps (step-frame a vram size) d s = (s ≡ frameStep a vram size d) × (s .refusal ≡ Accepted)
-Steps (step-row a vram size) d s = (s ≡ rowStep a vram size d) × (s .refusal ≡ Accepted)
-Steps (dump-tiles vram size) d s = ⊥
+Steps (frame-step a vram size) d s = (s ≡ frameStep a vram size d) × (s .refusal ≡ Accepted)
+Steps (row-step a vram size) d s = (s ≡ rowStep a vram size d) × (s .refusal ≡ Accepted)
+Steps (layer-frame-step a vram size layers) d s = (s ≡ layerFrameStep a vram size layers d) × (s .refusal ≡ Accepted)
+Steps (layer-row-step a vram size layers) d s = (s ≡ layerRowStep a vram size layers d) × (s .refusal ≡ Accepted)
+Steps (dump-tileset vram size) d s = ⊥
+Steps (pixel-at a vram row column) d s = ⊥
+Steps (write-tile vram tile codes) d s = ⊥
+Steps (read-tile vram tile size) d s = ⊥
 
 -- On device d, call c is none.
 abbrev pub NoStepOn : VdpState → Call → Type 0
 NoStepOn d c = (s : Stepped) → Steps c d s → ⊥
 
--- What may be called between two steps: a port, a dump, and a step of either kind and area that is refused, whatever the device (a step's
+-- What may be called between two steps: all that is no step, and a step of any kind and area that is refused, whatever the device (a step's
 -- refusal does not depend on the device).
 abbrev pub NoStep : Call → Type 0
 NoStep c = (d : VdpState) → NoStepOn d c
@@ -119,7 +154,7 @@ then (c ∷ cs) h = then cs (c .call ∷ h)
 
 -- step i as a call, all calls until just before it, and all up to its end
 abbrev pub stepCall : {a : RenderArea} → Run a → ℕ → Call
-stepCall {a} r i = step-frame a (r .vram i) (length (r .frame))
+stepCall {a} r i = frame-step a (r .vram i) (length (r .frame))
 
 unfoldable pub until : {a : RenderArea} → Run a → ℕ → History
 until r zero = then (r .between 0) (r .before)

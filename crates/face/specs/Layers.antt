@@ -38,11 +38,21 @@ pub record LayerLeaves (lines : RenderArea → List Line) (filled : VdpState →
   pub call : Leaves (layerCall lines filled b m pixels layers n) r b′ pixels′
   pub owners : layers′ ≡ layersLeft lines b m layers n
 
--- the same of a row buffer and of a frame
+-- ---- the same of a row buffer and of a frame: their lines, and what an accepted step leaves in them
+abbrev pub rowTable : List ℕ → List ℕ → RenderArea → List Line
+rowTable m row a = rowLines a m (length row)
+
+abbrev pub rowFilled : List ℕ → List ℕ → VdpState → RenderArea → List ℕ
+rowFilled m row s a = rowWith (rowOn a (lineOf (counterUp s))) a m (counterUp s) row
+
+abbrev pub frameTable : List ℕ → List ℕ → RenderArea → List Line
+frameTable m frame a = frameLines a m (length frame)
+
+abbrev pub frameFilled : List ℕ → List ℕ → VdpState → RenderArea → List ℕ
+frameFilled m frame s a = frameWith (rowOn a (lineOf (counterUp s))) a m (counterUp s) frame
+
 abbrev pub LayerRowLeaves : List ℕ → List ℕ → List ℕ → List ℕ → ℕ → ℕ → List ℕ → List ℕ → List ℕ → Type 0
-LayerRowLeaves b m row layers n r b′ row′ layers′ =
-    LayerLeaves (λ a. rowLines a m (length row)) (λ s a. rowWith (rowOn a (lineOf (counterUp s))) a m (counterUp s) row) b m row layers n r b′ row′ layers′
+LayerRowLeaves b m row layers n r b′ row′ layers′ = LayerLeaves (rowTable m row) (rowFilled m row) b m row layers n r b′ row′ layers′
 
 abbrev pub LayerFrameLeaves : List ℕ → List ℕ → List ℕ → List ℕ → ℕ → ℕ → List ℕ → List ℕ → List ℕ → Type 0
-LayerFrameLeaves b m frame layers n r b′ frame′ layers′ =
-    LayerLeaves (λ a. frameLines a m (length frame)) (λ s a. frameWith (rowOn a (lineOf (counterUp s))) a m (counterUp s) frame) b m frame layers n r b′ frame′ layers′
+LayerFrameLeaves b m frame layers n r b′ frame′ layers′ = LayerLeaves (frameTable m frame) (frameFilled m frame) b m frame layers n r b′ frame′ layers′
