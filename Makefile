@@ -10,8 +10,10 @@ PREFIX ?= /usr/local
 PROGRAMS := trace snapshot layers trace_261 snapshot_261 sheet repair
 # A program's file has a hyphen where its crate has a line.
 BINS := $(addprefix build/bin/,$(subst _,-,$(PROGRAMS)))
+# The library that a C program for this very machine links.
+LIBRARY := $(if $(filter x86_64,$(shell uname -m)),build/libvdp.a,build/native/libvdp.a)
 
-.PHONY: all build native install test compare memcheck damaged bench bus gears setup setup-rust setup-bus prove clean help FORCE
+.PHONY: all build native install cartridge test compare memcheck damaged bench bus gears setup setup-rust setup-bus setup-cartridge prove clean help FORCE
 
 all: build ## build build/libvdp.a and the programs in build/bin, and show the trace program at work
 	@echo "build/libvdp.a (header include/vdp.h) and $(BINS) are built."
@@ -48,6 +50,9 @@ install: ## put header, libraries and a pkg-config file of `make native` under P
 	@if command -v rt > /dev/null || [ ! -e build/native/libvdp.so ]; then $(MAKE) --no-print-directory native; fi
 	@sh tools/install.sh "$(DESTDIR)$(PREFIX)"
 
+cartridge: setup-cartridge $(LIBRARY) ## build/cartridge: a player of cartridges, of the library and a Z80 core, and three cartridges (examples/cartridge)
+	@sh examples/cartridge/build.sh $(LIBRARY)
+
 test: ## all the set-up, every proof and every test; the last line is their sum
 	@bash tests/run.sh
 
@@ -82,6 +87,9 @@ setup-rust: # what this machine lacks to test, to compare and to measure
 
 setup-bus: # and to count turns of the bus
 	@sh tools/setup.sh bus
+
+setup-cartridge: # and to play cartridges
+	@sh tools/setup.sh cartridge
 
 clean: ## remove what was built
 	rm -rf build target

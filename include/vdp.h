@@ -3,7 +3,7 @@
  * The library keeps nothing of its own. The caller owns and lends
  *   - the state block: 220 bytes, or 219 of the first version: the whole device but its video memory (layout below);
  *   - the video memory: exactly 16,384 bytes;
- *   - a frame, a row or a tile sheet that a call draws into; the layers of a row; the codes of a tile.
+ *   - a frame, a row or a tile sheet that a call draws into; the layers of a row; the codes of a tile; a recording.
  * A lent buffer is a pointer and a length in bytes. The buffers of one call must not overlap, and each must be
  * readable (and writable, where it is not const) over its whole length. A buffer of length 0 may have any pointer.
  *
@@ -14,7 +14,7 @@
  *                  bits 9, 10     display report (VDP_NO_DISPLAY and so on)
  *                  bits 16 to 23  the number of the row that was drawn, 0 if none
  *                  bit 24         a row was drawn
- *   all other bits are 0.
+ *   all other bits are 0. (vdp_repair and the calls on a recording, see there, have answers of their own.)
  *
  * How long an interrupt stays up: bit 8 is the answer of that one step, and nothing is kept of it.
  *   - A line interrupt (register 0, bit 4) is told by the step that finds the line count at 0, and not again: with
@@ -41,7 +41,7 @@ extern "C" {
 /* The number of this face, 65536 * major + 256 * minor + small; vdp_version() gives that of the library at hand. Major goes
  * up where a program that was right may have to change, minor where calls are added, small where neither is so. */
 #define VDP_VERSION_MAJOR 4
-#define VDP_VERSION_MINOR 3
+#define VDP_VERSION_MINOR 4
 #define VDP_VERSION_SMALL 0
 #define VDP_VERSION (65536 * VDP_VERSION_MAJOR + 256 * VDP_VERSION_MINOR + VDP_VERSION_SMALL)
 
@@ -115,6 +115,17 @@ extern "C" {
 #define VDP_REFUSED_CODE          15 /* a code above 15: unchanged */
 #define VDP_REFUSED_LAYERS_LENGTH 16 /* layer buffer with fewer bytes than a row of the area has pixels: unchanged */
 #define VDP_REFUSED_LIST_LENGTH   17 /* list of a repair under VDP_LIST_SIZE bytes: unchanged */
+#define VDP_REFUSED_RECORD_ROOM   18 /* a record is longer than the room left in the recording: unchanged */
+
+/* What stands at an offset of a recording. */
+#define VDP_RECORD_END   0 /* nothing more */
+#define VDP_RECORD_OUT   1 /* a port write: 'P' 'W' port value */
+#define VDP_RECORD_INPUT 2 /* a port read: 'P' 'R' port */
+#define VDP_RECORD_STEP  3 /* a step: 'L' 'S' area */
+#define VDP_RECORD_BAD   4 /* none of these, or cut */
+
+/* The longest recording that the trace programs run. */
+#define VDP_LONGEST_RECORDING 65535
 
 /* Display reports of a step. */
 #define VDP_NO_DISPLAY             0
@@ -202,6 +213,22 @@ uint32_t vdp_read_tile(const uint8_t *vram, size_t vram_len, uint16_t tile, uint
  * other bytes stay. Every call accepts the result. Refusals, in this order: 10 (another length), 17. */
 uint32_t vdp_repair(uint8_t *block, size_t block_len, uint8_t *list, size_t list_len);
 
+/* Record what is asked of a device, so that the trace programs can run it again. A recording is the first `used` bytes of a buffer; the caller keeps that
+ * number, from 0 on. Each of these puts a record into the bytes from `used` on, and touches no other; the number of bytes that it wrote, 3 or 4, stands in
+ * bits 8 to 15 of the answer, and is 0 on a refusal: used += vdp_recorded(answer). No device is asked. Of a port its low byte is recorded: no other counts.
+ * Refusal: 18, where the record is longer than the room left or `used` is past the end. Of a step first 11. */
+uint32_t vdp_record_out(uint8_t *recording, size_t recording_len, size_t used, uint8_t port, uint8_t value);
+uint32_t vdp_record_input(uint8_t *recording, size_t recording_len, size_t used, uint8_t port);
+uint32_t vdp_record_step(uint8_t *recording, size_t recording_len, size_t used, uint8_t area);
+
+/* Reads a recording, one record after another: what stands at offset `at`. It is never refused, and answers
+ *   bits 0 to 7    VDP_RECORD_END and so on; an offset at or past the end is VDP_RECORD_END
+ *   bits 8 to 15   the port, or a step's area
+ *   bits 16 to 23  the value of a write
+ *   bits 24 to 31  the length of the record, by which `at` goes on to the next
+ * all other bits are 0: of a bad record all but its kind, so that a reader stops there, at the offset that the trace programs name. */
+uint32_t vdp_record_next(const uint8_t *recording, size_t recording_len, size_t at);
+
 /* The number of the library's face: VDP_VERSION of the header that belongs to it. */
 uint32_t vdp_version(void);
 
@@ -209,6 +236,7 @@ uint32_t vdp_version(void);
 static inline unsigned vdp_refusal(uint32_t answer) { return answer & 0xFF; }
 static inline uint8_t vdp_byte(uint32_t answer) { return (uint8_t)(answer >> 8); }          /* of vdp_input */
 static inline unsigned vdp_changed(uint32_t answer) { return answer >> 8 & 0xFF; }          /* of vdp_repair */
+static inline size_t vdp_recorded(uint32_t answer) { return answer >> 8 & 0xFF; }           /* of vdp_record_out, _input and _step */
 static inline int vdp_interrupt(uint32_t answer) { return (int)(answer >> 8 & 1); }         /* of a step */
 static inline unsigned vdp_report(uint32_t answer) { return answer >> 9 & 3; }              /* of a step */
 static inline unsigned vdp_row(uint32_t answer) { return answer >> 16 & 0xFF; }             /* of a step */
@@ -218,6 +246,12 @@ static inline int vdp_there(uint64_t pixel) { return (int)(pixel >> 24 & 1); }  
 static inline uint8_t vdp_red(uint64_t pixel) { return (uint8_t)(pixel >> 32); }            /* of vdp_pixel */
 static inline uint8_t vdp_green(uint64_t pixel) { return (uint8_t)(pixel >> 40); }          /* of vdp_pixel */
 static inline uint8_t vdp_blue(uint64_t pixel) { return (uint8_t)(pixel >> 48); }           /* of vdp_pixel */
+
+static inline unsigned vdp_record_kind(uint32_t next) { return next & 0xFF; }               /* of vdp_record_next */
+static inline uint8_t vdp_record_port(uint32_t next) { return (uint8_t)(next >> 8); }       /* of vdp_record_next */
+static inline uint8_t vdp_record_area(uint32_t next) { return (uint8_t)(next >> 8); }       /* of vdp_record_next */
+static inline uint8_t vdp_record_value(uint32_t next) { return (uint8_t)(next >> 16); }     /* of vdp_record_next */
+static inline size_t vdp_record_length(uint32_t next) { return next >> 24; }                /* of vdp_record_next */
 
 #ifdef __cplusplus
 }

@@ -5,9 +5,10 @@
 #   tiles     build/oracle/tiles, for x86-64, with build/libvdp.a
 #   pixels    build/oracle/pixels, for x86-64, with build/libvdp.a; where HERE_LIB is set, build/oracle/here/pixels, for this machine, with that
 #   repair    build/oracle/repair, the same
+#   records   build/oracle/records, for x86-64, with build/libvdp.a
 #   here      build/oracle/here/compare, for this machine, with HERE_LIB (an object or archive of the library for it, as build/native/libvdp.a);
 #             where HERE_LIB is not set, with a stand-in made of the model
-#   repair-here  build/oracle/here/repair, the same, with no published Rust
+#   repair-here, records-here  build/oracle/here/repair and records, the same, with no published Rust
 # GEARS names the folder that holds the published vdp.rs and io.rs (tools/gears.sh).
 set -eu
 cd "$(dirname "$0")/.."
@@ -28,7 +29,7 @@ for what in "$@"; do
         $RUSTC $flags --crate-type rlib --crate-name rules oracle/rules.rs -o $out/x86/librules.rlib
         $RUSTC $flags --extern rules=$out/x86/librules.rlib -L native=build -l static=vdp oracle/compare.rs -o $out/compare
         ;;
-    tiles | repair)
+    tiles | repair | records)
         mkdir -p $out/x86
         $RUSTC $flags --crate-type rlib --crate-name rules oracle/rules.rs -o $out/x86/librules.rlib
         $RUSTC $flags --extern rules=$out/x86/librules.rlib -L native=build -l static=vdp oracle/$what.rs -o $out/$what
@@ -49,8 +50,8 @@ for what in "$@"; do
         $RUSTC_HERE $flags --crate-type rlib --crate-name rules oracle/rules.rs -o $out/here/librules.rlib
         $RUSTC_HERE $flags --extern rules=$out/here/librules.rlib oracle/traces.rs -o $out/traces
         ;;
-    here | repair-here)
-        program=repair
+    here | repair-here | records-here)
+        program=${what%-here}
         if [ $what = here ]; then
             need_gears
             program=compare

@@ -24,6 +24,10 @@ mod raw {
             state: *const u8, state_len: usize, vram: *const u8, vram_len: usize, pixels: *mut u8, pixels_len: usize,
         ) -> u32;
         pub fn vdp_pixel(state: *const u8, state_len: usize, vram: *const u8, vram_len: usize, area: u8, row: u32, column: u32) -> u64;
+        pub fn vdp_record_out(recording: *mut u8, recording_len: usize, used: usize, port: u8, value: u8) -> u32;
+        pub fn vdp_record_input(recording: *mut u8, recording_len: usize, used: usize, port: u8) -> u32;
+        pub fn vdp_record_step(recording: *mut u8, recording_len: usize, used: usize, area: u8) -> u32;
+        pub fn vdp_record_next(recording: *const u8, recording_len: usize, at: usize) -> u32;
         pub fn vdp_repair(block: *mut u8, block_len: usize, list: *mut u8, list_len: usize) -> u32;
     }
 }
@@ -79,4 +83,26 @@ pub fn vdp_pixel(state: &[u8], vram: &[u8], area: u8, row: u32, column: u32) -> 
 #[allow(dead_code)] // the program `repair` alone calls it
 pub fn vdp_repair(block: &mut [u8], list: &mut [u8]) -> u32 {
     unsafe { raw::vdp_repair(block.as_mut_ptr(), block.len(), list.as_mut_ptr(), list.len()) }
+}
+
+// The program `records` alone calls these.
+
+#[allow(dead_code)]
+pub fn vdp_record_out(recording: &mut [u8], used: usize, port: u8, value: u8) -> u32 {
+    unsafe { raw::vdp_record_out(recording.as_mut_ptr(), recording.len(), used, port, value) }
+}
+
+#[allow(dead_code)]
+pub fn vdp_record_input(recording: &mut [u8], used: usize, port: u8) -> u32 {
+    unsafe { raw::vdp_record_input(recording.as_mut_ptr(), recording.len(), used, port) }
+}
+
+#[allow(dead_code)]
+pub fn vdp_record_step(recording: &mut [u8], used: usize, area: u8) -> u32 {
+    unsafe { raw::vdp_record_step(recording.as_mut_ptr(), recording.len(), used, area) }
+}
+
+#[allow(dead_code)]
+pub fn vdp_record_next(recording: &[u8], at: usize) -> u32 {
+    unsafe { raw::vdp_record_next(recording.as_ptr(), recording.len(), at) }
 }

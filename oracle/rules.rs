@@ -8,3 +8,4 @@ pub mod salvage;
 pub mod sessions;
 pub mod tile;
 pub mod turns;
+pub mod writer;

@@ -2,7 +2,7 @@
 //! and the proved library is not at hand (and, damaged on purpose, shows that the programs notice).
 
 use rules::model::{self, Notes};
-use rules::{salvage, tile};
+use rules::{salvage, tile, writer};
 
 /// The bytes that a caller lends.
 unsafe fn lent<'a>(at: *const u8, len: usize) -> &'a [u8] {
@@ -101,4 +101,24 @@ pub unsafe extern "C" fn vdp_pixel(state: *const u8, state_len: usize, vram: *co
 #[no_mangle]
 pub unsafe extern "C" fn vdp_repair(block: *mut u8, block_len: usize, list: *mut u8, list_len: usize) -> u32 {
     salvage::vdp_repair(lent_mut(block, block_len), lent_mut(list, list_len))
+}
+
+#[no_mangle]
+pub unsafe extern "C" fn vdp_record_out(recording: *mut u8, recording_len: usize, used: usize, port: u8, value: u8) -> u32 {
+    writer::vdp_record_out(lent_mut(recording, recording_len), used, port, value)
+}
+
+#[no_mangle]
+pub unsafe extern "C" fn vdp_record_input(recording: *mut u8, recording_len: usize, used: usize, port: u8) -> u32 {
+    writer::vdp_record_input(lent_mut(recording, recording_len), used, port)
+}
+
+#[no_mangle]
+pub unsafe extern "C" fn vdp_record_step(recording: *mut u8, recording_len: usize, used: usize, area: u8) -> u32 {
+    writer::vdp_record_step(lent_mut(recording, recording_len), used, area)
+}
+
+#[no_mangle]
+pub unsafe extern "C" fn vdp_record_next(recording: *const u8, recording_len: usize, at: usize) -> u32 {
+    writer::vdp_record_next(lent(recording, recording_len), at)
 }

@@ -335,4 +335,42 @@ mod tests {
         // as a sprite, tile 0 has code 0 everywhere and leaves the sheet
         assert_eq!(sheet[65536..65540], [9, 9, 9, 9]);
     }
+
+    /// Recording: off until it is switched on; refused port calls are recorded, refused steps are not; taken once.
+    #[test]
+    fn recordings() {
+        let vdp = Vdp::new();
+        commands(&vdp, &[0, 0xC0]);
+        assert_eq!(vdp.take_recording(), None);
+        vdp.start_recording(100);
+        vdp.start_recording(40);
+        write_refused(&vdp, 0x1280, 7, 1);
+        read_refused(&vdp, DATA, 5);
+        vdp.step(&mut [0; 100], RenderArea::VisibleOnly);
+        assert_eq!(vdp.last_refusal(), 9);
+        vdp.step(&mut vec![0; VISIBLE], RenderArea::VisibleOnly);
+        vdp.step(&mut vec![0; EFFECTIVE], RenderArea::EffectiveArea);
+        vdp.dump_tileset(&mut vec![0; 131_072]);
+        assert_eq!(vdp.input(0xAB00 | LINE, 0), Ok(2));
+        let recording = vdp.take_recording().unwrap();
+        assert_eq!(recording.bytes, b"PW\x80\x07PR\xBELS\x00LS\x01PR\x7E");
+        assert!(recording.whole);
+        assert_eq!(vdp.take_recording(), None);
+    }
+
+    /// A buffer that is used up: whole records alone, none behind the first that has no room, and the calls go on as without.
+    #[test]
+    fn recordings_that_are_full() {
+        for room in 0..12 {
+            let vdp = Vdp::new();
+            vdp.start_recording(room);
+            commands(&vdp, &[0, 0x40]);
+            assert_eq!(vdp.input(LINE, 0), Ok(0));
+            assert_eq!(vdp.last_refusal(), 0);
+            let recording = vdp.take_recording().unwrap();
+            let whole = b"PW\xBF\x00PW\xBF\x40PR\x7E";
+            assert_eq!(recording.bytes, whole[..[0, 0, 0, 0, 4, 4, 4, 4, 8, 8, 8, 11][room]]);
+            assert_eq!(recording.whole, room == 11);
+        }
+    }
 }

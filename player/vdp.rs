@@ -8,6 +8,8 @@
 //!   so where the buffer has a wrong length, for a step on every line, and not only on one that it draws. A frame is exactly
 //!   160 x 144 (or 256 x 224) x 4 bytes, the tile sheet exactly 131,072.
 //! - `Vdp::new` goes by the line table of the counter chart, 262 steps to a pass; `Vdp::with_table(0)` by the one of the file before, 261.
+//! - New: `start_recording` records what is asked of the chip, and `take_recording` hands over a trace that build/bin/trace runs
+//!   (docs/TRACES.md).
 //! - A sprite at X 41 to 48 under the early clock no longer stops the player, and nothing is drawn past the right edge.
 
 use crate::io;
@@ -18,6 +20,9 @@ pub const GG_VISIBLE_PIXEL_WIDTH: usize = 160;
 
 const BLOCK_SIZE: usize = 220;
 const VRAM_SIZE: usize = 16 * 1024;
+
+/// The longest recording that the trace programs run.
+pub const LONGEST_RECORDING: usize = 65_535;
 
 // A slice is a pointer and a length. The answer has the refusal in its low byte.
 #[link(name = "vdp")]
@@ -43,6 +48,9 @@ extern "C" {
         pixels: *mut u8,
         pixels_len: usize,
     ) -> u32;
+    fn vdp_record_out(recording: *mut u8, recording_len: usize, used: usize, port: u8, value: u8) -> u32;
+    fn vdp_record_input(recording: *mut u8, recording_len: usize, used: usize, port: u8) -> u32;
+    fn vdp_record_step(recording: *mut u8, recording_len: usize, used: usize, area: u8) -> u32;
 }
 
 #[derive(Debug, Clone, Copy)]
@@ -71,10 +79,40 @@ struct Lent {
     vram: Vec<u8>,
 }
 
+/// What was asked of the chip since recording was switched on, as a trace.
+#[derive(Debug, Clone, PartialEq, Eq)]
+pub struct Recording {
+    /// The records, one behind the other.
+    pub bytes: Vec<u8>,
+    /// Whether all that was asked is there; where it is not, the room was used up, and the recording ends before the first call that had none.
+    pub whole: bool,
+}
+
+/// A recording under way: its buffer, and how much of it is used.
+#[derive(Debug)]
+struct Recorder {
+    buffer: Vec<u8>,
+    used: usize,
+    whole: bool,
+}
+
+impl Recorder {
+    /// A record into the rest of the buffer. One that has no room ends the recording: those behind it would be out of their place.
+    fn put(&mut self, record: impl FnOnce(*mut u8, usize, usize) -> u32) {
+        if !self.whole {
+            return;
+        }
+        let answer = record(self.buffer.as_mut_ptr(), self.buffer.len(), self.used);
+        self.used += (answer >> 8 & 0xFF) as usize;
+        self.whole = refusal(answer) == 0;
+    }
+}
+
 #[derive(Debug)]
 pub struct Vdp {
     lent: RefCell<Lent>,
     refused: Cell<u8>,
+    recorder: RefCell<Option<Recorder>>,
 }
 
 impl Vdp {
@@ -82,7 +120,7 @@ impl Vdp {
         let mut lent = Lent { block: [0; BLOCK_SIZE], vram: vec![0; VRAM_SIZE] };
         // Sound: the block is live, and as long as we say.
         let answer = unsafe { vdp_new(lent.block.as_mut_ptr(), lent.block.len()) };
-        Vdp { lent: RefCell::new(lent), refused: Cell::new(refusal(answer)) }
+        Vdp { lent: RefCell::new(lent), refused: Cell::new(refusal(answer)), recorder: RefCell::new(None) }
     }
 
     /// A device that goes by this line table: 0, whose pass has 261 steps, or 1, the chart's, of 262; there is no other.
@@ -91,7 +129,7 @@ impl Vdp {
         // Sound: the block is live, and as long as we say.
         let answer = unsafe { vdp_new_table(lent.block.as_mut_ptr(), lent.block.len(), table) };
         match refusal(answer) {
-            0 => Some(Vdp { lent: RefCell::new(lent), refused: Cell::new(0) }),
+            0 => Some(Vdp { lent: RefCell::new(lent), refused: Cell::new(0), recorder: RefCell::new(None) }),
             _ => None,
         }
     }
@@ -99,6 +137,29 @@ impl Vdp {
     /// The number by which the last call was refused; 0 where it was accepted.
     pub fn last_refusal(&self) -> u8 {
         self.refused.get()
+    }
+
+    /// Switches recording on, with a buffer of so many bytes; what was recorded before is dropped. From now on every port call, refused or not, and
+    /// every step that is not refused is a record (a refused step moves nothing, and a trace has no frame of a wrong length). Right after the device
+    /// was made, the recording is a trace of it: `trace` and `snapshot` run one of table 1, `trace-261` and `snapshot-261` one of table 0.
+    pub fn start_recording(&self, room: usize) {
+        *self.recorder.borrow_mut() = Some(Recorder { buffer: vec![0; room], used: 0, whole: true });
+    }
+
+    /// Switches recording off, and hands over what was recorded; nothing where it was not on.
+    pub fn take_recording(&self) -> Option<Recording> {
+        self.recorder.borrow_mut().take().map(|recorder| {
+            let mut bytes = recorder.buffer;
+            bytes.truncate(recorder.used);
+            Recording { bytes, whole: recorder.whole }
+        })
+    }
+
+    /// Puts a call behind those that were recorded, where recording is on.
+    fn record(&self, record: impl FnOnce(*mut u8, usize, usize) -> u32) {
+        if let Some(recorder) = self.recorder.borrow_mut().as_mut() {
+            recorder.put(record);
+        }
     }
 
     /// One line: draws its row in the frame, if it has one. Refused, it does and reports nothing.
@@ -122,6 +183,10 @@ impl Vdp {
             )
         };
         self.refused.set(refusal(answer));
+        if refusal(answer) == 0 {
+            // Sound: one live slice.
+            self.record(|at, len, used| unsafe { vdp_record_step(at, len, used, area) });
+        }
         // A refused step's answer has no bit but those of its refusal.
         let interrupt = if answer >> 8 & 1 == 1 { VdpInt::InterruptGenerated } else { VdpInt::NoInterrupt };
         let refresh = match answer >> 9 & 3 {
@@ -159,6 +224,8 @@ impl io::Device for Vdp {
             vdp_out(lent.block.as_mut_ptr(), lent.block.len(), lent.vram.as_mut_ptr(), lent.vram.len(), addr, val)
         };
         self.refused.set(refusal(answer));
+        // Sound: one live slice. Only the low byte of a port counts.
+        self.record(|at, len, used| unsafe { vdp_record_out(at, len, used, addr as u8, val) });
         match refusal(answer) {
             0 => Ok(()),
             number => Err(format!("VDP write of {:02X} to port {:04X}: {}", val, addr, refusal_text(number))),
@@ -172,6 +239,8 @@ impl io::Device for Vdp {
         let answer =
             unsafe { vdp_input(lent.block.as_mut_ptr(), lent.block.len(), lent.vram.as_ptr(), lent.vram.len(), addr) };
         self.refused.set(refusal(answer));
+        // Sound: one live slice.
+        self.record(|at, len, used| unsafe { vdp_record_input(at, len, used, addr as u8) });
         match refusal(answer) {
             0 => Ok((answer >> 8) as u8),
             number => Err(format!("VDP read of port {:04X}: {}", addr, refusal_text(number))),
@@ -210,6 +279,7 @@ fn refusal_text(number: u8) -> &'static str {
         15 => "a code above 15",
         16 => "layer buffer too short",
         17 => "list of a repair too short",
+        18 => "no room for the record",
         _ => "unknown refusal",
     }
 }

@@ -123,6 +123,20 @@ CXX=no-such-compiler bash tests/c.sh >"$work/said" 2>&1
 [ $? -eq 0 ] && grep -q '^SKIPPED: the C++ example: no no-such-compiler here$' "$work/said" && tail -n 1 "$work/said" | grep -q '^[0-9]* passed, 0 failed, [2-9] skipped$'
 tell "a C++ compiler that is missing counts as skipped" $?
 
+# A Z80 assembler that is missing and cannot be installed.
+mkdir "$work/all" "$work/none"
+ln -s /usr/bin/* "$work/all/"
+rm -f "$work/all/z80asm"
+for word in dpkg apt-get; do printf '#!/bin/sh\necho "E: Unable to locate package z80asm" >&2\nexit 100\n' >"$work/none/$word"; done
+cp "$work/few/sudo" "$work/none/"
+chmod +x "$work/none"/*
+PATH="$work/none:$work/all:$(dirname "$(command -v rt)")" bash tests/cartridge.sh >"$work/said" 2>&1
+[ $? -eq 0 ] && [ "$(grep -c '^SKIPPED: the cartridges: setup: error: could not install .*z80asm (E: Unable to locate package z80asm)' "$work/said")" -eq 1 ] &&
+    tail -n 1 "$work/said" | grep -q '^0 passed, 0 failed, [1-9][0-9]* skipped$'
+status=$?
+[ "$status" -eq 0 ] || cat "$work/said"
+tell "packages of the cartridges that cannot be had: told in a line, and counted as skipped" $status
+
 # The comparison in a place with spaces.
 . tools/gears.sh
 if has_gears; then

@@ -71,6 +71,14 @@ static void make_repair(void)
     vdp_repair(state, sizeof state, list, sizeof list - (next() % 8 == 0));
     vdp_repair(state, sizeof state, list, sizeof list);
 }
+static void make_record(void)
+{
+    size_t at = next() % 16;
+    vdp_record_out(pixels, 12, at, (uint8_t)next(), (uint8_t)next());
+    vdp_record_input(pixels, 12, at, (uint8_t)next());
+    vdp_record_step(pixels, 12, at, (uint8_t)(next() % 3));
+    vdp_record_next(pixels, 12, at);
+}
 static void make_version(void) { vdp_version(); }
 
 static void (*call)(void);
@@ -104,7 +112,7 @@ static unsigned long measure(const char *name, void (*what)(void), unsigned turn
 
 int main(void)
 {
-    unsigned long most = 0, each[11];
+    unsigned long most = 0, each[12];
     for (unsigned n = 0; n < sizeof vram; n++)
         vram[n] = (uint8_t)next();
     each[0] = measure("vdp_new", make_new, TURNS);
@@ -118,7 +126,8 @@ int main(void)
     each[8] = measure("vdp_layer_row_step", make_layer_row_step, TURNS);
     each[9] = measure("vdp_pixel", make_pixel, TURNS);
     each[10] = measure("vdp_repair", make_repair, TURNS);
-    for (unsigned n = 0; n < 11; n++)
+    each[11] = measure("vdp_record_*", make_record, TURNS);
+    for (unsigned n = 0; n < 12; n++)
         most = each[n] > most ? each[n] : most;
     printf("stack: %lu bytes at the most; the header allows %d\n", most, VDP_STACK_NEED);
     return most > VDP_STACK_NEED;

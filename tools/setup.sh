@@ -1,20 +1,23 @@
 #!/bin/sh
-# setup.sh [rust | bus]: makes this machine ready to build and to run what is built; with `rust` also to test, to compare and to measure, with
-# `bus` also to count turns of the bus.
+# setup.sh [rust | bus | cartridge]: makes this machine ready to build and to run what is built; with `rust` also to test, to compare and to measure,
+# with `bus` also to count turns of the bus, with `cartridge` to play cartridges.
 # Does nothing, quickly, where all is there. Whatever is wrong is told in one line, before anything is built.
 # To build, rt is all that is needed on x86-64; on Arm (aarch64), where rt makes x86-64 code, also what runs x86-64 programs.
-# With `rust`: a Rust compiler and a C compiler, on Arm for x86-64 too; with `bus` these and valgrind. Debian and its kin; elsewhere install the packages that it names by hand.
+# With `rust`: a Rust compiler and a C compiler, on Arm for x86-64 too; with `bus` these and valgrind; with `cartridge` a C compiler, a Z80 core and a Z80
+# assembler. Debian and its kin; elsewhere install the packages that it names by hand.
 set -eu
 cd "$(dirname "$0")/.."
 
 say() { printf 'setup: %s\n' "$*"; }
 fail() { printf 'setup: error: %s\n' "$*" >&2; exit 1; }
 
+rust=false bus=false cartridge=false
 case ${1-} in
-'') rust=false bus=false ;;
-rust) rust=true bus=false ;;
+'') ;;
+rust) rust=true ;;
 bus) rust=true bus=true ;;
-*) fail "unknown: $1 (setup.sh, setup.sh rust, or setup.sh bus)" ;;
+cartridge) cartridge=true ;;
+*) fail "unknown: $1 (setup.sh, setup.sh rust, setup.sh bus, or setup.sh cartridge)" ;;
 esac
 
 # Tells whether the first of these names is a file: for a pattern, whether anything matches it.
@@ -26,17 +29,20 @@ missing() {
         [ -x /usr/bin/qemu-x86_64 ] || echo qemu-user
         there /lib64/ld-linux-x86-64.so.2 || echo libc6:amd64
     fi
-    $rust || return 0
-    if [ "$(uname -m)" = aarch64 ]; then
+    if $rust && [ "$(uname -m)" = aarch64 ]; then
         [ -x /usr/bin/rustc ] || echo rustc
         there /usr/lib/rustlib/x86_64-unknown-linux-gnu/lib/libstd-*.rlib || echo libstd-rust-dev:amd64
         [ -x /usr/bin/x86_64-linux-gnu-gcc ] || echo gcc-x86-64-linux-gnu
         there /usr/x86_64-linux-gnu/include/stdio.h || echo libc6-dev-amd64-cross
-    else
+    elif $rust; then
         command -v rustc >/dev/null || echo rustc
     fi
-    command -v cc >/dev/null || { echo gcc; echo libc6-dev; }
-    ! $bus || command -v valgrind >/dev/null || echo valgrind
+    if $rust || $cartridge; then command -v cc >/dev/null || { echo gcc; echo libc6-dev; }; fi
+    if $bus; then command -v valgrind >/dev/null || echo valgrind; fi
+    if $cartridge; then
+        there /usr/include/z80ex/z80ex.h || echo libz80ex-dev
+        command -v z80asm >/dev/null || echo z80asm
+    fi
 }
 
 case $(uname -s)-$(uname -m) in

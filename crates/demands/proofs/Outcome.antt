@@ -85,6 +85,12 @@ use Rattle.block.proofs.cache_in
 use Rattle.block.proofs.store_raster
 use Rattle.block.proofs.store_cache
 use Rattle.salvage.proofs.repair
+use Rattle.record.proofs.record_at
+use Rattle.record.proofs.area_number
+use Rattle.record.proofs.put_all
+use Rattle.record.proofs.put_record
+use Rattle.record.proofs.past_record
+use Rattle.record.proofs.at_end
 use Rattle.face.proofs.vdp_new
 use Rattle.face.proofs.vdp_repair
 use Rattle.face.proofs.vdp_new_table
@@ -99,7 +105,10 @@ use Rattle.face.proofs.vdp_version
 use Rattle.face.proofs.vdp_write_tile
 use Rattle.face.proofs.vdp_read_tile
 use Rattle.face.proofs.vdp_pixel
-use Rattle.recording.proofs.record_at
+use Rattle.face.proofs.vdp_record_out
+use Rattle.face.proofs.vdp_record_input
+use Rattle.face.proofs.vdp_record_step
+use Rattle.face.proofs.vdp_record_next
 use Rattle.recording.proofs.trace
 use Rattle.recording.proofs.snapshot
 use Rattle.recording.proofs.layers
@@ -421,6 +430,28 @@ repair-once κs a q z z′ w w′ e f = (
   λ i. ((e .0 .block ∙ sym (f .0 .block)) i, ((e .0 .list ∙ sym (f .0 .list)) i, tt)),
 )
 
+-- ---- record
+pub record-at-once : OneOutcome 1 record_at.Kinds.ps record_at.Kinds.r record_at.Reads.Asked record_at.Reads.Learnt
+record-at-once κs a q z z′ w w′ e f = (e ∙ sym f, refl)
+
+pub area-number-once : OneOutcome 0 area_number.Kinds.ps area_number.Kinds.r area_number.Reads.Asked area_number.Reads.Learnt
+area-number-once κs a q z z′ w w′ e f = (e ∙ sym f, refl)
+
+pub put-all-once : OneOutcome 2 put_all.Kinds.ps put_all.Kinds.r put_all.Reads.Asked put_all.Reads.Learnt
+put-all-once κs a q z z′ w w′ e f = (e .0 ∙ sym (f .0), λ i. ((e .1 ∙ sym (f .1)) i, w .1))
+
+pub put-record-once : OneOutcome 1 put_record.Kinds.ps put_record.Kinds.r put_record.Reads.Asked put_record.Reads.Learnt
+put-record-once κs a q z z′ w w′ e f = (
+  λ i. record { refusal = (e .0 .refusal ∙ sym (f .0 .refusal)) i; count = (e .0 .count ∙ sym (f .0 .count)) i },
+  λ i. ((e .0 .recording ∙ sym (f .0 .recording)) i, w .1),
+)
+
+pub past-record-once : OneOutcome 1 past_record.Kinds.ps past_record.Kinds.r past_record.Reads.Asked past_record.Reads.Learnt
+past-record-once κs a q z z′ w w′ e f = (e ∙ sym f, refl)
+
+pub at-end-once : OneOutcome 1 at_end.Kinds.ps at_end.Kinds.r at_end.Reads.Asked at_end.Reads.Learnt
+at-end-once κs a q z z′ w w′ e f = (e ∙ sym f, refl)
+
 -- ---- face
 pub vdp-repair-once : OneOutcome 2 vdp_repair.Kinds.ps vdp_repair.Kinds.r vdp_repair.Reads.Asked vdp_repair.Reads.Learnt
 vdp-repair-once κs a q z z′ w w′ e f = (e .word ∙ sym (f .word), λ i. ((e .block ∙ sym (f .block)) i, ((e .lent ∙ sym (f .lent)) i, tt)))
@@ -472,10 +503,19 @@ vdp-read-tile-once κs a q z z′ w w′ e f = (e .word ∙ sym (f .word), λ i.
 pub vdp-pixel-once : OneOutcome 2 vdp_pixel.Kinds.ps vdp_pixel.Kinds.r vdp_pixel.Reads.Asked vdp_pixel.Reads.Learnt
 vdp-pixel-once κs a q z z′ w w′ e f = (e ∙ sym f, refl)
 
--- ---- recording
-pub record-at-once : OneOutcome 1 record_at.Kinds.ps record_at.Kinds.r record_at.Reads.Asked record_at.Reads.Learnt
-record-at-once κs a q z z′ w w′ e f = (e ∙ sym f, refl)
+pub vdp-record-out-once : OneOutcome 1 vdp_record_out.Kinds.ps vdp_record_out.Kinds.r vdp_record_out.Reads.Asked vdp_record_out.Reads.Learnt
+vdp-record-out-once κs a q z z′ w w′ e f = (e .word ∙ sym (f .word), λ i. ((e .lent ∙ sym (f .lent)) i, w .1))
 
+pub vdp-record-input-once : OneOutcome 1 vdp_record_input.Kinds.ps vdp_record_input.Kinds.r vdp_record_input.Reads.Asked vdp_record_input.Reads.Learnt
+vdp-record-input-once κs a q z z′ w w′ e f = (e .word ∙ sym (f .word), λ i. ((e .lent ∙ sym (f .lent)) i, w .1))
+
+pub vdp-record-step-once : OneOutcome 1 vdp_record_step.Kinds.ps vdp_record_step.Kinds.r vdp_record_step.Reads.Asked vdp_record_step.Reads.Learnt
+vdp-record-step-once κs a q z z′ w w′ e f = (e .word ∙ sym (f .word), λ i. ((e .lent ∙ sym (f .lent)) i, w .1))
+
+pub vdp-record-next-once : OneOutcome 1 vdp_record_next.Kinds.ps vdp_record_next.Kinds.r vdp_record_next.Reads.Asked vdp_record_next.Reads.Learnt
+vdp-record-next-once κs a q z z′ w w′ e f = (e ∙ sym f, refl)
+
+-- ---- recording
 pub trace-once : OneOutcome 4 trace.Kinds.ps trace.Kinds.r trace.Reads.Asked trace.Reads.Learnt
 trace-once κs a q z z′ w w′ e f = (
   e .0 .count ∙ sym (f .0 .count),

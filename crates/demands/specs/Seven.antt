@@ -38,7 +38,7 @@ pub record NeverSeven (t : LineTable) (h : History) : Type 0 where
 -- ---- the C face
 -- A call of the face on one state block, with its other arguments. Buffers are the bytes that they hold at the call, and a port write's value is a byte.
 -- It has the name of its function; the test suite `layout` holds the list to the code. Those that take no state leave every block:
--- Take no state: vdp_version, vdp_write_tile, vdp_read_tile.
+-- Take no state: vdp_version, vdp_write_tile, vdp_read_tile, vdp_record_out, vdp_record_input, vdp_record_step, vdp_record_next.
 -- (The first answers no refusal, and so is no call here.)
 pub data FaceCall : Type 0 where
   vdp-new : FaceCall

@@ -16,7 +16,7 @@ use Rattle.picture.specs.declared.RenderArea.{RenderArea}
 use Rattle.raster.specs.Raster.{lineTableFrom}
 use Rattle.vdp.specs.declared.VdpState.{VdpState}
 use Rattle.vdp.specs.declared.Refusal.{Refusal}
-use Rattle.vdp.specs.declared.Refusal.the-variants.{Accepted, UnknownPort, HorizontalCounter, HighRegister, NothingChosen, PaletteRead, NoPaletteByte, OutsideMemory, VramLength, PixelLength, BlockMalformed, UnknownArea, FrameTooLong, UnknownTile, CodesLength, HighCode, LayerLength, ListLength}
+use Rattle.vdp.specs.declared.Refusal.the-variants.{Accepted, UnknownPort, HorizontalCounter, HighRegister, NothingChosen, PaletteRead, NoPaletteByte, OutsideMemory, VramLength, PixelLength, BlockMalformed, UnknownArea, FrameTooLong, UnknownTile, CodesLength, HighCode, LayerLength, ListLength, RecordRoom}
 use Rattle.vdp.specs.Device.{unlatched}
 use Rattle.vdp.specs.Refusals.{refusalNumber, leftBehind, Line, under, whole}
 use Rattle.vdp.specs.Ports.{portWrite, portRead}
@@ -89,6 +89,7 @@ module _ (b : List ℕ) (bytes : (i : ℕ) → at b i < 256) where
   behind w HighCode = block-back b w bytes
   behind w LayerLength = block-back b w bytes
   behind w ListLength = block-back b w bytes
+  behind w RecordRoom = block-back b w bytes
 
   pub left-by : wellFormed b ≡ true → (r : Refusal) {n : ℕ} → n ≡ refusalNumber r → blockOf (length b) (leftBehind r (stateOf b)) ≡ blockLeft n b
   left-by w r e = behind w r ∙ ap (λ (n : ℕ). blockLeft n b) (sym e)

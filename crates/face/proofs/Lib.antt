@@ -8,3 +8,4 @@ pub mod Blocks
 pub mod Tiles
 pub mod Kept
 pub mod Repairs
+pub mod Records

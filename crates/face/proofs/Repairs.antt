@@ -17,7 +17,7 @@ use Rattle.face.specs.Repair.{repairCall}
 
 -- a call under a table of refusals, field by field
 module _ (b l : List ℕ) (k : Called) where
-  word-under :
+  pub word-under :
       (ls : List Line) (n : ℕ) → k .word ≡ 256 * n
       → refusalNumber (first ls) + 256 * under ls (λ f. 0) n ≡ under ls (λ r. refused r b l) k .word
   word-under [] n e = zero-add (256 * n) ∙ sym e
@@ -27,7 +27,7 @@ module _ (b l : List ℕ) (k : Called) where
   block-under [] = refl
   block-under (x ∷ ls) = split (x .holds) (λ t. rw t) (λ t. rw t (block-under ls))
 
-  lent-under : (ls : List Line) → under ls (λ f. l) (k .lent) ≡ under ls (λ r. refused r b l) k .lent
+  pub lent-under : (ls : List Line) → under ls (λ f. l) (k .lent) ≡ under ls (λ r. refused r b l) k .lent
   lent-under [] = refl
   lent-under (x ∷ ls) = split (x .holds) (λ t. rw t) (λ t. rw t (lent-under ls))
 

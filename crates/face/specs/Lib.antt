@@ -7,3 +7,4 @@ pub mod Kept
 pub mod Layers
 pub mod Pixel
 pub mod Repair
+pub mod Record

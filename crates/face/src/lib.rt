@@ -13,9 +13,13 @@ ghost use Rattle.step.specs.Points.{cleaned, joined};
 ghost use Rattle.face.specs.Tiles.{writeTileCall, readTileCall};
 ghost use Rattle.face.specs.Face.{rowBits, stepWord, newTableCall, newCall, outCall, inputCall, stepCall, rowStepCall, dumpCall, Leaves};
 ghost use Rattle.face.specs.Layers.{LayerRowLeaves, LayerFrameLeaves};
+ghost use Rattle.record.specs.declared.Record.the-variants.{Write, Read};
+ghost use Rattle.face.specs.Record.{recordCall, recordStepCall, bytesWord, nextCall};
 ghost use Rattle.face.specs.Repair.{repairCall};
 ghost use Rattle.face.specs.Version.{version};
 ghost use Rattle.face.specs.Pixel.{pixelBits, pixelCall};
+use record::Record;
+use record::Recorded;
 use step::DisplayRefresh;
 use step::DrawnRow;
 use step::Points;
@@ -287,7 +291,7 @@ pub extern "C" fn vdp_dump_tileset(state: &[u8], vram: &[u8], pixels: &mut [u8])
 pub extern "C" fn vdp_version() -> u32
     ensures { λ r. ⌜ r ≡ version ⌝ }
 {
-    262912
+    263168
 }
 
 // The tile of these 64 codes into video memory; no device is asked.
@@ -370,4 +374,63 @@ pub extern "C" fn vdp_repair(state: &mut [u8], list: &mut [u8]) -> u32
     let repaired = salvage::repair(state, list);
     let refusal = repaired.refusal;
     number(refusal) + 256 * (repaired.count as u32)
+}
+
+// ---- records of a recording
+
+// What the writer answers as a word: the refusal, and from bit 8 on the bytes that the record took.
+fn recorded_word(recorded: Recorded) -> u32
+    ensures { λ n. ⌜ n ≡ refusalNumber (recorded .refusal) + 256 * recorded .count ⌝ }
+{
+    let refusal = recorded.refusal;
+    number(refusal) + 256 * (recorded.count as u32)
+}
+
+// A port write as a record, into the bytes from `used` on.
+#[no_mangle]
+pub extern "C" fn vdp_record_out(recording: &mut [u8], used: usize, port: u8, value: u8) -> u32
+    ensures { λ r. ⌜ Leaves (recordCall (now (recording .entry)) used (Write port value)) r [] (now (recording .exit)) ⌝ }
+{
+    recorded_word(record::put_record(recording, used, Record::Write(port, value)))
+}
+
+// A port read.
+#[no_mangle]
+pub extern "C" fn vdp_record_input(recording: &mut [u8], used: usize, port: u8) -> u32
+    ensures { λ r. ⌜ Leaves (recordCall (now (recording .entry)) used (Read port)) r [] (now (recording .exit)) ⌝ }
+{
+    recorded_word(record::put_record(recording, used, Record::Read(port)))
+}
+
+// A step.
+#[no_mangle]
+pub extern "C" fn vdp_record_step(recording: &mut [u8], used: usize, area: u8) -> u32
+    ensures { λ r. ⌜ Leaves (recordStepCall (now (recording .entry)) used area) r [] (now (recording .exit)) ⌝ }
+{
+    if 1 < area {
+        return number(Refusal::UnknownArea);
+    }
+    let step = Record::Step(picture::area_from(area));
+    recorded_word(record::put_record(recording, used, step))
+}
+
+// Four bytes as a word, the first lowest.
+fn bytes_word(a: u8, b: u8, c: u8, d: u8) -> u32
+    ensures { λ r. ⌜ r ≡ bytesWord a b c d ⌝ }
+{
+    (a as u32) + 256 * (b as u32) + 65536 * (c as u32) + 16777216 * (d as u32)
+}
+
+// What stands at an offset of a recording: which kind of record, its port or area, its value and its length.
+#[no_mangle]
+pub extern "C" fn vdp_record_next(recording: &[u8], at: usize) -> u32
+    ensures { λ r. ⌜ r ≡ nextCall (now (recording .entry)) at ⌝ }
+{
+    match record::record_at(recording, at) {
+        Record::Write(port, value) => bytes_word(1, port, value, 4),
+        Record::Read(port) => bytes_word(2, port, 0, 3),
+        Record::Step(area) => bytes_word(3, record::area_number(area), 0, 3),
+        Record::Bad => 4,
+        Record::End => 0,
+    }
 }

@@ -6,3 +6,4 @@ pub mod Outputs
 pub mod Until
 pub mod Same
 pub mod Numbers
+pub mod Promises

@@ -10,7 +10,7 @@ use lib.Dec.{ltb, lit≤}
 use lib.ListN.{length}
 use Rattle.laws.proofs.Tests.{split}
 use Rattle.vdp.specs.declared.Refusal.{Refusal}
-use Rattle.vdp.specs.declared.Refusal.the-variants.{Accepted, UnknownPort, HorizontalCounter, HighRegister, NothingChosen, PaletteRead, NoPaletteByte, OutsideMemory, VramLength, PixelLength, BlockMalformed, UnknownArea, FrameTooLong, UnknownTile, CodesLength, HighCode, LayerLength, ListLength}
+use Rattle.vdp.specs.declared.Refusal.the-variants.{Accepted, UnknownPort, HorizontalCounter, HighRegister, NothingChosen, PaletteRead, NoPaletteByte, OutsideMemory, VramLength, PixelLength, BlockMalformed, UnknownArea, FrameTooLong, UnknownTile, CodesLength, HighCode, LayerLength, ListLength, RecordRoom}
 use Rattle.vdp.specs.Refusals.{refusalNumber}
 use Rattle.vdp.specs.declared.VdpState.{VdpState}
 use Rattle.recording.specs.Text.{digitOf, decimal}
@@ -88,6 +88,7 @@ refusal-low CodesLength = lit≤ tt
 refusal-low HighCode = lit≤ tt
 refusal-low LayerLength = lit≤ tt
 refusal-low ListLength = lit≤ tt
+refusal-low RecordRoom = lit≤ tt
 
 pub place-low : (d : VdpState) (s : List ℕ) (vram row frame : List ℕ) → length s ≤ 65535 → ran rowTurn s (start d vram row frame) .run .at < 100000
 unfolding ran

@@ -21,44 +21,22 @@ use Rattle.step.specs.declared.VdpInt.the-variants.{NoInterrupt, InterruptGener
 use Rattle.step.specs.declared.DisplayRefresh.{DisplayRefresh}
 use Rattle.step.specs.declared.DisplayRefresh.the-variants.{NoDisplay, ScreenDone, ScreenDoneNoRefresh}
 use Rattle.step.specs.Step.{interruptNumber, reportNumber, rowStep, frameStep}
-use Rattle.recording.specs.declared.record.Record.{Record}
-use Rattle.recording.specs.declared.record.Record.the-variants.{Write, Read, Step, Bad, End}
+use Rattle.record.specs.declared.Record.{Record}
+use Rattle.record.specs.declared.Record.the-variants.{Write, Read, Step, Bad, End}
 use Rattle.recording.specs.declared.text.Answer.{Answer}
 use Rattle.recording.specs.declared.text.Answer.the-variants as Says
 use Rattle.recording.specs.declared.run.Run.{Run}
 use Rattle.recording.specs.declared.run.Shown.{Shown}
 use Rattle.recording.specs.declared.run.Shown.the-variants.{Colours, Layers}
 use Rattle.recording.specs.declared.run.Turned.{Turned}
-use Rattle.recording.specs.Record.{recordAt, marked}
+use Rattle.record.specs.Record.{recordAt}
+use Rattle.record.specs.Writer.{size}
+use Rattle.record.proofs.Records.{fits}
 use Rattle.recording.specs.Text.{digitOf, decimal, hexDigit, lineOf}
 use Rattle.recording.specs.Run.{World, Turn, held, stepAnswer, rowTurn, frameTurn, layerTurn, turnFor, turnBy, turnOf, after, lines, TurnLeaves}
 use Rattle.recording.proofs.Lines.{decimal-short, one, grow}
 
--- ---- how long a record is, and how long its line
-abbrev pub size : Record → ℕ
-size (Write p v) = 4
-size (Read p) = 3
-size (Step a) = 3
-size Bad = 0
-size End = 0
-
--- a record lies in the recording
-pub fits : (s : List ℕ) (k : ℕ) → size (recordAt s k) ≤ length s - k
-unfolding recordAt marked
-fits s k =
-    let n = length s - k in
-    let m = 256 * at s k + at s (k + 1) in
-    let P : Record → Type 0 = λ r. size r ≤ n in
-    either P (leb (length s) k) (λ _. omega arith)
-    (λ _.
-    either P (ltb n 3) (λ _. omega arith)
-    (λ e.
-    let h : 3 ≤ n = ltb-false n 3 e in
-    either P (eqb m 0x5057) (λ _. either P (ltb n 4) (λ _. omega arith) (λ f. ltb-false n 4 f))
-    (λ _.
-    either P (eqb m 0x5052) (λ _. h)
-    (λ _. either P (eqb m 0x4C53) (λ _. either P (ltb 1 (at s (k + 2))) (λ _. omega arith) (λ _. h)) (λ _. omega arith)))))
-
+-- ---- how long a line is
 pub wrote-short : (f : Refusal) → length (lineOf (Says.Wrote f)) ≤ 8
 unfolding lineOf
 wrote-short f = simp length-append (omega (arith, decimal-short (refusalNumber f)))

@@ -27,13 +27,13 @@ use Rattle.step.specs.Step.{counterUp, stepped, rowLines, frameLines, stepWith,
 use Rattle.step.specs.Frame.{rowAfter}
 use Rattle.step.proofs.Laws.{step-accepted, row-passes, frame-passes, row-step-length, frame-step-length}
 use Rattle.step.specs.Layers.{rowLayers}
-use Rattle.recording.specs.declared.record.Record.{Record}
-use Rattle.recording.specs.declared.record.Record.the-variants.{Write, Read, Step, Bad, End}
+use Rattle.record.specs.declared.Record.{Record}
+use Rattle.record.specs.declared.Record.the-variants.{Write, Read, Step, Bad, End}
 use Rattle.recording.specs.declared.text.Answer.the-variants as Says
 use Rattle.recording.specs.declared.run.Run.{Run}
 use Rattle.recording.specs.declared.run.Shown.{Shown}
 use Rattle.recording.specs.declared.run.Shown.the-variants.{Colours, Layers}
-use Rattle.recording.specs.Record.{recordAt}
+use Rattle.record.specs.Record.{recordAt}
 use Rattle.recording.specs.Text.{lineOf}
 use Rattle.recording.specs.Run.{World, Turn, held, start, on, stepAnswer, rowTurn, frameTurn, layersPainted, layerTurn, turnFor, turnBy, turnOf, after, lines}
 

@@ -25,13 +25,13 @@ use Rattle.step.specs.Frame.{rowAfter, RowStepLeaves, FrameStepLeaves}
 use Rattle.step.specs.Layers.{alsoLayers, rowLayers, layersBy, layersAfter, RowLayersLeave}
 use Rattle.step.proofs.Rows.{row-in}
 use Rattle.step.proofs.Steps.{aside}
-use Rattle.recording.specs.declared.record.Record.{Record}
-use Rattle.recording.specs.declared.record.Record.the-variants.{Write, Read, Step, Bad, End}
+use Rattle.record.specs.declared.Record.{Record}
+use Rattle.record.specs.declared.Record.the-variants.{Write, Read, Step, Bad, End}
 use Rattle.recording.specs.declared.text.Answer.the-variants as Says
 use Rattle.recording.specs.declared.run.Shown.{Shown}
 use Rattle.recording.specs.declared.run.Shown.the-variants.{Colours, Layers}
 use Rattle.recording.specs.declared.run.Turned.{Turned}
-use Rattle.recording.specs.Record.{recordAt}
+use Rattle.record.specs.Record.{recordAt}
 use Rattle.recording.specs.Run.{World, Turn, held, on, stepAnswer, rowTurn, frameTurn, layerColour, layersPainted, layerTurn, turnFor, turnBy, turnOf, TurnLeaves}
 
 -- the same turn, said in another way

@@ -12,22 +12,16 @@ use lib.ListN.{length}
 use Rattle.laws.specs.Lists.{at}
 use Rattle.laws.proofs.Tests.{either, split, clash}
 use Rattle.picture.specs.declared.RenderArea.{RenderArea}
-use Rattle.recording.specs.declared.record.Record.{Record}
-use Rattle.recording.specs.declared.record.Record.the-variants.{Write, Read, Step, Bad, End}
+use Rattle.record.specs.declared.Record.{Record}
+use Rattle.record.specs.declared.Record.the-variants.{Write, Read, Step, Bad, End}
 use Rattle.recording.specs.declared.text.Answer.the-variants as Says
 use Rattle.recording.specs.declared.run.Run.{Run}
-use Rattle.recording.specs.Record.{recordAt, marked}
+use Rattle.record.specs.Record.{recordAt, marked}
+use Rattle.record.specs.Reader.{isCall}
 use Rattle.recording.specs.Text.{lineOf, endLine, badLine}
 use Rattle.recording.specs.Run.{World, Turn, rowTurn, turnBy, turnOf, after, lines, ran}
 use Rattle.recording.specs.Output.{lastLine, text}
 use Rattle.recording.proofs.Runs.{Moves, row-moves}
-
-abbrev pub isCall : Record → Bool
-isCall (Write p v) = true
-isCall (Read p) = true
-isCall (Step a) = true
-isCall Bad = false
-isCall End = false
 
 -- whether there is a call where the run stands
 abbrev pub calls : List ℕ → World → Bool
@@ -77,12 +71,12 @@ module _ (step : RenderArea → World → Turn) (s : List ℕ) where
       ∙ ap (λ (t : Turn). lineOf (t .answer)) (still w e)
 
   -- the first turn apart from the others
-  after-first : (n : ℕ) (w : World) → after step (suc n) s w ≡ after step n s (turnOf step s w .world)
+  pub after-first : (n : ℕ) (w : World) → after step (suc n) s w ≡ after step n s (turnOf step s w .world)
   unfolding after
   after-first zero w = refl
   after-first (suc n) w = ap (λ (x : World). turnOf step s x .world) (after-first n w)
 
-  lines-first : (n : ℕ) (w : World) → lines step (suc n) s w ≡ lineOf (turnOf step s w .answer) ++ lines step n s (turnOf step s w .world)
+  pub lines-first : (n : ℕ) (w : World) → lines step (suc n) s w ≡ lineOf (turnOf step s w .answer) ++ lines step n s (turnOf step s w .world)
   unfolding after lines
   lines-first zero w = sym (append-nil (lineOf (turnOf step s w .answer)))
   lines-first (suc n) w =

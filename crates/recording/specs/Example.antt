@@ -12,7 +12,7 @@ use Rattle.raster.specs.Raster.{jumps, starts, advanced, lineInterrupt, counted
 use Rattle.vdp.specs.Device.{made}
 use Rattle.vdp.specs.Ports.{portWrite, portRead}
 use Rattle.step.specs.Step.{rowOn, drawnBy, endScreen, reportOf, interruptOf, stepped, stepWith}
-use Rattle.recording.specs.Record.{recordAt, marked}
+use Rattle.record.specs.Record.{recordAt, marked}
 use Rattle.recording.specs.Text.{decimal, lineOf, endLine, badLine, longLine}
 use Rattle.recording.specs.Run.{start, rowTurn, turnBy, turnOf, after, lines, ran}
 use Rattle.recording.specs.Output.{lastLine, text, printed}

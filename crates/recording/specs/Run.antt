@@ -17,15 +17,15 @@ use Rattle.step.specs.declared.Stepped.{Stepped}
 use Rattle.step.specs.Step.{counterUp, rowStep, frameStep}
 use Rattle.step.specs.Frame.{rowAfter, frameAfter}
 use Rattle.step.specs.Layers.{rowLayers}
-use Rattle.recording.specs.declared.record.Record.{Record}
-use Rattle.recording.specs.declared.record.Record.the-variants.{Write, Read, Step, Bad, End}
+use Rattle.record.specs.declared.Record.{Record}
+use Rattle.record.specs.declared.Record.the-variants.{Write, Read, Step, Bad, End}
 use Rattle.recording.specs.declared.text.Answer.{Answer}
 use Rattle.recording.specs.declared.text.Answer.the-variants as Says
 use Rattle.recording.specs.declared.run.Run.{Run}
 use Rattle.recording.specs.declared.run.Shown.{Shown}
 use Rattle.recording.specs.declared.run.Shown.the-variants.{Colours, Layers}
 use Rattle.recording.specs.declared.run.Turned.{Turned}
-use Rattle.recording.specs.Record.{recordAt}
+use Rattle.record.specs.Record.{recordAt}
 use Rattle.recording.specs.Text.{lineOf}
 
 -- What one who follows a recording holds: the device and its place in the recording (`Run`), and the lent buffers. The trace has no frame.

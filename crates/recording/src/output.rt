@@ -11,9 +11,9 @@ use crate::run::Run;
 use crate::run::Shown;
 use crate::run::frame_turn;
 use crate::run::row_turn;
-use crate::text::put_all;
 use crate::text::put_answer;
 use crate::text::put_numbered;
+use record::put_all;
 use vdp::VdpState;
 
 // The longest recording that is run, the room that its text may take, and that of its picture: of a frame's bytes, three to a pixel.

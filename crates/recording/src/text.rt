@@ -6,6 +6,7 @@ ghost use Rattle.laws.specs.Lists.{written};
 ghost use Rattle.vdp.specs.Refusals.{refusalNumber};
 ghost use Rattle.step.specs.Step.{interruptNumber, reportNumber};
 ghost use Rattle.recording.specs.Text.{digitOf, decimal, hexDigit, numbered, lineOf};
+use record::put_all;
 use step::DisplayRefresh;
 use step::VdpInt;
 use vdp::Refusal;
@@ -31,20 +32,6 @@ fn digit(n: usize) -> u8
     ensures { λ r. ⌜ r ≡ digitOf n ⌝ }
 {
     48 + (n % 10) as u8
-}
-
-// The bytes of src into out at `at`, and the place behind them.
-pub fn put_all(out: &mut [u8], at: usize, src: &[u8]) -> usize
-    requires { ⌜ at + length (now src) ≤ length (now out) ⌝ }
-    ensures { λ r. ⌜ r ≡ at + length (now (src .entry)) ⌝ }
-    ensures { λ _. ⌜ now (out .exit) ≡ written (now (out .entry)) at (now (src .entry)) ⌝ }
-{
-    let mut i = 0;
-    while i < src.len() {
-        out[at + i] = src[i];
-        i += 1;
-    }
-    at + i
 }
 
 // A number of at most five digits.

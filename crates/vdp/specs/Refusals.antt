@@ -12,7 +12,7 @@ use Rattle.vdp.specs.declared.WriteDest.the-variants.{None, Vram, Cram}
 use Rattle.vdp.specs.declared.Latch.{Latch}
 use Rattle.vdp.specs.declared.Latch.the-variants.{Empty, Held}
 use Rattle.vdp.specs.declared.Refusal.{Refusal}
-use Rattle.vdp.specs.declared.Refusal.the-variants.{Accepted, UnknownPort, HorizontalCounter, HighRegister, NothingChosen, PaletteRead, NoPaletteByte, OutsideMemory, VramLength, PixelLength, BlockMalformed, UnknownArea, FrameTooLong, UnknownTile, CodesLength, HighCode, LayerLength, ListLength}
+use Rattle.vdp.specs.declared.Refusal.the-variants.{Accepted, UnknownPort, HorizontalCounter, HighRegister, NothingChosen, PaletteRead, NoPaletteByte, OutsideMemory, VramLength, PixelLength, BlockMalformed, UnknownArea, FrameTooLong, UnknownTile, CodesLength, HighCode, LayerLength, ListLength, RecordRoom}
 use Rattle.vdp.specs.Device.{unlatched}
 
 -- R2.1, R11.11: the number of each, 0 where the call is accepted
@@ -35,6 +35,7 @@ refusalNumber CodesLength = 14
 refusalNumber HighCode = 15
 refusalNumber LayerLength = 16
 refusalNumber ListLength = 17
+refusalNumber RecordRoom = 18
 
 -- R2.2: what it leaves of the device s: all as it was, or the command latch empty and nothing else changed
 abbrev pub leftBehind : Refusal → VdpState → VdpState
@@ -56,6 +57,7 @@ leftBehind CodesLength s = s
 leftBehind HighCode s = s
 leftBehind LayerLength s = s
 leftBehind ListLength s = s
+leftBehind RecordRoom s = s
 
 -- R2.1, a line of the table: a condition and the refusal that it gives
 pub record Line : Type 0 where

@@ -55,6 +55,7 @@ pub enum Refusal {
     HighCode,
     LayerLength,
     ListLength,
+    RecordRoom,
 }
 
 // The number of a refusal (R2.1).
@@ -81,6 +82,7 @@ pub fn refusal_number(refusal: Refusal) -> u8
         Refusal::HighCode => 15,
         Refusal::LayerLength => 16,
         Refusal::ListLength => 17,
+        Refusal::RecordRoom => 18,
     }
 }
 

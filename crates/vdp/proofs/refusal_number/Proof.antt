@@ -76,6 +76,9 @@ enum-told-17 c = search needs
 enum-told-18 : tie.Need-enum-told-18
 enum-told-18 c = search needs
 
+enum-told-19 : tie.Need-enum-told-19
+enum-told-19 c = search needs
+
 -- src/lib.rt:59:1
 returns : tie.Need-returns
 returns c = (rw (c .enum-told .given .1), omega arith)
@@ -147,6 +150,9 @@ returns-17 c = (rw (c .enum-told17 .given .1), omega arith)
 returns-18 : tie.Need-returns-18
 returns-18 c = (rw (c .enum-told18 .given .1), omega arith)
 
+returns-19 : tie.Need-returns-19
+returns-19 c = (rw (c .enum-told19 .given .1), omega arith)
+
 pub refusal-number-spec : {M : Type 1} → statement M
 refusal-number-spec =
     tie.close
@@ -169,6 +175,7 @@ refusal-number-spec =
     enum-told-16
     enum-told-17
     enum-told-18
+    enum-told-19
     returns
     returns-2
     returns-3
@@ -186,4 +193,5 @@ refusal-number-spec =
     returns-15
     returns-16
     returns-17
-    returns-18)
+    returns-18
+    returns-19)

@@ -13,7 +13,7 @@ use Rattle.recording.proofs.output.pictured.Reads as reads
 use Rattle.recording.proofs.output.pictured.Lts as lts
 use Rattle.recording.proofs.output.put_picture.Reads as put-picture-reads
 use Rattle.recording.proofs.run.frame_turn.Reads as frame-turn-reads
-use Rattle.recording.proofs.text.put_all.Reads as put-all-reads
+use Rattle.record.proofs.put_all.Reads as put-all-reads
 
 abbrev Inv-loop : tie.InvT-loop
 Inv-loop shown input vram₀ row₀ frame₀ out run₀ i₀ vram row frame run i =

@@ -10,7 +10,7 @@ use Rattle.recording.proofs.output.put_ppm.Statement.{statement}
 use Rattle.recording.proofs.output.put_ppm.Tie as tie
 use Rattle.recording.proofs.output.put_ppm.Reads as reads
 use Rattle.recording.proofs.output.put_ppm.Lts as lts
-use Rattle.recording.proofs.text.put_all.Reads as put-all-reads
+use Rattle.record.proofs.put_all.Reads as put-all-reads
 
 abbrev Inv-loop : tie.InvT-loop
 Inv-loop out₀ frame at₀ i₀ out at i =

@@ -16,7 +16,7 @@ use Rattle.recording.proofs.output.trace.Reads as reads
 use Rattle.recording.proofs.output.trace.Lts as lts
 use Rattle.recording.proofs.output.put_last.Reads as put-last-reads
 use Rattle.recording.proofs.run.row_turn.Reads as row-turn-reads
-use Rattle.recording.proofs.text.put_all.Reads as put-all-reads
+use Rattle.record.proofs.put_all.Reads as put-all-reads
 use Rattle.recording.proofs.text.put_answer.Reads as put-answer-reads
 
 abbrev Inv-loop : tie.InvT-loop

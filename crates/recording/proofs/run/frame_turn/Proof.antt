@@ -5,7 +5,7 @@ use Rattle.recording.proofs.run.frame_turn.Statement.{statement}
 use Rattle.recording.proofs.run.frame_turn.Tie as tie
 use Rattle.recording.proofs.run.frame_turn.Reads as reads
 use Rattle.recording.proofs.run.frame_turn.Lts as lts
-use Rattle.recording.proofs.record.record_at.Reads as record-at-reads
+use Rattle.record.proofs.record_at.Reads as record-at-reads
 use Rattle.recording.proofs.run.read_turn.Reads as read-turn-reads
 use Rattle.recording.proofs.run.step_turn.Reads as step-turn-reads
 use Rattle.recording.proofs.run.visible_turn.Reads as visible-turn-reads

@@ -8,7 +8,7 @@ use Rattle.recording.proofs.text.put_decimal.Tie as tie
 use Rattle.recording.proofs.text.put_decimal.Reads as reads
 use Rattle.recording.proofs.text.put_decimal.Lts as lts
 use Rattle.recording.proofs.text.digit.Reads as digit-reads
-use Rattle.recording.proofs.text.put_all.Reads as put-all-reads
+use Rattle.record.proofs.put_all.Reads as put-all-reads
 
 -- src/text.rt:45:35
 digit-requires : tie.Need-digit-requires

@@ -9,7 +9,7 @@ use Rattle.recording.proofs.text.put_numbered.Statement.{statement}
 use Rattle.recording.proofs.text.put_numbered.Tie as tie
 use Rattle.recording.proofs.text.put_numbered.Reads as reads
 use Rattle.recording.proofs.text.put_numbered.Lts as lts
-use Rattle.recording.proofs.text.put_all.Reads as put-all-reads
+use Rattle.record.proofs.put_all.Reads as put-all-reads
 use Rattle.recording.proofs.text.put_decimal.Reads as put-decimal-reads
 
 -- src/text.rt:118:9

@@ -14,7 +14,7 @@ use Rattle.recording.proofs.text.put_read.Reads as reads
 use Rattle.recording.proofs.text.put_read.Lts as lts
 use Rattle.recording.proofs.text.hex_digit.Reads as hex-digit-reads
 use Rattle.recording.proofs.text.number.Reads as number-reads
-use Rattle.recording.proofs.text.put_all.Reads as put-all-reads
+use Rattle.record.proofs.put_all.Reads as put-all-reads
 use Rattle.recording.proofs.text.put_decimal.Reads as put-decimal-reads
 
 -- src/text.rt:128:30

@@ -17,7 +17,7 @@ use Rattle.recording.proofs.text.digit.Reads as digit-reads
 use Rattle.recording.proofs.text.hex_digit.Reads as hex-digit-reads
 use Rattle.recording.proofs.text.interrupt_number.Reads as interrupt-number-reads
 use Rattle.recording.proofs.text.number.Reads as number-reads
-use Rattle.recording.proofs.text.put_all.Reads as put-all-reads
+use Rattle.record.proofs.put_all.Reads as put-all-reads
 use Rattle.recording.proofs.text.put_decimal.Reads as put-decimal-reads
 use Rattle.recording.proofs.text.report_number.Reads as report-number-reads
 

@@ -5,10 +5,10 @@ use native.Mathlib.Omega.{arith}
 use lib.ListN.{length, length-set}
 use lib.Seq.{paste, paste-zero}
 use Rattle.laws.proofs.Lists.{fill-step, written-whole}
-use Rattle.recording.proofs.text.put_all.Statement.{statement}
-use Rattle.recording.proofs.text.put_all.Tie as tie
-use Rattle.recording.proofs.text.put_all.Reads as reads
-use Rattle.recording.proofs.text.put_all.Lts as lts
+use Rattle.record.proofs.put_all.Statement.{statement}
+use Rattle.record.proofs.put_all.Tie as tie
+use Rattle.record.proofs.put_all.Reads as reads
+use Rattle.record.proofs.put_all.Lts as lts
 
 abbrev Inv-loop : tie.InvT-loop
 Inv-loop out₀ at src i₀ out i = (i ≤ length src) × (out ≡ paste out₀ at src i) × (length out ≡ length out₀)

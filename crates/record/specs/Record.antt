@@ -1,4 +1,4 @@
--- R7.9: the records of a recording.
+-- R7.9: the records of a recording, as they are read.
 -- Assumes nothing.
 use mathlib.Core.Bool.{cond}
 use mathlib.Core.List.{List}
@@ -7,8 +7,8 @@ use lib.Dec.{ltb, leb, eqb}
 use lib.ListN.{length}
 use Rattle.laws.specs.Lists.{at}
 use Rattle.picture.specs.Area.{areaFrom}
-use Rattle.recording.specs.declared.record.Record.{Record}
-use Rattle.recording.specs.declared.record.Record.the-variants.{Write, Read, Step, Bad, End}
+use Rattle.record.specs.declared.Record.{Record}
+use Rattle.record.specs.declared.Record.the-variants.{Write, Read, Step, Bad, End}
 
 -- the record of the mark m, `PW`, `PR` or `LS`, at offset k, with n bytes from there to the end;
 -- R7.11: one with another mark, an area above 1 or bytes missing is bad

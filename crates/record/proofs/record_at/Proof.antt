@@ -1,13 +1,13 @@
 use borrow.Author.Needs.{needs}
 use borrow.Author.Tests.{lt-ltb, le-ltb, le-leb, lt-leb, ne-eqb}
 use mathlib.Core.Path.{sym}
-use Rattle.recording.specs.Record.{recordAt, marked}
-use Rattle.recording.proofs.record.record_at.Statement.{statement}
-use Rattle.recording.proofs.record.record_at.Tie as tie
-use Rattle.recording.proofs.record.record_at.Reads as reads
-use Rattle.recording.proofs.record.record_at.Lts as lts
+use Rattle.record.specs.Record.{recordAt, marked}
+use Rattle.record.proofs.record_at.Statement.{statement}
+use Rattle.record.proofs.record_at.Tie as tie
+use Rattle.record.proofs.record_at.Reads as reads
+use Rattle.record.proofs.record_at.Lts as lts
 use Rattle.picture.proofs.area_from.Reads as area-from-reads
-use Rattle.recording.proofs.record.word.Reads as word-reads
+use Rattle.record.proofs.word.Reads as word-reads
 
 -- src/record.rt:37:9
 returns : tie.Need-returns
