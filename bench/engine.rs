@@ -160,6 +160,7 @@ impl Engine for Rust {
         let area = match self.area {
             Area::Visible => gears::RenderArea::VisibleOnly,
             Area::Effective => gears::RenderArea::EffectiveArea,
+            Area::TrueEdges => panic!("an area that the Rust has not"),
         };
         for _ in 0..STEPS {
             self.vdp.step(&mut self.frame, area);

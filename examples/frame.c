@@ -270,6 +270,37 @@ static void layers_of_a_row(void)
           "the same by a row step");
 }
 
+/* True edges: with the early clock a sprite at X 208 has its eight columns at 152 to 159; the visible area leaves it out. */
+static void true_edges(void)
+{
+    uint8_t copy[VDP_STATE_SIZE], row[VDP_VISIBLE_ROW_SIZE], plain[VDP_VISIBLE_ROW_SIZE];
+    unsigned sprite = 0, same = 0;
+
+    set_up();
+    framed_tile(1, 1, 1);
+    framed_tile(2, 3, 3);
+    set_colour(1, 2, 4, 8);   /* background */
+    set_colour(19, 15, 3, 3); /* the sprite */
+    set_register(0, 0x08);
+    at_video(0x3F00);
+    out(VDP_PORT_DATA, 23);
+    out(VDP_PORT_DATA, 0xD0);
+    at_video(0x3F80);
+    out(VDP_PORT_DATA, 208);
+    out(VDP_PORT_DATA, 2);
+    state[VDP_AT_COUNTER] = 23;
+    memcpy(copy, state, sizeof state);
+    check(vdp_row(vdp_row_step(copy, sizeof copy, vram, sizeof vram, plain, sizeof plain, VDP_VISIBLE)) == 0
+              && vdp_drawn(vdp_row_step(state, sizeof state, vram, sizeof vram, row, sizeof row, VDP_TRUE_EDGES)),
+          "row 0 by the visible area, and with true edges");
+    for (unsigned x = 0; x < VDP_VISIBLE_WIDTH; x++) {
+        uint64_t pixel = vdp_pixel(state, sizeof state, vram, sizeof vram, VDP_TRUE_EDGES, 0, x);
+        sprite += x >= 152 && row[4 * x] == 17 * 15 && plain[4 * x] == 17 * 2 && vdp_red(pixel) == 17 * 15;
+        same += x < 152 && memcmp(row + 4 * x, plain + 4 * x, 4) == 0;
+    }
+    check(sprite == 8 && same == 152, "X 208 with the early clock shows at columns 152 to 159, and with true edges alone");
+}
+
 /* The lines that the counter reads in a pass of this many steps, from line 0 on: are they those of the table? */
 static int pass_is(unsigned steps, unsigned last_before_the_jump)
 {
@@ -312,7 +343,7 @@ static void refusals(void)
     check(vdp_new(state, VDP_OLD_STATE_SIZE) == VDP_REFUSED_BLOCK, "a block that has no room for a table is refused (10)");
     vdp_new(state, sizeof state);
     memcpy(kept, state, sizeof state);
-    check(vdp_step(state, sizeof state, vram, sizeof vram, frame, sizeof frame, 2) == VDP_REFUSED_AREA, "area 2 is refused (11)");
+    check(vdp_step(state, sizeof state, vram, sizeof vram, frame, sizeof frame, 3) == VDP_REFUSED_AREA, "area 3 is refused (11)");
     check(vdp_step(state, sizeof state, vram, sizeof vram - 1, frame, sizeof frame, VDP_VISIBLE) == VDP_REFUSED_VRAM_LENGTH,
           "short video memory is refused (8)");
     check(vdp_step(state, sizeof state, vram, sizeof vram, frame, sizeof frame - 1, VDP_VISIBLE) == VDP_REFUSED_PIXELS_LENGTH,
@@ -345,6 +376,7 @@ int main(int count, char **words)
     cursor_on_a_frame();
     authors_question();
     layers_of_a_row();
+    true_edges();
     tables();
     refusals();
     printf("frame: %s\n", mistakes ? "mistakes were found" : "all as it should be");

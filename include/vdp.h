@@ -41,7 +41,7 @@ extern "C" {
 /* The number of this face, 65536 * major + 256 * minor + small; vdp_version() gives that of the library at hand. Major goes
  * up where a program that was right may have to change, minor where calls are added, small where neither is so. */
 #define VDP_VERSION_MAJOR 4
-#define VDP_VERSION_MINOR 4
+#define VDP_VERSION_MINOR 5
 #define VDP_VERSION_SMALL 0
 #define VDP_VERSION (65536 * VDP_VERSION_MAJOR + 256 * VDP_VERSION_MINOR + VDP_VERSION_SMALL)
 
@@ -52,7 +52,7 @@ extern "C" {
 #define VDP_STATE_SIZE           220    /* a state block of the second version */
 #define VDP_OLD_STATE_SIZE       219    /* of the first, which holds a device of VDP_OLD_TABLE alone */
 #define VDP_VRAM_SIZE            16384
-#define VDP_VISIBLE_FRAME_SIZE   92160  /* 160 x 144 pixels of 4 bytes */
+#define VDP_VISIBLE_FRAME_SIZE   92160  /* 160 x 144 pixels of 4 bytes; of VDP_TRUE_EDGES too, as are the other visible sizes */
 #define VDP_EFFECTIVE_FRAME_SIZE 229376 /* 256 x 224 pixels of 4 bytes */
 #define VDP_VISIBLE_ROW_SIZE     640
 #define VDP_EFFECTIVE_ROW_SIZE   1024
@@ -85,6 +85,8 @@ extern "C" {
 /* Areas. */
 #define VDP_VISIBLE   0 /* the handheld's 160 x 144 window: row r is drawn by the step that sets the counter to r + 24 */
 #define VDP_EFFECTIVE 1 /* the whole 256 x 224 screen: row r is drawn by the step that sets the counter to r */
+#define VDP_TRUE_EDGES 2 /* the window with true edges, in the sizes and rows of VDP_VISIBLE: priority and collision go by the screen column, also at a
+                          * scrolled left edge, and a sprite's pixels show wherever they fall on the screen, X 208 to 215 with the early clock too */
 
 /* Ports. Only the low byte of a port number counts. */
 #define VDP_PORT_LINE    0x7E /* read: the line counter */
@@ -108,7 +110,7 @@ extern "C" {
 #define VDP_REFUSED_VRAM_LENGTH   8  /* video memory not exactly VDP_VRAM_SIZE bytes: unchanged */
 #define VDP_REFUSED_PIXELS_LENGTH 9  /* frame or row too short, or sheet not exactly VDP_TILESET_SIZE bytes: unchanged */
 #define VDP_REFUSED_BLOCK         10 /* state block malformed: unchanged */
-#define VDP_REFUSED_AREA          11 /* area number above 1: unchanged */
+#define VDP_REFUSED_AREA          11 /* area number above 2: unchanged */
 #define VDP_REFUSED_FRAME_LONG    12 /* frame longer than its area's size: unchanged */
 #define VDP_REFUSED_TILE          13 /* tile number above 511: unchanged */
 #define VDP_REFUSED_CODES_LENGTH  14 /* codes not exactly VDP_TILE_CODES bytes: unchanged */

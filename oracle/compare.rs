@@ -39,8 +39,8 @@ pub struct Counts {
     kinds: BTreeMap<&'static str, u64>,
     /// By number, 0 where the call was accepted.
     refusals: [u64; 17],
-    rows: [u64; 2],
-    /// Departures from the Rust, and what was met of tables, versions and layers, by name.
+    rows: [u64; 3],
+    /// Departures from the Rust, and what was met of tables, versions, layers and true edges, by name.
     met: BTreeMap<&'static str, u64>,
     told: Option<Instant>,
 }
@@ -54,7 +54,7 @@ impl Counts {
         if met.word >> 24 == 1 {
             self.rows[call.value as usize] += 1;
         }
-        for name in met.departure.iter().chain(&met.tables).chain(&met.layers) {
+        for name in met.departure.iter().chain(&met.tables).chain(&met.layers).chain(&met.edges) {
             *self.met.entry(name).or_insert(0) += 1;
         }
     }
@@ -78,10 +78,11 @@ impl Counts {
         }
         println!("{:>10}  visible rows drawn", self.rows[0]);
         println!("{:>10}  effective rows drawn", self.rows[1]);
+        println!("{:>10}  rows drawn with true edges", self.rows[2]);
         for number in ANSWERS {
             println!("{:>10}  answered {}", self.refusals[number], number);
         }
-        for name in world::TABLES.iter().chain(&world::LAYERS) {
+        for name in world::TABLES.iter().chain(&world::LAYERS).chain(&world::EDGES) {
             println!("{:>10}  {}", self.met.get(name).unwrap_or(&0), name);
         }
         println!("{:>10}  calls also beside the Rust", self.beside_rust);
@@ -98,7 +99,7 @@ impl Counts {
                 unmet.push(format!("answer {}", number));
             }
         }
-        for name in world::DEPARTURES.iter().chain(&world::TABLES).chain(&world::LAYERS) {
+        for name in world::DEPARTURES.iter().chain(&world::TABLES).chain(&world::LAYERS).chain(&world::EDGES) {
             if !self.met.contains_key(name) {
                 unmet.push(name.to_string());
             }
@@ -107,7 +108,7 @@ impl Counts {
     }
 }
 
-/// A run of this many calls or more must meet every refusal, every departure, and all that there is of tables, versions and layers.
+/// A run of this many calls or more must meet every refusal, every departure, and all that there is of tables, versions, layers and true edges.
 const LONG_RUN: u64 = 100_000;
 
 /// Random sessions; answers the number of differences (it stops at the first).

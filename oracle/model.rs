@@ -8,11 +8,12 @@ pub const BLOCK_SIZE: usize = 220;
 pub const VIDEO_SIZE: usize = 16_384;
 pub const SHEET_SIZE: usize = 131_072;
 
-/// Steps of the two areas: 0 visible, 1 effective.
+/// Steps of the three areas: 0 visible, 1 effective, 2 visible with true edges.
 #[derive(Clone, Copy, PartialEq, Debug)]
 pub enum Area {
     Visible,
     Effective,
+    TrueEdges,
 }
 
 impl Area {
@@ -20,18 +21,19 @@ impl Area {
         match n {
             0 => Some(Area::Visible),
             1 => Some(Area::Effective),
+            2 => Some(Area::TrueEdges),
             _ => None,
         }
     }
     pub fn width(self) -> usize {
         match self {
-            Area::Visible => 160,
+            Area::Visible | Area::TrueEdges => 160,
             Area::Effective => 256,
         }
     }
     pub fn height(self) -> usize {
         match self {
-            Area::Visible => 144,
+            Area::Visible | Area::TrueEdges => 144,
             Area::Effective => 224,
         }
     }
@@ -46,7 +48,7 @@ impl Area {
     /// The line that row 0 shows.
     pub fn first_line(self) -> usize {
         match self {
-            Area::Visible => 24,
+            Area::Visible | Area::TrueEdges => 24,
             Area::Effective => 0,
         }
     }
@@ -139,6 +141,19 @@ pub struct Notes {
     pub past_edge: bool,
     /// What was met of layers (R15.1, R15.2).
     pub owners: Owners,
+    /// What was met of true edges (R18.2).
+    pub edges: Edges,
+}
+
+/// Pixels of a row with true edges.
+#[derive(Clone, Default, Debug)]
+pub struct Edges {
+    /// One was left of the screen.
+    pub cut_left: bool,
+    /// One was right of it.
+    pub cut_right: bool,
+    /// One of a sprite with the early clock and X 208 or more was drawn.
+    pub late: bool,
 }
 
 /// Columns of a drawn row that are nobody's alone.
@@ -410,11 +425,11 @@ impl Device {
 
     fn background(&self, video: &[u8], area: Area, row: usize, picture: &mut Picture, priority: &mut [bool; 256]) {
         let map = |x: usize| match area {
-            Area::Visible => (x + 304 - self.registers[8] as usize) % 256,
+            Area::Visible | Area::TrueEdges => (x + 304 - self.registers[8] as usize) % 256,
             Area::Effective => x,
         };
         let map_y = match area {
-            Area::Visible => (row + 24 + self.vertical_scroll as usize) % 224,
+            Area::Visible | Area::TrueEdges => (row + 24 + self.vertical_scroll as usize) % 224,
             Area::Effective => row,
         };
         // Pixels cut off the first tile by the scroll (R5.5).
@@ -431,7 +446,8 @@ impl Device {
             picture.colour[x] = if bit(flags, 3) { 16 + code } else { code };
             if bit(flags, 4) && code != 0 {
                 let in_first = x < 8 - cut;
-                let place = if in_first { (x + 256 - cut) % 256 } else { x };
+                // with true edges a mark is at its own column (R18.1)
+                let place = if in_first && area != Area::TrueEdges { (x + 256 - cut) % 256 } else { x };
                 priority[place] = true;
             }
         }
@@ -486,13 +502,23 @@ impl Device {
                     marks.push(place);
                     continue;
                 }
-                let column = pixel - stand.start;
-                let shown = stand.x + column;
+                let (shown, tested, place) = if area == Area::TrueEdges {
+                    match self.true_column(x_byte, pixel) {
+                        Some(column) => (column, column, column),
+                        None => {
+                            notes.edges.cut_left |= x_byte < 56;
+                            notes.edges.cut_right |= x_byte > 199;
+                            continue;
+                        }
+                    }
+                } else {
+                    let column = pixel - stand.start;
+                    let tested = (stand.x + 256 - stand.start + column) % 256;
+                    (stand.x + column, tested, (x_byte + column) % 256)
+                };
                 if shown > 255 {
                     notes.past_edge = true;
                 }
-                let tested = (stand.x + 256 - stand.start + column) % 256;
-                let place = (x_byte + column) % 256;
                 let owners = &mut notes.owners;
                 if priority[tested] {
                     // Of the column where it would have shown, whatever the sprite mask has; a sprite that was drawn there keeps it.
@@ -514,6 +540,7 @@ impl Device {
                 } else {
                     owners.held_then_drawn |= picture.layer[shown] == 1;
                     owners.drawn_twice |= picture.layer[shown] > 1;
+                    notes.edges.late |= area == Area::TrueEdges && x_byte >= 208;
                     picture.colour[shown] = 16 + code_at(pixel);
                     picture.layer[shown] = 64 + n as u8;
                 }
@@ -540,7 +567,15 @@ impl Device {
                 }
             }
             Area::Effective => Stand { seen: true, x: (x_byte + 256 - early) % 256, start: 0, end: 8 },
+            // each pixel by its own column
+            Area::TrueEdges => Stand { seen: true, x: 0, start: 0, end: 8 },
         }
+    }
+
+    /// The screen column of a sprite's pixel with true edges, if it is on the screen (R18.2).
+    fn true_column(&self, x_byte: usize, pixel: usize) -> Option<usize> {
+        let early = if bit(self.registers[0], 3) { 8 } else { 0 };
+        (0..160).find(|column| column + 48 + early == x_byte + pixel)
     }
 
     /// One pixel of the row as it would be drawn now (R16.1 to R16.3): its four bytes, if there is a pixel, or the refusal.

@@ -1,7 +1,7 @@
 //! Holds the call of one pixel beside the library's own row step and beside the rules written a second time; needs the library, and not the
 //! published Rust.
 //!
-//!   pixels STATES SEED     on so many random states every pixel of both areas beside the row step, before and after it, and one of each row
+//!   pixels STATES SEED     on so many random states every pixel of all areas beside the row step, before and after it, and one of each row
 //!                          beside the model; then rows and columns outside, and every refusal
 //!
 //! Exit status 1 on any difference, 2 on bad usage.
@@ -101,7 +101,7 @@ fn beside_model(counts: &mut Counts, state: &[u8], video: &[u8], area: u8, row: 
     Ok(())
 }
 
-/// Rows and columns at the edges of the areas and far outside, areas above 1, memories and blocks of other lengths, blocks with a byte changed.
+/// Rows and columns at the edges of the areas and far outside, areas above 2, memories and blocks of other lengths, blocks with a byte changed.
 fn limits(counts: &mut Counts, random: &mut Random, block: &[u8], video: &[u8]) -> Result<(), String> {
     let places: Vec<u32> = vec![0, 1, 143, 144, 145, 159, 160, 161, 223, 224, 225, 255, 256, 257, 511, 65536, 1 << 31, u32::MAX];
     let mut long = video.to_vec();
@@ -122,7 +122,7 @@ fn limits(counts: &mut Counts, random: &mut Random, block: &[u8], video: &[u8]) 
     for at in 0..block.len() {
         let mut other = block.to_vec();
         other[at] = random.byte();
-        beside_model(counts, &other, video, random.below(3) as u8, random.below(150) as u32, random.below(170) as u32)?;
+        beside_model(counts, &other, video, random.below(4) as u8, random.below(150) as u32, random.below(170) as u32)?;
         beside_model(counts, &block[..at], video, 0, 0, 0)?;
     }
     Ok(())
@@ -136,6 +136,7 @@ fn run(states: u64, seed: u64) -> i32 {
         let (block, video) = state(&mut random);
         done = area_of(&mut counts, &mut random, &block, &video, Area::Visible, 0)
             .and_then(|()| area_of(&mut counts, &mut random, &block, &video, Area::Effective, 1))
+            .and_then(|()| area_of(&mut counts, &mut random, &block, &video, Area::TrueEdges, 2))
             .and_then(|()| if n < 20 { limits(&mut counts, &mut random, &block, &video) } else { Ok(()) });
         if let Err(text) = &done {
             println!("difference: state {}: {}", n, text);

@@ -41,7 +41,7 @@ impl Run {
         Run { device: Device::made(table), video: vec![0; VIDEO_SIZE], row: [0; 1024], owners, text: String::new(), records: 0 }
     }
 
-    /// One record; a visible step draws in the frame where there is one.
+    /// One record; a step of the visible size draws in the frame where there is one.
     fn record(&mut self, record: Record, frame: Option<&mut [u8]>) {
         let line = match record {
             Record::Write { port, value } => {
@@ -54,7 +54,7 @@ impl Run {
             Record::Step { area } => {
                 let mut notes = Notes::default();
                 let stepped = match (area, frame) {
-                    (Area::Visible, Some(frame)) => {
+                    (Area::Visible | Area::TrueEdges, Some(frame)) => {
                         let mut layers = [0; 160];
                         let stepped = self.device.layer_frame_step(&self.video, frame, &mut layers, area, &mut notes);
                         if let Ok(Stepped { row: Some(row), .. }) = stepped {
@@ -129,7 +129,7 @@ fn picture(table: Table, input: &[u8], pixels: impl FnOnce(Run, Vec<u8>) -> Vec<
     bytes
 }
 
-/// The bytes that `snapshot` writes: the picture of the visible frame.
+/// The bytes that `snapshot` writes: the picture of the visible frame (R7.13, R18.5).
 pub fn snapshot_bytes(table: Table, input: &[u8]) -> Vec<u8> {
     picture(table, input, |_, frame| frame.chunks(4).flat_map(|pixel| pixel[..3].to_vec()).collect())
 }

@@ -19,7 +19,7 @@ fn right_calls() -> Vec<Call> {
         calls.push(Call::input(port));
         calls.push(Call::out(port, 0x8B));
     }
-    for area in [Area::Visible, Area::Effective] {
+    for area in [Area::Visible, Area::Effective, Area::TrueEdges] {
         calls.push(Call::step(area));
         calls.push(Call::row_step(area, 0));
         calls.push(Call::step(area).with_layers(area.width()));
@@ -79,7 +79,7 @@ fn spoiled_calls() -> Vec<Call> {
             }
         }
         if steps {
-            for area in 2..=255 {
+            for area in 3..=255 {
                 // a buffer that does for the visible area
                 let pixels_len = if right.kind == Kind::Step { Area::Visible.frame_size() } else { 1024 };
                 calls.push(Call { value: area, pixels_len, ..right.clone() });
@@ -95,7 +95,7 @@ fn spoiled_calls() -> Vec<Call> {
                 call.poke = Some((15, 2));
             }
             if several & 2 != 0 && steps {
-                call.value = 2;
+                call.value = 3;
                 call.pixels_len = call.pixels_len.min(Area::Visible.frame_size());
             }
             if several & 4 != 0 {

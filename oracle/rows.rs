@@ -1,5 +1,5 @@
 //! Rows made to meet every rule of the picture: each X with and without the early clock, both heights, both pattern bases,
-//! every scroll modulo 8, with sprites that overlap and priority tiles under them; each in one of the block's versions with table 0,
+//! every scroll modulo 8, in each area, with sprites that overlap and priority tiles under them; each in one of the block's versions with table 0,
 //! and every fourth also with table 1. Each is drawn without layers and with them.
 
 use rules::model::{self, Area, Device, VIDEO_SIZE};
@@ -15,8 +15,8 @@ pub fn run(seed: u64, side: Ours) -> u64 {
     let mut random = Random::new(seed);
     let mut world = World::new(side, seed);
     let mut counts = Counts::default();
-    let total = 2 * (2 * 256 * 2 * 2 * 2 * 8 / 4 * 5);
-    for area in [Area::Visible, Area::Effective] {
+    let total = 2 * (3 * 256 * 2 * 2 * 2 * 8 / 4 * 5);
+    for area in [Area::Visible, Area::Effective, Area::TrueEdges] {
         for x in 0..=255u8 {
             for shape in 0..64u8 {
                 let (early, tall, high, scroll) = (shape & 1, shape >> 1 & 1, shape >> 2 & 1, shape >> 3);
@@ -51,7 +51,7 @@ pub fn run(seed: u64, side: Ours) -> u64 {
 fn scene(random: &mut Random, (size, table): Shape, area: Area, x: u8, [early, tall, high, scroll]: [u8; 4]) -> (Vec<u8>, Vec<u8>) {
     let mut device = Device::made(table);
     let line = match area {
-        Area::Visible => 24 + random.below(144),
+        Area::Visible | Area::TrueEdges => 24 + random.below(144),
         Area::Effective => random.below(224),
     } as u8;
     device.counter = line.wrapping_sub(1);

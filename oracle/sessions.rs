@@ -181,10 +181,19 @@ pub fn any_call(random: &mut Random) -> Call {
         return any_new(random);
     }
     let call = usual_call(random);
+    let call = if random.chance(1, 2) { edged(call) } else { call };
     if random.chance(2, 5) {
         layered(random, call)
     } else {
         call
+    }
+}
+
+/// The same call; if a visible step, one with true edges.
+fn edged(call: Call) -> Call {
+    match (call.kind, Area::from_number(call.value)) {
+        (Kind::Step | Kind::RowStep, Some(Area::Visible)) => Call { value: Area::TrueEdges as u8, ..call },
+        _ => call,
     }
 }
 
@@ -269,7 +278,7 @@ pub fn spoil(random: &mut Random, call: &mut Call) {
             }
             3 if matches!(call.kind, Kind::Step | Kind::RowStep) => {
                 // the buffers stay those of the visible area
-                call.value = 2 + random.below(254) as u8;
+                call.value = 3 + random.below(253) as u8;
                 let room = if call.kind == Kind::Step { Area::Visible.frame_size() } else { 1024 };
                 call.pixels_len = call.pixels_len.min(room + EXTRA);
             }
@@ -305,14 +314,21 @@ pub fn spoil_layers(random: &mut Random, call: &mut Call) {
 /// The calls of a long session from a fresh device, made a few at a time.
 pub struct Session {
     random: Random,
-    /// What devices are made anew by, and which steps ask for layers, apart from all else.
+    /// What devices are made anew by, and which steps ask for layers or for true edges, apart from all else.
     anew: Random,
+    /// Whether any ask for true edges.
+    edges: bool,
     queue: VecDeque<Call>,
 }
 
 impl Session {
     pub fn new(seed: u64) -> Session {
-        Session { random: Random::new(seed), anew: Random::new(!seed), queue: VecDeque::new() }
+        Session { random: Random::new(seed), anew: Random::new(!seed), edges: true, queue: VecDeque::new() }
+    }
+
+    /// The same session in the areas that the Rust has.
+    pub fn of_the_rust(seed: u64) -> Session {
+        Session { edges: false, ..Session::new(seed) }
     }
 
     /// The next call, given the state that it will meet.
@@ -323,6 +339,9 @@ impl Session {
         let mut call = self.queue.pop_front().expect("a planned call");
         if self.random.chance(1, 200) {
             spoil(&mut self.random, &mut call);
+        }
+        if self.anew.chance(1, 3) && self.edges {
+            call = edged(call);
         }
         if self.anew.chance(1, 3) {
             call = layered(&mut self.anew, call);

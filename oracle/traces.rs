@@ -80,7 +80,7 @@ fn of_length(random: &mut Random, table: Table, length: usize) -> Vec<u8> {
 fn fixed(random: &mut Random, table: Table) -> Vec<Vec<u8>> {
     let mut all = vec![Vec::new(), EXAMPLE.to_vec()];
     for tail in [
-        &b"P"[..], b"PW", b"PW\xBF", b"PR", b"L", b"LS", b"LS\x02", b"LS\xFF", b"XX", b"Pw\xBF\x00", b"LR\x00", b"PS\x00", b"\x00", b"\n", b"LS\x02PR\x7E",
+        &b"P"[..], b"PW", b"PW\xBF", b"PR", b"L", b"LS", b"LS\x03", b"LS\xFF", b"XX", b"Pw\xBF\x00", b"LR\x00", b"PS\x00", b"\x00", b"\n", b"LS\x03PR\x7E",
     ] {
         for records in [0, 1, 2, 50] {
             let mut trace = whole(random, table, records);

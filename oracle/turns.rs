@@ -49,7 +49,7 @@ fn of_row(device: &Device, video: &[u8], area: Area, row: usize) -> usize {
 /// A tile begins at the row's first column, and wherever the map's x is a multiple of eight (R5.1, R5.2).
 fn of_background(device: &Device, area: Area) -> usize {
     let tiles = match area {
-        Area::Visible => (0..160).filter(|x| *x == 0 || (x + 304 - device.registers[8] as usize) % 8 == 0).count(),
+        Area::Visible | Area::TrueEdges => (0..160).filter(|x| *x == 0 || (x + 304 - device.registers[8] as usize) % 8 == 0).count(),
         Area::Effective => 32,
     };
     (2 + 4) * tiles

@@ -41,7 +41,7 @@ pub fn write(count: u64, seed: u64) -> u64 {
             return 1;
         }
     }
-    let mut session = Session::new(seed);
+    let mut session = Session::of_the_rust(seed);
     while (recorder.list.len() / 16) < count as usize {
         let mut call = session.next(&recorder.block);
         let port_call = matches!(call.kind, Kind::Out | Kind::Input);

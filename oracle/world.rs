@@ -245,6 +245,8 @@ pub struct Met {
     pub tables: Vec<&'static str>,
     /// What there was of layers.
     pub layers: Vec<&'static str>,
+    /// What there was of true edges.
+    pub edges: Vec<&'static str>,
 }
 
 pub const EARLY_CLOCK: &str = "early clock, X 41 to 48 (Rust asserts)";
@@ -277,6 +279,18 @@ pub const LAYERS: [&str; 10] = [
     "layers: held back off the row",
     "layers: held back by another place of the mask than its column",
 ];
+
+pub const EDGES: [&str; 3] = [
+    "true edges: a pixel left of the screen",
+    "true edges: a pixel right of the screen",
+    "true edges: early clock, X 208 to 215 drawn",
+];
+
+/// What a row has met of true edges.
+fn of_edges(notes: &Notes) -> Vec<&'static str> {
+    let met = [notes.edges.cut_left, notes.edges.cut_right, notes.edges.late];
+    EDGES.iter().zip(met).filter(|(_, met)| *met).map(|(name, _)| *name).collect()
+}
 
 /// What a row has met of layers, which are these bytes.
 fn of_layers(layers: &[u8], notes: &Notes) -> Vec<&'static str> {
@@ -436,7 +450,7 @@ impl World {
             (Some(_), Some(area)) if word >> 24 == 1 => of_layers(self.model.layers.part(area.width()), &notes),
             _ => Vec::new(),
         };
-        let mut met = Met { word, tables, layers, ..Met::default() };
+        let mut met = Met { word, tables, layers, edges: of_edges(&notes), ..Met::default() };
         if word % 256 == 9 {
             met.departure = Some(SHORT);
         }
@@ -448,7 +462,12 @@ impl World {
                 // What was lent is the block that stands there now.
                 self.size = size;
                 // Refusals 8 to 12 and 16 have no counterpart in the Rust: what it has can be neither damaged nor of another length.
-                if word % 256 < 8 && device.table == Table::Steps261 {
+                let edges = matches!(c.kind, Kind::Step | Kind::RowStep) && Area::from_number(c.value) == Some(Area::TrueEdges);
+                if word % 256 == 0 && edges {
+                    // Nor has it true edges: it goes on from the model's state and frame.
+                    self.reload();
+                    self.lay(c, word);
+                } else if word % 256 < 8 && device.table == Table::Steps261 {
                     met.beside_rust = true;
                     met.departure = match &before {
                         Some(before) => self.beside_rust(c, before, word, &notes)?,
@@ -622,6 +641,7 @@ pub fn rust_area(area: Area) -> RenderArea {
     match area {
         Area::Visible => RenderArea::VisibleOnly,
         Area::Effective => RenderArea::EffectiveArea,
+        Area::TrueEdges => panic!("an area that the Rust has not"),
     }
 }
 

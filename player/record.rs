@@ -61,7 +61,7 @@ impl Run {
     /// A step, and the counter after it, which the player reads as a game does.
     fn step(&mut self, area: RenderArea) {
         let frame = match area {
-            RenderArea::VisibleOnly => &mut self.frame,
+            RenderArea::VisibleOnly | RenderArea::TrueEdges => &mut self.frame,
             RenderArea::EffectiveArea => &mut self.other,
         };
         let (interrupt, refresh) = self.vdp.step(frame, area);
@@ -144,7 +144,11 @@ fn main() {
             }
             _ => {}
         }
-        let area = if random.below(16) == 0 { RenderArea::EffectiveArea } else { RenderArea::VisibleOnly };
+        let area = match random.below(16) {
+            0 => RenderArea::EffectiveArea,
+            1 | 2 => RenderArea::TrueEdges,
+            _ => RenderArea::VisibleOnly,
+        };
         run.step(area);
     }
 

@@ -241,7 +241,7 @@ mod tests {
     #[test]
     fn other_frames_do_not_stop() {
         // R2.3: a whole pass on a frame that is one byte short, or one too long, or the other area's: nothing is reported, drawn or moved
-        let (visible, effective) = (RenderArea::VisibleOnly, RenderArea::EffectiveArea);
+        let (visible, effective, edges) = (RenderArea::VisibleOnly, RenderArea::EffectiveArea, RenderArea::TrueEdges);
         for (area, size, lent, number) in [
             (visible, VISIBLE, VISIBLE - 1, 9),
             (visible, VISIBLE, VISIBLE + 1, 12),
@@ -249,6 +249,8 @@ mod tests {
             (effective, EFFECTIVE, VISIBLE, 9),
             (effective, EFFECTIVE, EFFECTIVE - 1, 9),
             (effective, EFFECTIVE, EFFECTIVE + 1, 12),
+            (edges, VISIBLE, VISIBLE - 1, 9),
+            (edges, VISIBLE, EFFECTIVE, 12),
         ] {
             let (vdp, other) = (used(), used());
             let mut frame = vec![7; lent];
@@ -265,6 +267,29 @@ mod tests {
             // and it goes on: the next line is the one after the 30
             assert!(matches!(vdp.step(&mut vec![7; size], area), (VdpInt::InterruptGenerated, DisplayRefresh::NoDisplay)));
             assert_eq!((vdp.last_refusal(), vdp.input(LINE, 0)), (0, Ok(31)));
+        }
+    }
+
+    #[test]
+    fn true_edges() {
+        // R18.2: with the early clock a sprite at X 210, solid in colour 31, shows in columns 154 to 159, and in the visible area not at all
+        for (area, shown) in [(RenderArea::VisibleOnly, 0), (RenderArea::TrueEdges, 6 * 8)] {
+            let vdp = Vdp::new();
+            commands(&vdp, &[0x08, 0x80, 0x00, 0x60]);
+            writes(&vdp, &[0xFF; 32]);
+            commands(&vdp, &[0x00, 0x7F]);
+            writes(&vdp, &[23, 0xD0]);
+            commands(&vdp, &[0x80, 0x7F]);
+            writes(&vdp, &[210, 0]);
+            commands(&vdp, &[0x3E, 0xC0]);
+            writes(&vdp, &[0x0F, 0x00]);
+            let mut frame = vec![0; VISIBLE];
+            for _ in 0..262 {
+                vdp.step(&mut frame, area);
+            }
+            let red: Vec<usize> = (0..VISIBLE / 4).filter(|at| frame[4 * at] == 0xFF).collect();
+            assert_eq!(red.len(), shown);
+            assert!(red.iter().all(|at| at % 160 >= 154 && at / 160 < 8));
         }
     }
 

@@ -57,6 +57,8 @@ extern "C" {
 pub enum RenderArea {
     VisibleOnly,
     EffectiveArea,
+    /// An addition of ours: the visible part with its edges by true columns.
+    TrueEdges,
 }
 
 #[derive(Debug)]
@@ -169,6 +171,7 @@ impl Vdp {
         let area = match render_area {
             RenderArea::VisibleOnly => 0,
             RenderArea::EffectiveArea => 1,
+            RenderArea::TrueEdges => 2,
         };
         // Sound: three live slices that do not overlap.
         let answer = unsafe {

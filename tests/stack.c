@@ -47,23 +47,23 @@ static void make_out(void) { vdp_out(state, sizeof state, vram, sizeof vram - (n
 static void make_input(void) { vdp_input(state, sizeof state, vram, sizeof vram - (next() % 8 == 0), (uint16_t)(next() % 2 ? 0xBE + next() % 2 : 0x7E + next() % 2)); }
 static void make_step(void)
 {
-    uint8_t area = (uint8_t)(next() % 3);
-    vdp_step(state, sizeof state, vram, sizeof vram, pixels, area == VDP_VISIBLE ? VDP_VISIBLE_FRAME_SIZE : sizeof pixels, area);
+    uint8_t area = (uint8_t)(next() % 4);
+    vdp_step(state, sizeof state, vram, sizeof vram, pixels, area == VDP_EFFECTIVE ? sizeof pixels : VDP_VISIBLE_FRAME_SIZE, area);
 }
-static void make_row_step(void) { vdp_row_step(state, sizeof state, vram, sizeof vram, pixels, VDP_EFFECTIVE_ROW_SIZE, (uint8_t)(next() % 3)); }
+static void make_row_step(void) { vdp_row_step(state, sizeof state, vram, sizeof vram, pixels, VDP_EFFECTIVE_ROW_SIZE, (uint8_t)(next() % 4)); }
 static void make_layer_step(void)
 {
-    uint8_t area = (uint8_t)(next() % 3);
-    size_t frame_len = area == VDP_VISIBLE ? VDP_VISIBLE_FRAME_SIZE : sizeof pixels;
+    uint8_t area = (uint8_t)(next() % 4);
+    size_t frame_len = area == VDP_EFFECTIVE ? sizeof pixels : VDP_VISIBLE_FRAME_SIZE;
     vdp_layer_step(state, sizeof state, vram, sizeof vram, pixels, frame_len, layers, sizeof layers - (next() % 8 == 0), area);
 }
 static void make_layer_row_step(void)
 {
     size_t layers_len = sizeof layers - (next() % 8 == 0);
-    vdp_layer_row_step(state, sizeof state, vram, sizeof vram, pixels, VDP_EFFECTIVE_ROW_SIZE, layers, layers_len, (uint8_t)(next() % 3));
+    vdp_layer_row_step(state, sizeof state, vram, sizeof vram, pixels, VDP_EFFECTIVE_ROW_SIZE, layers, layers_len, (uint8_t)(next() % 4));
 }
 static void make_dump(void) { vdp_dump_tileset(state, sizeof state, vram, sizeof vram, pixels, VDP_TILESET_SIZE - (next() % 8 == 0)); }
-static void make_pixel(void) { vdp_pixel(state, sizeof state, vram, sizeof vram - (next() % 8 == 0), (uint8_t)(next() % 3), next() % 230, next() % 260); }
+static void make_pixel(void) { vdp_pixel(state, sizeof state, vram, sizeof vram - (next() % 8 == 0), (uint8_t)(next() % 4), next() % 230, next() % 260); }
 static void make_repair(void)
 {
     static uint8_t list[VDP_LIST_SIZE];

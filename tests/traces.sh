@@ -64,7 +64,7 @@ if command -v python3 > /dev/null; then
     rm -rf $work/made
     mkdir $work/made
     cp tests/traces/*.py $work/made/
-    python3 $work/made/make.py && python3 $work/made/split90.py && python3 $work/made/layers.py
+    python3 $work/made/make.py && python3 $work/made/split90.py && python3 $work/made/layers.py && python3 $work/made/edges.py
     status=$?
     for trace in tests/traces/*.trace; do cmp "$trace" "$work/made/$(basename "$trace")" || status=1; done
     tell "the traces are as their scripts write them" $status
@@ -92,7 +92,7 @@ damaged 'the second letter alone right' 'LW\000\000LS\000'
 damaged 'a mark turned round' 'WP\277\000LS\000'
 damaged 'a mark in small letters' 'pw\277\000LS\000'
 damaged 'an end of line' '\nPR~'
-damaged 'area 2' 'LS\002LS\000'
+damaged 'area 3' 'LS\003LS\000'
 damaged 'area 128' 'LS\200LS\000'
 damaged 'area 255' 'LS\377LS\000'
 damaged 'area 0 as a letter' 'LS0LS\000'
@@ -164,6 +164,29 @@ for both in "picture -picture" "layers "; do
         skipped=$((skipped + 1))
     fi
 done
+
+# True edges: the scene of docs/TRACES.md in area 0 and in area 2, its pictures as they stand there, and what tells them apart.
+for name in edges-visible edges-true; do
+    $RUN build/bin/snapshot < tests/traces/$name.trace > $work/$name.ppm
+    if command -v python3 > /dev/null; then
+        python3 tools/ppm2png.py 2 < $work/$name.ppm | cmp docs/$name.png -
+        tell "docs/$name.png is what snapshot writes" $?
+    else
+        skipped=$((skipped + 1))
+    fi
+done
+# shows NAME Y X COUNT COLOUR: COUNT pixels from column X of row Y on have this colour.
+shows() {
+    [ "$(od -An -v -tx1 -j $((15 + 480 * $2 + 3 * $3)) -N $((3 * $4)) $work/$1.ppm | tr -d ' \n')" = "$(yes "$5" | head -n "$4" | tr -d '\n')" ]
+}
+shows edges-visible 29 2 3 ffdd22 && shows edges-true 29 0 9 886633
+tell 'a priority tile at a scrolled left edge hides a sprite in area 2, and in area 0 all but three columns' $?
+shows edges-visible 30 152 8 222255 && shows edges-true 30 152 8 ffdd22 && shows edges-true 72 158 2 ffdd22
+tell 'X 208 to 214 with the early clock shows in area 2' $?
+shows edges-visible 95 0 4 ff4422 && shows edges-true 95 0 4 ffdd22
+tell 'sprites that the left edge cuts meet in area 2' $?
+$RUN build/bin/layers < tests/traces/edges-true.trace > $work/edges-layers.ppm && shows edges-layers 29 1 8 ff00ff && shows edges-layers 30 152 8 1ce380
+tell 'layers of area 2' $?
 printf 'long\n' > $work/long
 $RUN build/bin/layers < $work/longer | cmp $work/long -
 tell '65,536 bytes, layers' $?

@@ -1,5 +1,5 @@
 #!/usr/bin/env python3
-"""Writes the traces beside this file, but for split90.trace, which split90.py writes.
+"""Writes the traces beside this file, but for those of split90.py, layers.py and edges.py.
 
 The text beside each is what `trace` must print, as the rules written a second time in oracle/ have it: build/oracle/traces text < NAME.trace > NAME.text
 Where `trace-261` prints something else, NAME.261.text has that: build/oracle/traces text --table=0 < NAME.trace > NAME.261.text
@@ -52,8 +52,8 @@ traces = {
     + write(BE, 0x00),
     # frame and line interrupts, the status byte and both reports
     "interrupts": write(BF, 0x60, 0x81) + steps(0xC2) + read(BF, 2) + steps(1) + write(BF, 0x00, 0x81) + steps(260) + read(BF),
-    # both areas, turn by turn
-    "areas": b"".join(steps(1, line % 2) for line in range(300)),
+    # all three areas, turn by turn
+    "areas": b"".join(steps(1, line % 3) for line in range(300)),
     # a sprite met by another, and a ninth on the line: status bits 5 and 6
     "sprites": write(BF, 0x00, 0x40)
     + write(BE, *[0xFF] * 32)

@@ -9,6 +9,8 @@ use lib.Dec.{eqb}
 use Rattle.laws.specs.Bits.{any}
 use Rattle.laws.specs.Lists.{at}
 use Rattle.laws.specs.Sizes.{vramSize}
+use Rattle.picture.specs.declared.RenderArea.{RenderArea}
+use Rattle.picture.specs.declared.RenderArea.the-variants.{VisibleOnly, EffectiveArea, TrueEdges}
 use Rattle.picture.specs.Tile.{mapColour, mapFront}
 use Rattle.picture.specs.View.{cutMark}
 
@@ -22,6 +24,12 @@ backFront vram names sx y x = mapFront (at vram) names ((sx + x) % 256) y
 -- the cached colour of pixel x, where f gives its number
 abbrev pub shade : List ℕ → (ℕ → ℕ) → ℕ → ℕ
 shade colours f x = at colours (f x)
+
+-- R5.5, R18.1: how far to the left the first tile of a row marks, where scroll cuts s pixels of it
+abbrev pub cutOf : RenderArea → ℕ → ℕ
+cutOf VisibleOnly s = s
+cutOf EffectiveArea s = 0
+cutOf TrueEdges s = 0
 
 -- bit i of the priority mask after the pixels below n
 unfoldable pub prioTo : List ℕ → ℕ → ℕ → ℕ → ℕ → ℕ → ℕ → Bool

@@ -10,8 +10,9 @@ ghost use Rattle.laws.specs.Paint.{painted};
 ghost use Rattle.laws.specs.Sizes.{vramSize};
 ghost use Rattle.bitmap.specs.Mask.{withByte, bytesOf};
 ghost use Rattle.picture.specs.Tile.{turned, namesAt, tileLine};
-ghost use Rattle.background.specs.Background.{Room, backColour, backFront, shade, prioTo, placeAt, Whole};
+ghost use Rattle.background.specs.Background.{Room, backColour, backFront, shade, prioTo, placeAt, Whole, cutOf};
 use bitmap::Bitmap;
+use picture::RenderArea;
 
 // R5.2: where the tile entries start.
 pub fn names_at(reg: [u8; 11]) -> usize
@@ -44,6 +45,18 @@ fn with_marks(prio: Bitmap, on: bool, place: usize, bits: u8) -> Bitmap
     ensures { λ r. ⌜ r .bits ≡ cond on (withByte (prio .bits) place bits) (prio .bits) ⌝ }
 {
     if on { prio.set(place, bits) } else { prio }
+}
+
+// How far to the left the first tile of a row marks, where scroll cuts s pixels of it.
+pub fn cut_of(area: RenderArea, s: u8) -> u8
+    ensures { λ r. ⌜ r ≡ cutOf area s ⌝ }
+    ensures { λ r. ⌜ (r ≡ 0) ⊎ (r ≡ s) ⌝ }
+{
+    match area {
+        RenderArea::VisibleOnly => s,
+        RenderArea::EffectiveArea => 0,
+        RenderArea::TrueEdges => 0,
+    }
 }
 
 // Where the pixels of one tile, from x on, mark: the row's first tile `cut` places to the left of them, around the circle.

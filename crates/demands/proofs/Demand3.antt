@@ -16,7 +16,7 @@ use Rattle.laws.specs.Once.{ExactlyOnce, ExactlyTwice}
 use Rattle.laws.proofs.Once.{once-iff, twice-iff}
 use Rattle.colour.specs.Colour.{coloursOf}
 use Rattle.picture.specs.declared.RenderArea.{RenderArea}
-use Rattle.picture.specs.declared.RenderArea.the-variants.{VisibleOnly, EffectiveArea}
+use Rattle.picture.specs.declared.RenderArea.the-variants.{VisibleOnly, EffectiveArea, TrueEdges}
 use Rattle.picture.specs.Area.{columns, rows, firstLine, rowSize, frameSize, rowBytes}
 use Rattle.raster.specs.declared.Raster.{Raster}
 use Rattle.raster.specs.declared.LineTable.{LineTable}
@@ -48,6 +48,7 @@ line-row a n y h e = row-at a n (omega arith) (omega arith) ∙ ap Drawn (omega 
 lines-end : (a : RenderArea) → firstLine a + rows a ≤ 256
 lines-end VisibleOnly = omega arith
 lines-end EffectiveArea = omega arith
+lines-end TrueEdges = omega arith
 
 -- ---- the screen end is reported by the step that sets line C1, and by no other
 end-line : (d : VdpState) → (lineOf d ≡ 193) ↔ (reportOf d ≢ NoDisplay)
@@ -260,6 +261,10 @@ module _ {a : RenderArea} (r : Run a) where
 -- the visible area: 144 rows of 640 bytes, from line 24
 pub demand3-visible : (r : Run VisibleOnly) → Demand3 r
 demand3-visible r = demand3 r (omega arith)
+
+-- the same with true edges
+pub demand3-edges : (r : Run TrueEdges) → Demand3 r
+demand3-edges r = demand3 r (omega arith)
 
 -- the effective area: rows 213 to 217 or to 218 twice, every other once
 pub effective-rows : (r : Run EffectiveArea) → EffectiveRows r

@@ -11,4 +11,5 @@ pub mod Split
 pub mod Author
 pub mod Layers
 pub mod Pixel
+pub mod Edges
 pub mod Outcome

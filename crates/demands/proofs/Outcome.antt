@@ -39,6 +39,7 @@ use Rattle.tile.proofs.character_line_sprite_bitmap
 use Rattle.tile.proofs.own_columns
 use Rattle.background.proofs.names_at
 use Rattle.background.proofs.line_at as tile-line-at
+use Rattle.background.proofs.cut_of
 use Rattle.background.proofs.render_background_line
 use Rattle.sprites.proofs.settings
 use Rattle.sprites.proofs.early_of
@@ -223,6 +224,9 @@ names-at-once κs a q z z′ w w′ e f = (e .0 ∙ sym (f .0), refl)
 
 pub tile-line-at-once : OneOutcome 0 tile-line-at.Kinds.ps tile-line-at.Kinds.r tile-line-at.Reads.Asked tile-line-at.Reads.Learnt
 tile-line-at-once κs a q z z′ w w′ e f = (e .0 ∙ sym (f .0), refl)
+
+pub cut-of-once : OneOutcome 0 cut_of.Kinds.ps cut_of.Kinds.r cut_of.Reads.Asked cut_of.Reads.Learnt
+cut-of-once κs a q z z′ w w′ e f = (e .0 ∙ sym (f .0), refl)
 
 pub render-background-line-once : OneOutcome 3 render_background_line.Kinds.ps render_background_line.Kinds.r render_background_line.Reads.Asked render_background_line.Reads.Learnt
 render-background-line-once κs a q z z′ w w′ e f =

@@ -141,7 +141,7 @@ module _ {b : List ℕ} (s : Stands b) where
   on-area :
       (n : ℕ) (x : List ℕ) (call : RenderArea → Called) {c : Called} → c ≡ onArea n (blockOf (s .room) d) x call → ((a : RenderArea) → StandsAfter (call a)) →
       StandsAfter c
-  on-area n x call e f = subst StandsAfter (sym e) (either StandsAfter (leb n 1) (λ _. f (areaFrom n)) (λ _. subst Stands (s .is) s))
+  on-area n x call e f = subst StandsAfter (sym e) (either StandsAfter (leb n 2) (λ _. f (areaFrom n)) (λ _. subst Stands (s .is) s))
 
   module _ (m x : List ℕ) (n : ℕ) where
     step-kept : StandsAfter (stepCall b m x n)

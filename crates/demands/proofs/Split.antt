@@ -16,7 +16,7 @@ use Rattle.laws.proofs.Tests.{split}
 use Rattle.colour.specs.Colour.{colour, coloursOf}
 use Rattle.colour.proofs.Laws.{colours-at, length-colours}
 use Rattle.picture.specs.declared.RenderArea.{RenderArea}
-use Rattle.picture.specs.declared.RenderArea.the-variants.{VisibleOnly}
+use Rattle.picture.specs.declared.RenderArea.the-variants.{VisibleOnly, TrueEdges}
 use Rattle.picture.specs.Picture.{Row}
 use Rattle.picture.specs.Area.{columns, rows, firstLine, rowBytes}
 use Rattle.picture.proofs.Laws.{length-rowBytes, pixel-byte}
@@ -294,6 +294,15 @@ pub changed-visible :
     {r r₀ : Run VisibleOnly} {L : ℕ} {old new : List ℕ} → Twins r r₀ → Split r L old new → ((i : ℕ) → i < pass r → ready r₀ i .cram ≡ old) →
     (c : ℕ) → OnlyColour c old new → Changed r r₀ L c old new
 changed-visible t s kept c only = changed t visible-once s kept c only
+
+-- the same with true edges
+pub colour-split-edges : {r : Run TrueEdges} {L : ℕ} {old new : List ℕ} (s : Split r L old new) → ColourSplit s
+colour-split-edges s = colour-split s visible-once
+
+pub changed-edges :
+    {r r₀ : Run TrueEdges} {L : ℕ} {old new : List ℕ} → Twins r r₀ → Split r L old new → ((i : ℕ) → i < pass r → ready r₀ i .cram ≡ old) →
+    (c : ℕ) → OnlyColour c old new → Changed r r₀ L c old new
+changed-edges t s kept c only = changed t visible-once s kept c only
 
 -- the author's own line
 pub ninety : {r : Run VisibleOnly} {old new : List ℕ} (s : Split r 90 old new) → Ninety s

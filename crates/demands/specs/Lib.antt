@@ -12,3 +12,4 @@ pub mod Examples
 pub mod Further
 pub mod Chart
 pub mod Pixel
+pub mod Edges

@@ -170,7 +170,7 @@ module _ (b : List ℕ) (bytes : (i : ℕ) → at b i < 256) where
   unfolding stepCall frameAfter
   step-behind m frame n =
       either (LeftBehind b frame) (wellFormed b)
-      (λ w. either (LeftBehind b frame) (leb n 1)
+      (λ w. either (LeftBehind b frame) (leb n 2)
       (λ _. step-left w (frameLines (areaFrom n) m (length frame)) (areaFrom n) m frame _ (refl, (refl, (refl, tt))))
       (λ _. whole-refused UnknownArea frame refl))
       (λ _. whole-refused BlockMalformed frame refl)
@@ -179,7 +179,7 @@ module _ (b : List ℕ) (bytes : (i : ℕ) → at b i < 256) where
   unfolding rowStepCall rowAfter
   row-behind m row n =
       either (LeftBehind b row) (wellFormed b)
-      (λ w. either (LeftBehind b row) (leb n 1)
+      (λ w. either (LeftBehind b row) (leb n 2)
       (λ _. step-left w (rowLines (areaFrom n) m (length row)) (areaFrom n) m row _ (refl, (refl, tt)))
       (λ _. whole-refused UnknownArea row refl))
       (λ _. whole-refused BlockMalformed row refl)
@@ -191,7 +191,7 @@ module _ (b : List ℕ) (bytes : (i : ℕ) → at b i < 256) where
   unfolding layerCall
   layer-behind lines filled m x layers n k =
       either (LeftBehind b x) (wellFormed b)
-      (λ w. either (LeftBehind b x) (leb n 1)
+      (λ w. either (LeftBehind b x) (leb n 2)
       (λ _. step-left w (layerLines lines layers (areaFrom n)) (areaFrom n) m x _ k)
       (λ _. whole-refused UnknownArea x refl))
       (λ _. whole-refused BlockMalformed x refl)
@@ -208,7 +208,7 @@ module _ (b : List ℕ) (bytes : (i : ℕ) → at b i < 256) where
   unfolding layerCall layersLeft layersAfter
   layers-behind lines filled m x layers n =
       split (wellFormed b)
-      (λ e. split (leb n 1)
+      (λ e. split (leb n 2)
       (λ f.
       simp (e, f)
       (λ h.

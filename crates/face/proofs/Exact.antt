@@ -1,5 +1,5 @@
 -- A call of the C face is refused by the first line of its table that holds: 10 exactly where the block is malformed, 11 exactly where it is
--- well formed and the area number is above 1.
+-- well formed and the area number is above 2.
 -- Assumes nothing.
 use mathlib.Core.Path.{_≡_, refl, sym, ap, _∙_}
 use mathlib.Core.Logic.{_≢_, _↔_}
@@ -92,7 +92,7 @@ pub step-exact :
 unfolding stepCall
 step-exact b m frame n =
     split (wellFormed b)
-    (λ e. split (leb n 1)
+    (λ e. split (leb n 2)
     (λ f.
     let s = frameStep (areaFrom n) m (length frame) (stateOf b) in
     simp (e, f) (step-byte s ∙ ap refusalNumber (Steps.step-exact (frameLines (areaFrom n) m (length frame)) (areaFrom n) m (stateOf b))))
@@ -104,7 +104,7 @@ pub row-exact :
 unfolding rowStepCall
 row-exact b m row n =
     split (wellFormed b)
-    (λ e. split (leb n 1)
+    (λ e. split (leb n 2)
     (λ f.
     let s = rowStep (areaFrom n) m (length row) (stateOf b) in
     simp (e, f) (step-byte s ∙ ap refusalNumber (Steps.step-exact (rowLines (areaFrom n) m (length row)) (areaFrom n) m (stateOf b))))
@@ -118,7 +118,7 @@ pub layer-exact :
 unfolding layerCall
 layer-exact lines filled b m x layers n =
     split (wellFormed b)
-    (λ e. split (leb n 1)
+    (λ e. split (leb n 2)
     (λ f.
     let s = stepWith (layerLines lines layers (areaFrom n)) (areaFrom n) m (stateOf b) in
     simp (e, f) (step-byte s ∙ ap refusalNumber (Steps.step-exact (layerLines lines layers (areaFrom n)) (areaFrom n) m (stateOf b))))
@@ -161,30 +161,30 @@ out-ten b m p v = ten-exactly b (writeLines (stateOf b) m p v) (outCall b m p v 
 pub input-ten : (b m : List ℕ) (p : ℕ) → (refusalIn (inputCall b m p .word) ≡ 10) ↔ (wellFormed b ≡ false)
 input-ten b m p = ten-exactly b (readLines (stateOf b) m p) (inputCall b m p .word) refl (input-exact b m p)
 
--- ---- 11 exactly where the block is well formed and the area number is above 1
+-- ---- 11 exactly where the block is well formed and the area number is above 2
 eleven-exactly :
     (b : List ℕ) (ls : List Line) (n w : ℕ) → none 11 ls ≡ true → refusalIn w ≡ refusalNumber (first (stepCallLines b n ls)) →
-    (refusalIn w ≡ 11) ↔ ((wellFormed b ≡ true) × (1 < n))
+    (refusalIn w ≡ 11) ↔ ((wellFormed b ≡ true) × (2 < n))
 eleven-exactly b ls n w h e =
     split (wellFormed b)
-    (λ t. split (leb n 1)
+    (λ t. split (leb n 2)
     (λ l. (
       λ q. absurd (never 11 ls (λ z. omega arith) h (sym (simp (t, l) at e) ∙ q)),
-      λ k. let low = leb-true n 1 l in absurd (omega (arith, k .1)),
+      λ k. let low = leb-true n 2 l in absurd (omega (arith, k .1)),
     ))
-    (λ l. (λ q. (t, leb-false n 1 l), λ k. simp (t, l) at e)))
+    (λ l. (λ q. (t, leb-false n 2 l), λ k. simp (t, l) at e)))
     (λ f. (λ q. absurd (let k = simp f at e in omega (arith, k, q)), λ k. clash (sym (k .0) ∙ f)))
 
 pub step-ten : (b m frame : List ℕ) (n : ℕ) → (refusalIn (stepCall b m frame n .word) ≡ 10) ↔ (wellFormed b ≡ false)
-step-ten b m frame n = ten-exactly b (line (not (leb n 1)) UnknownArea ∷ frameLines (areaFrom n) m (length frame)) (stepCall b m frame n .word) refl (step-exact b m frame n)
+step-ten b m frame n = ten-exactly b (line (not (leb n 2)) UnknownArea ∷ frameLines (areaFrom n) m (length frame)) (stepCall b m frame n .word) refl (step-exact b m frame n)
 
 pub row-ten : (b m row : List ℕ) (n : ℕ) → (refusalIn (rowStepCall b m row n .word) ≡ 10) ↔ (wellFormed b ≡ false)
-row-ten b m row n = ten-exactly b (line (not (leb n 1)) UnknownArea ∷ rowLines (areaFrom n) m (length row)) (rowStepCall b m row n .word) refl (row-exact b m row n)
+row-ten b m row n = ten-exactly b (line (not (leb n 2)) UnknownArea ∷ rowLines (areaFrom n) m (length row)) (rowStepCall b m row n .word) refl (row-exact b m row n)
 
-pub step-eleven : (b m frame : List ℕ) (n : ℕ) → (refusalIn (stepCall b m frame n .word) ≡ 11) ↔ ((wellFormed b ≡ true) × (1 < n))
+pub step-eleven : (b m frame : List ℕ) (n : ℕ) → (refusalIn (stepCall b m frame n .word) ≡ 11) ↔ ((wellFormed b ≡ true) × (2 < n))
 step-eleven b m frame n = eleven-exactly b (frameLines (areaFrom n) m (length frame)) n (stepCall b m frame n .word) refl (step-exact b m frame n)
 
-pub row-eleven : (b m row : List ℕ) (n : ℕ) → (refusalIn (rowStepCall b m row n .word) ≡ 11) ↔ ((wellFormed b ≡ true) × (1 < n))
+pub row-eleven : (b m row : List ℕ) (n : ℕ) → (refusalIn (rowStepCall b m row n .word) ≡ 11) ↔ ((wellFormed b ≡ true) × (2 < n))
 row-eleven b m row n = eleven-exactly b (rowLines (areaFrom n) m (length row)) n (rowStepCall b m row n .word) refl (row-exact b m row n)
 
 pub dump-ten : (b m pixels : List ℕ) → (refusalIn (dumpCall b m pixels .word) ≡ 10) ↔ (wellFormed b ≡ false)

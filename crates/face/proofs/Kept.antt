@@ -68,14 +68,14 @@ module _ (b : List ℕ) where
     unfolding stepCall
     step-table-kept m frame n =
         either (SameTable b) (wellFormed b)
-        (λ w. either (SameTable b) (leb n 1) (λ _. stepped (frameLines (areaFrom n) m (length frame)) (areaFrom n) m w refl) (λ _. same refl))
+        (λ w. either (SameTable b) (leb n 2) (λ _. stepped (frameLines (areaFrom n) m (length frame)) (areaFrom n) m w refl) (λ _. same refl))
         (λ _. same refl)
 
     pub row-table-kept : (m row : List ℕ) (n : ℕ) → SameTable b (rowStepCall b m row n)
     unfolding rowStepCall
     row-table-kept m row n =
         either (SameTable b) (wellFormed b)
-        (λ w. either (SameTable b) (leb n 1) (λ _. stepped (rowLines (areaFrom n) m (length row)) (areaFrom n) m w refl) (λ _. same refl))
+        (λ w. either (SameTable b) (leb n 2) (λ _. stepped (rowLines (areaFrom n) m (length row)) (areaFrom n) m w refl) (λ _. same refl))
         (λ _. same refl)
 
     pub layer-table-kept :
@@ -83,7 +83,7 @@ module _ (b : List ℕ) where
     unfolding layerCall
     layer-table-kept lines filled m x layers n =
         either (SameTable b) (wellFormed b)
-        (λ w. either (SameTable b) (leb n 1) (λ _. stepped (layerLines lines layers (areaFrom n)) (areaFrom n) m w refl) (λ _. same refl))
+        (λ w. either (SameTable b) (leb n 2) (λ _. stepped (layerLines lines layers (areaFrom n)) (areaFrom n) m w refl) (λ _. same refl))
         (λ _. same refl)
 
   pub dump-table : (m pixels : List ℕ) → SameTable b (dumpCall b m pixels)

@@ -138,8 +138,8 @@ module _ (b m x : List ℕ) (n : ℕ) where
   bad : (call : VdpState → RenderArea → Called) {r : ℕ} → wellFormed b ≡ false → r ≡ refusalNumber BlockMalformed → Leaves (asked call) r b x
   bad call w er = rw er (leaves (sym (rw w)))
 
-  unknown : (call : VdpState → RenderArea → Called) {r : ℕ} → wellFormed b ≡ true → 1 < n → r ≡ refusalNumber UnknownArea → Leaves (asked call) r b x
-  unknown call w h er = rw er (leaves (sym (rw (w, lt-leb n 1 h))))
+  unknown : (call : VdpState → RenderArea → Called) {r : ℕ} → wellFormed b ≡ true → 2 < n → r ≡ refusalNumber UnknownArea → Leaves (asked call) r b x
+  unknown call w h er = rw er (leaves (sym (rw (w, lt-leb n 2 h))))
 
   pub step-bad : {r : ℕ} → wellFormed b ≡ false → r ≡ refusalNumber BlockMalformed → Leaves (stepCall b m x n) r b x
   unfolding stepCall
@@ -149,11 +149,11 @@ module _ (b m x : List ℕ) (n : ℕ) where
   unfolding rowStepCall
   row-bad = bad (rowStepOn m x (length b))
 
-  pub step-unknown : {r : ℕ} → wellFormed b ≡ true → 1 < n → r ≡ refusalNumber UnknownArea → Leaves (stepCall b m x n) r b x
+  pub step-unknown : {r : ℕ} → wellFormed b ≡ true → 2 < n → r ≡ refusalNumber UnknownArea → Leaves (stepCall b m x n) r b x
   unfolding stepCall
   step-unknown = unknown (stepOn m x (length b))
 
-  pub row-unknown : {r : ℕ} → wellFormed b ≡ true → 1 < n → r ≡ refusalNumber UnknownArea → Leaves (rowStepCall b m x n) r b x
+  pub row-unknown : {r : ℕ} → wellFormed b ≡ true → 2 < n → r ≡ refusalNumber UnknownArea → Leaves (rowStepCall b m x n) r b x
   unfolding rowStepCall
   row-unknown = unknown (rowStepOn m x (length b))
 
@@ -163,15 +163,15 @@ module _ (b m x : List ℕ) (n : ℕ) where
   unfolding layerCall layersLeft
   layer-bad lines filled layers w er = record { call = bad (layerOn lines filled m x layers (length b)) w er; owners = rw w }
 
-  pub layer-unknown : (lines : RenderArea → List Line) (filled : VdpState → RenderArea → List ℕ) (layers : List ℕ) {r : ℕ} → wellFormed b ≡ true → 1 < n → r ≡ refusalNumber UnknownArea
+  pub layer-unknown : (lines : RenderArea → List Line) (filled : VdpState → RenderArea → List ℕ) (layers : List ℕ) {r : ℕ} → wellFormed b ≡ true → 2 < n → r ≡ refusalNumber UnknownArea
       → LayerLeaves lines filled b m x layers n r b x layers
   unfolding layerCall layersLeft
-  layer-unknown lines filled layers w h er = record { call = unknown (layerOn lines filled m x layers (length b)) w h er; owners = rw (w, lt-leb n 1 h) }
+  layer-unknown lines filled layers w h er = record { call = unknown (layerOn lines filled m x layers (length b)) w h er; owners = rw (w, lt-leb n 2 h) }
 
   -- a step, by what its points answer and leave, the block that they are stored in, and their word
   module _
       {a : RenderArea} {points : Points} {reg : List ℕ} {raster : Raster} {status : ℕ} {colours b′ x′ : List ℕ} {r : ℕ}
-      (bytes : (i : ℕ) → at b i < 256) (w : wellFormed b ≡ true) (h : n ≤ 1) (ea : a ≡ areaFrom n) (g : Reads (stateOf b) reg raster status colours)
+      (bytes : (i : ℕ) → at b i < 256) (w : wellFormed b ≡ true) (h : n ≤ 2) (ea : a ≡ areaFrom n) (g : Reads (stateOf b) reg raster status colours)
       (es : (k : ℕ) (s : VdpState) → Sized s → points .raster .table ≡ s .raster .table → colours ≡ coloursNow s → b ≡ blockOf k s → b′ ≡ blockOf k (joined s points .vdp))
       (er : (d : VdpState) → r ≡ stepWord (joined d points))
     where
@@ -179,7 +179,7 @@ module _ (b m x : List ℕ) (n : ℕ) where
           (call : VdpState → RenderArea → Called) (ls : List Line) {y : List ℕ} → call (stateOf b) a ≡ steppedTo (length b) (stepWith ls a m (stateOf b)) y
           → joined (stateOf b) points ≡ stepWith ls a m (stateOf b) → x′ ≡ y → Leaves (asked call) r b′ x′
       stored call ls ec e ey =
-          along (sym ec ∙ ap (call (stateOf b)) ea ∙ sym (rw (w, le-leb n 1 h)))
+          along (sym ec ∙ ap (call (stateOf b)) ea ∙ sym (rw (w, le-leb n 2 h)))
           (record {
             word = er (stateOf b) ∙ ap stepWord e;
             block =
@@ -205,7 +205,7 @@ module _ (b m x : List ℕ) (n : ℕ) where
           let k = l (stateOf b) g in
           record {
             call = stored (layerOn lines filled m x layers (length b)) (layerLines lines layers a) refl (k .answer) (k .bytes);
-            owners = k .owners ∙ rw (w, le-leb n 1 h, ea);
+            owners = k .owners ∙ rw (w, le-leb n 2 h, ea);
           }
 
 -- a step's colours keep the sizes

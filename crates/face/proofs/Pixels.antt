@@ -52,7 +52,7 @@ module _ (b m : List ℕ) (n y x : ℕ) where
   pixel-call-exact =
       split (wellFormed b)
       (λ e.
-      split (leb n 1)
+      split (leb n 2)
       (λ l.
       simp (e, l)
       (word-low (pixelOf (areaFrom n) m (stateOf b) y x .refusal) (pixelOf (areaFrom n) m (stateOf b) y x .there) (pixelOf (areaFrom n) m (stateOf b) y x .colour)

@@ -44,14 +44,14 @@ record-kept s k x {r} p e =
 
 -- of a step: an area that there is, and one that there is not
 pub step-kept :
-    (s : List ℕ) (k n : ℕ) {a : RenderArea} {w : ℕ} {s′ : List ℕ} → n ≤ 1 → a ≡ areaFrom n → Leaves (recordCall s k (Step a)) w [] s′
+    (s : List ℕ) (k n : ℕ) {a : RenderArea} {w : ℕ} {s′ : List ℕ} → n ≤ 2 → a ≡ areaFrom n → Leaves (recordCall s k (Step a)) w [] s′
     → Leaves (recordStepCall s k n) w [] s′
 unfolding recordStepCall
-step-kept s k n {a} {w} {s′} h e l = rw (le-leb n 1 h) (subst (λ (x : RenderArea). Leaves (recordCall s k (Step x)) w [] s′) e l)
+step-kept s k n {a} {w} {s′} h e l = rw (le-leb n 2 h) (subst (λ (x : RenderArea). Leaves (recordCall s k (Step x)) w [] s′) e l)
 
-pub step-unknown : (s : List ℕ) (k n : ℕ) {w : ℕ} → 1 < n → w ≡ refusalNumber UnknownArea → Leaves (recordStepCall s k n) w [] s
+pub step-unknown : (s : List ℕ) (k n : ℕ) {w : ℕ} → 2 < n → w ≡ refusalNumber UnknownArea → Leaves (recordStepCall s k n) w [] s
 unfolding recordStepCall
-step-unknown s k n h e = let f = lt-leb n 1 h in record { word = simp f e; block = simp f; lent = simp f }
+step-unknown s k n h e = let f = lt-leb n 2 h in record { word = simp f e; block = simp f; lent = simp f }
 
 -- what stands at an offset
 pub next-is : (s : List ℕ) (k : ℕ) {x y : Record} {n : ℕ} → x ≡ recordAt s k → x ≡ y → n ≡ recordWord y → n ≡ nextCall s k
@@ -66,9 +66,9 @@ record-exact s k x = split (ltb (length s) (k + size x)) (λ t. rw t) (λ t. rw 
     even n = omega arith
 
 pub record-step-exact :
-    (s : List ℕ) (k n : ℕ) → refusalIn (recordStepCall s k n .word) ≡ refusalNumber (first (line (not (leb n 1)) UnknownArea ∷ recordLines s k (Step (areaFrom n))))
+    (s : List ℕ) (k n : ℕ) → refusalIn (recordStepCall s k n .word) ≡ refusalNumber (first (line (not (leb n 2)) UnknownArea ∷ recordLines s k (Step (areaFrom n))))
 unfolding recordStepCall
-record-step-exact s k n = split (leb n 1) (λ t. rw t (record-exact s k (Step (areaFrom n)))) (λ t. rw t)
+record-step-exact s k n = split (leb n 2) (λ t. rw t (record-exact s k (Step (areaFrom n)))) (λ t. rw t)
 
 -- "recording unchanged"
 pub record-behind : (s : List ℕ) (k : ℕ) (x : Record) → LeftBehind [] s (recordCall s k x)
@@ -85,5 +85,5 @@ record-behind s k x =
 pub record-step-behind : (s : List ℕ) (k n : ℕ) → LeftBehind [] s (recordStepCall s k n)
 unfolding recordStepCall
 record-step-behind s k n =
-    split (leb n 1) (λ t. rw t (record-behind s k (Step (areaFrom n))))
+    split (leb n 2) (λ t. rw t (record-behind s k (Step (areaFrom n))))
     (λ t. rw t (record { word = λ _. omega arith; block = λ _. refl; lent = λ _. refl }))

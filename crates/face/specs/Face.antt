@@ -50,9 +50,9 @@ refused r b x = record { word = refusalNumber r; block = b; lent = x }
 abbrev pub onBlock : List ℕ → List ℕ → (VdpState → Called) → Called
 onBlock b x call = cond (wellFormed b) (call (stateOf b)) (refused BlockMalformed b x)
 
--- R2.1, refusal 11: there are areas 0 and 1
+-- R2.1, refusal 11: there are areas 0 to 2
 abbrev pub onArea : ℕ → List ℕ → List ℕ → (RenderArea → Called) → Called
-onArea n b x call = cond (leb n 1) (call (areaFrom n)) (refused UnknownArea b x)
+onArea n b x call = cond (leb n 2) (call (areaFrom n)) (refused UnknownArea b x)
 
 -- ---- the calls. A fresh block of table t: what the bytes were does not matter, only whether so many have room for it
 unfoldable pub newTableCall : List ℕ → ℕ → Called

@@ -33,7 +33,7 @@ inputLines b m p = malformed b ∷ readLines (stateOf b) m p
 
 -- a step of area number n whose own lines are `lines`, and a dump
 abbrev pub stepCallLines : List ℕ → ℕ → List Line → List Line
-stepCallLines b n lines = malformed b ∷ line (not (leb n 1)) UnknownArea ∷ lines
+stepCallLines b n lines = malformed b ∷ line (not (leb n 2)) UnknownArea ∷ lines
 
 abbrev pub dumpCallLines : List ℕ → List ℕ → ℕ → List Line
 dumpCallLines b m size = malformed b ∷ dumpLines m size

@@ -167,7 +167,7 @@ pub extern "C" fn vdp_step(state: &mut [u8], vram: &[u8], frame: &mut [u8], area
     if !block::well_formed(state) {
         return number(Refusal::BlockMalformed);
     }
-    if 1 < area {
+    if 2 < area {
         return number(Refusal::UnknownArea);
     }
     let colours = colours_of(state);
@@ -192,7 +192,7 @@ pub extern "C" fn vdp_row_step(state: &mut [u8], vram: &[u8], row: &mut [u8], ar
     if !block::well_formed(state) {
         return number(Refusal::BlockMalformed);
     }
-    if 1 < area {
+    if 2 < area {
         return number(Refusal::UnknownArea);
     }
     let colours = colours_of(state);
@@ -223,7 +223,7 @@ pub extern "C" fn vdp_layer_step(
     if !block::well_formed(state) {
         return number(Refusal::BlockMalformed);
     }
-    if 1 < area {
+    if 2 < area {
         return number(Refusal::UnknownArea);
     }
     let colours = colours_of(state);
@@ -255,7 +255,7 @@ pub extern "C" fn vdp_layer_row_step(
     if !block::well_formed(state) {
         return number(Refusal::BlockMalformed);
     }
-    if 1 < area {
+    if 2 < area {
         return number(Refusal::UnknownArea);
     }
     let colours = colours_of(state);
@@ -291,7 +291,7 @@ pub extern "C" fn vdp_dump_tileset(state: &[u8], vram: &[u8], pixels: &mut [u8])
 pub extern "C" fn vdp_version() -> u32
     ensures { λ r. ⌜ r ≡ version ⌝ }
 {
-    263168
+    263424
 }
 
 // The tile of these 64 codes into video memory; no device is asked.
@@ -350,7 +350,7 @@ pub extern "C" fn vdp_pixel(state: &[u8], vram: &[u8], area: u8, row: u32, colum
     if !block::well_formed(state) {
         return long(number(Refusal::BlockMalformed));
     }
-    if 1 < area {
+    if 2 < area {
         return long(number(Refusal::UnknownArea));
     }
     let raster = block::raster_in(state);
@@ -407,7 +407,7 @@ pub extern "C" fn vdp_record_input(recording: &mut [u8], used: usize, port: u8) 
 pub extern "C" fn vdp_record_step(recording: &mut [u8], used: usize, area: u8) -> u32
     ensures { λ r. ⌜ Leaves (recordStepCall (now (recording .entry)) used area) r [] (now (recording .exit)) ⌝ }
 {
-    if 1 < area {
+    if 2 < area {
         return number(Refusal::UnknownArea);
     }
     let step = Record::Step(picture::area_from(area));

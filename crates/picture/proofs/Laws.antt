@@ -14,7 +14,7 @@ use Rattle.laws.proofs.Tables.{length-table, getD-table, table-ext}
 use Rattle.laws.proofs.Tests.{either}
 use Rattle.picture.specs.declared.Stand.{Stand}
 use Rattle.picture.specs.declared.RenderArea.{RenderArea}
-use Rattle.picture.specs.declared.RenderArea.the-variants.{VisibleOnly, EffectiveArea}
+use Rattle.picture.specs.declared.RenderArea.the-variants.{VisibleOnly, EffectiveArea, TrueEdges}
 use Rattle.picture.specs.Tile.{codeOf, codeAt, turned, entryAt, tileLine, entryCode, entryColour, mapColour}
 use Rattle.picture.specs.View.{View}
 use Rattle.picture.specs.Picture.{Canvas, Row, back, front, drawn, laid, spriteCode, withSprite, withSprites, bare, listed, picture}
@@ -72,6 +72,7 @@ length-rowBytes colours width p = length-table (width * 4) (λ k. byteOfColour (
 pub row-size : (a : RenderArea) → columns a * 4 ≡ rowSize a
 row-size VisibleOnly = refl
 row-size EffectiveArea = refl
+row-size TrueEdges = refl
 
 -- byte b of pixel x is that of the colour of its number
 pub pixel-byte : (colours : List ℕ) (width : ℕ) (p : Row) (x b : ℕ) → x < width → b < 4 → at (rowBytes colours width p) (4 * x + b) ≡ byteOfColour (at colours (p .colour x)) b

@@ -1,4 +1,4 @@
--- The two areas: their sizes, and the row of each that a line draws.
+-- The three areas: their sizes, and the row of each that a line draws.
 -- Assumes nothing.
 use mathlib.Core.Bool.{Bool, cond}
 use mathlib.Core.List.{List}
@@ -7,41 +7,47 @@ use lib.Dec.{eqb}
 use Rattle.laws.specs.Lists.{at}
 use Rattle.laws.specs.Paint.{byteOfColour}
 use Rattle.laws.specs.Table.{table}
-use Rattle.picture.specs.View.{View, visible, effective}
+use Rattle.picture.specs.View.{View, visible, effective, trueEdges}
 use Rattle.picture.specs.Picture.{Row, picture}
 use Rattle.picture.specs.declared.RenderArea.{RenderArea}
-use Rattle.picture.specs.declared.RenderArea.the-variants.{VisibleOnly, EffectiveArea}
+use Rattle.picture.specs.declared.RenderArea.the-variants.{VisibleOnly, EffectiveArea, TrueEdges}
 
 -- R2.1: the area of a number
 abbrev pub areaFrom : ℕ → RenderArea
-areaFrom n = cond (eqb n 0) VisibleOnly EffectiveArea
+areaFrom n = cond (eqb n 0) VisibleOnly (cond (eqb n 1) EffectiveArea TrueEdges)
 
 -- R2.6: how wide and how high; R4.2: the line of row 0
 abbrev pub columns : RenderArea → ℕ
 columns VisibleOnly = 160
 columns EffectiveArea = 256
+columns TrueEdges = 160
 
 abbrev pub rows : RenderArea → ℕ
 rows VisibleOnly = 144
 rows EffectiveArea = 224
+rows TrueEdges = 144
 
 abbrev pub firstLine : RenderArea → ℕ
 firstLine VisibleOnly = 24
 firstLine EffectiveArea = 0
+firstLine TrueEdges = 24
 
 -- R2.6: the bytes of a row and of a frame
 abbrev pub rowSize : RenderArea → ℕ
 rowSize VisibleOnly = 640
 rowSize EffectiveArea = 1024
+rowSize TrueEdges = 640
 
 abbrev pub frameSize : RenderArea → ℕ
 frameSize VisibleOnly = 92160
 frameSize EffectiveArea = 229376
+frameSize TrueEdges = 92160
 
 -- the view that row y of an area has, by the registers g and the latched scroll
 abbrev pub viewOf : RenderArea → (ℕ → ℕ) → ℕ → ℕ → View
 viewOf VisibleOnly g scroll y = visible g scroll y
 viewOf EffectiveArea g scroll y = effective g y
+viewOf TrueEdges g scroll y = trueEdges g scroll y
 
 -- the picture of row y, by the registers, the latched scroll and video memory
 unfoldable pub pictureOf : RenderArea → List ℕ → ℕ → List ℕ → ℕ → Row

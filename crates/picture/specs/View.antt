@@ -58,6 +58,30 @@ visible g scroll row = record {
   stand = visibleStand (early g);
 }
 
+-- ---- the true edges
+-- R18.2: a sprite that stands at X - left - e on a row of `width` columns: its pixels left of column 0 and right of the last are not there, and both
+-- masks go by the screen column
+unfoldable pub edgeStand : ℕ → ℕ → ℕ → ℕ → Stand
+edgeStand left width e h = record {
+  seen = true;
+  x = h - left - e;
+  start = left + e - h;
+  end = min (width - (h - left - e)) 8;
+  prio = h - left - e;
+  mark = h - left - e;
+}
+
+-- R18.1: the map, the lines and the width are those of the visible area; a mark of the background goes to its own column
+unfoldable pub trueEdges : (ℕ → ℕ) → ℕ → ℕ → View
+trueEdges g scroll row = record {
+  width = 160;
+  line = row + 24;
+  mapX = λ x. (x + 304 - g 8) % 256;
+  mapY = λ x. (row + 24 + scroll) % 224;
+  markAt = λ x. x;
+  stand = edgeStand 48 160 (early g);
+}
+
 -- ---- the effective area
 -- R5.10: where it stands
 unfoldable pub effectiveStand : ℕ → ℕ → Stand

@@ -2,20 +2,23 @@
 ghost use mathlib.Core.Path.{_≡_};
 ghost use Rattle.picture.specs.Area.{areaFrom};
 
-// What a step draws: the part that the screen shows, or all that the chip makes.
+// What a step draws: the part that the screen shows, all that the chip makes, or the part that the screen shows with its edges by true columns.
 pub enum RenderArea {
     VisibleOnly,
     EffectiveArea,
+    TrueEdges,
 }
 
-// The area of a number that is not above 1.
+// The area of a number that is not above 2.
 pub fn area_from(n: u8) -> RenderArea
     ensures { λ r. ⌜ r ≡ areaFrom n ⌝ }
 {
     if n == 0 {
         RenderArea::VisibleOnly
-    } else {
+    } else if n == 1 {
         RenderArea::EffectiveArea
+    } else {
+        RenderArea::TrueEdges
     }
 }
 

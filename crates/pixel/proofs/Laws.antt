@@ -19,18 +19,22 @@ use Rattle.laws.proofs.Bits.{bit-above, bit-or}
 use Rattle.laws.proofs.Tests.{both}
 use Rattle.picture.specs.declared.Stand.{Stand}
 use Rattle.picture.specs.declared.RenderArea.{RenderArea}
-use Rattle.picture.specs.declared.RenderArea.the-variants.{VisibleOnly, EffectiveArea}
-use Rattle.picture.specs.Tile.{codeAt}
-use Rattle.picture.specs.View.{visibleStand, visibleSeen, visibleEnd, effectiveStand}
-use Rattle.picture.specs.Picture.{Canvas, solid, heldBack, marked, struck, drawn, laid, bare, tableAt, topOf, tall, onLine, listed, withSprites}
+use Rattle.picture.specs.declared.RenderArea.the-variants.{VisibleOnly, EffectiveArea, TrueEdges}
+use Rattle.picture.specs.Tile.{codeAt, namesAt, mapColour}
+use Rattle.picture.specs.View.{View, early, cutMark, visible, visibleStand, visibleSeen, visibleEnd, effectiveStand, trueEdges, edgeStand}
+use Rattle.picture.specs.Picture.{Canvas, front, solid, heldBack, marked, struck, drawn, laid, bare, tableAt, topOf, tall, onLine, listed, withSprites, picture}
+use Rattle.picture.specs.Picture.{back as map-at}
+use Rattle.picture.specs.Area.{columns, pictureOf}
+use Rattle.background.specs.Background.{backColour, prioTo, cutOf}
+use Rattle.background.proofs.Views.{back-at, front-at, visible-x, effective-mark}
 use Rattle.sprites.specs.Sprites.{standOf}
 use Rattle.sprites.proofs.List.{Going, list-skips}
 use Rattle.pixel.specs.declared.Scene.{Scene}
 use Rattle.pixel.specs.declared.Column.{Column}
-use Rattle.pixel.specs.Column.{Clear, frontAt, leftOf, offOf, reachOf, marksLeft, colourWith, Tied, Shows}
+use Rattle.pixel.specs.Column.{Clear, frontAt, leftOf, offOf, aheadOf, backOf, reachOf, marksLeft, colourWith, Tied, Shows}
 
 -- ---- every stand is tied to its column
-visible-tied : (e h : ℕ) → e ≤ 8 → Tied (48 + e) (visibleStand e h)
+visible-tied : (e h : ℕ) → e ≤ 8 → Tied (48 + e) (visibleStand e h .start) (visibleStand e h)
 unfolding visibleStand
 visible-tied e h l =
     record {
@@ -41,15 +45,21 @@ visible-tied e h l =
             | yes a ↦ inr (omega arith)
             | no a ↦ inl (omega arith)
           ];
+      within = omega arith;
     }
 
-effective-tied : (e h : ℕ) → e ≤ 8 → Tied e (effectiveStand e h)
+effective-tied : (e h : ℕ) → e ≤ 8 → Tied e (effectiveStand e h .start) (effectiveStand e h)
 unfolding effectiveStand
-effective-tied e h l = record { mark = λ q. omega arith; prio = λ q. omega arith; edge = λ q. inl refl }
+effective-tied e h l = record { mark = λ q. omega arith; prio = λ q. omega arith; edge = λ q. inl refl; within = omega arith }
 
-pub tied : (area : RenderArea) (e h : ℕ) → e ≤ 8 → Tied (offOf area e) (standOf area e h)
+edge-tied : (e h : ℕ) → Tied 0 0 (edgeStand 48 160 e h)
+unfolding edgeStand
+edge-tied e h = record { mark = λ q. refl; prio = λ q. omega arith; edge = λ q. inl refl; within = omega arith }
+
+pub tied : (area : RenderArea) (e h : ℕ) → e ≤ 8 → Tied (offOf area e) (backOf area (standOf area e h .start)) (standOf area e h)
 tied VisibleOnly e h l = visible-tied e h l
 tied EffectiveArea e h l = effective-tied e h l
+tied TrueEdges e h l = edge-tied e h
 
 visible-low : (e h : ℕ) → visibleStand e h .end ≤ 8
 unfolding visibleStand visibleEnd
@@ -63,9 +73,14 @@ effective-low : (e h : ℕ) → effectiveStand e h .end ≤ 8
 unfolding effectiveStand
 effective-low e h = omega arith
 
-end-low : (area : RenderArea) (e h : ℕ) → standOf area e h .end ≤ 8
+edge-low : (e h : ℕ) → edgeStand 48 160 e h .end ≤ 8
+unfolding edgeStand
+edge-low e h = omega arith
+
+pub end-low : (area : RenderArea) (e h : ℕ) → standOf area e h .end ≤ 8
 end-low VisibleOnly e h = visible-low e h
 end-low EffectiveArea e h = effective-low e h
+end-low TrueEdges e h = edge-low e h
 
 -- ---- places around the circle
 further : (a b k : ℕ) → a % 256 ≡ b % 256 → (a + k) % 256 ≡ (b + k) % 256
@@ -100,9 +115,9 @@ mark-place col off start x mark s l e =
 past-place : (i mark k : ℕ) → k < 256 → i ≡ (mark + k) % 256 → past i mark ≡ k
 past-place i mark k h e = omega arith
 
--- so far to the right of a sprite's X byte none of the places to the left that are needed is one of its columns
-far-place : (i j h c : ℕ) → h < 256 → c ≤ 7 → j < 8 - c → 15 - c ≤ (i + 256 - h) % 256 → 8 ≤ past (leftOf i j) h
-far-place i j h c hl cl l d = omega arith
+-- so far to the right of a sprite's mark none of the places to the left that are needed is one of its columns
+far-place : (i j mark c : ℕ) → mark < 256 → c ≤ 7 → j < 8 - c → 15 - c ≤ (i + 256 - mark) % 256 → 8 ≤ past (leftOf i j) mark
+far-place i j mark c ml cl l d = omega arith
 
 -- ---- a test that counts only where another holds
 when : (t : Bool) {x y : Bool} → (t ≡ true → x ≡ y) → (t && x) ≡ (t && y)
@@ -119,7 +134,7 @@ same-tests false false own bits taken mark struck e f = refl
 
 -- ---- one sprite
 module _
-    (vram : List ℕ) (b : Scene) (s : Stand) (addr col off : ℕ) (t : Tied off s) (low : s .end ≤ 8) (cl : col < 256) (f : ℕ → Bool) (c : Canvas)
+    (vram : List ℕ) (b : Scene) (s : Stand) (addr col off back : ℕ) (t : Tied off back s) (low : s .end ≤ 8) (cl : col < 256) (f : ℕ → Bool) (c : Canvas)
     (pe : (i : ℕ) → i < 256 → frontAt vram b i ≡ f i)
   where
     abbrev code : ℕ → ℕ
@@ -141,33 +156,33 @@ module _
 
       -- where it is seen and has a pixel at the column
       module _ (q : s .seen ≡ true) (l : s .x ≤ col) (o : s .start + (col - s .x) < s .end) where
-        reached : s .start < reachOf col
-        reached = let p : s .start + (col - s .x) < 8 = omega (arith, low) in ⊎-elim (λ z. omega arith) (λ z. omega arith) (t .edge q)
+        reached : back < reachOf col
+        reached = let p : s .start + (col - s .x) < 8 = omega (arith, low) in ⊎-elim (λ z. omega arith) (λ z. omega (arith, t .within)) (t .edge q)
 
-        place : leftOf (col + off) (s .start) ≡ (s .mark + (col - s .x)) % 256
+        place : leftOf (col + off) back ≡ (s .mark + (col - s .x)) % 256
         place =
-            let p : s .start < 8 = omega (arith, low) in
-            mark-place col off (s .start) (s .x) (s .mark) p l (t .mark q)
+            let p : back < 8 = omega (arith, low, t .within) in
+            mark-place col off back (s .x) (s .mark) p l (t .mark q)
 
-        bits-here : bit bits (s .start) ≡ marked s code f c (col - s .x)
+        bits-here : bit bits back ≡ marked s code f c (col - s .x)
         bits-here =
             let k : col - s .x < 256 = omega arith in
-            bit-near (s .start) reached ∙ ap (λ (i : ℕ). marked s code f c i) (past-place (leftOf (col + off) (s .start)) (s .mark) (col - s .x) k place)
+            bit-near back reached ∙ ap (λ (i : ℕ). marked s code f c i) (past-place (leftOf (col + off) back) (s .mark) (col - s .x) k place)
 
-        taken-here : bit (under .taken) (s .start) ≡ struck s code f c (col - s .x)
+        taken-here : bit (under .taken) back ≡ struck s code f c (col - s .x)
         unfolding struck
-        taken-here = sh .mask (s .start) reached ∙ ap (λ (i : ℕ). c .mask i) place
+        taken-here = sh .mask back reached ∙ ap (λ (i : ℕ). c .mask i) place
 
       no-pixel : ltb (s .start + (col - s .x)) (s .end) ≡ false → marked s code f c (col - s .x) ≡ false
       unfolding marked solid
       no-pixel e = rw e
 
-      colour-after : colourWith vram s addr col bits (under .taken) (under .colour) ≡ laid s code f c .colour col
+      colour-after : colourWith vram s addr col back bits (under .taken) (under .colour) ≡ laid s code f c .colour col
       unfolding colourWith laid drawn
       colour-after =
           rw (sh .colour)
           (ap (λ (z : Bool). cond z (16 + code (s .start + (col - s .x))) (c .colour col))
-          (same-tests (s .seen) (leb (s .x) col) (ltb (s .start + (col - s .x)) (s .end)) (bit bits (s .start)) (bit (under .taken) (s .start))
+          (same-tests (s .seen) (leb (s .x) col) (ltb (s .start + (col - s .x)) (s .end)) (bit bits back) (bit (under .taken) back)
           (marked s code f c (col - s .x)) (struck s code f c (col - s .x))
           (λ q l o.
           let l′ = leb-true (s .x) col l in
@@ -175,7 +190,7 @@ module _
           (bits-here q l′ o′, taken-here q l′ o′))
           no-pixel))
 
-      pub column-laid : {r : Column} → r .colour ≡ colourWith vram s addr col bits (under .taken) (under .colour) → r .taken ≡ bitOr (under .taken) bits
+      pub column-laid : {r : Column} → r .colour ≡ colourWith vram s addr col back bits (under .taken) (under .colour) → r .taken ≡ bitOr (under .taken) bits
           → Shows col off (laid s code f c) r
       column-laid ce te = record { colour = ce ∙ colour-after; mask = λ j h. rw te (mask-after j h) }
 
@@ -183,7 +198,7 @@ module _
 no-bit : (j : ℕ) → bit 0 j ≡ false
 no-bit j = bit-above 0 0 j (omega arith) (omega arith)
 
--- one that can mark anything has its column 0 at its X byte
+-- in the visible area one that can mark anything has its column 0 at its X byte
 visible-mark : (e h : ℕ) → e ≤ 8 → (8 ≤ visibleStand e h .start) ⊎ (visibleStand e h .mark ≡ h)
 unfolding visibleStand visibleSeen
 visible-mark e h l =
@@ -199,37 +214,66 @@ effective-mark-at : (e h : ℕ) → effectiveStand e h .mark ≡ h
 unfolding effectiveStand
 effective-mark-at e h = refl
 
-mark-at : (area : RenderArea) (e h : ℕ) → e ≤ 8 → (8 ≤ standOf area e h .start) ⊎ (standOf area e h .mark ≡ h)
-mark-at VisibleOnly e h l = visible-mark e h l
-mark-at EffectiveArea e h l = inr (effective-mark-at e h)
+-- nor is one of a sprite whose s first columns the left edge cuts, and whose mark is 0
+cut-far : (s col j c : ℕ) → col < 256 → j < 8 - c → 15 - c ≤ (col + s + 256) % 256 → 8 ≤ s + past (leftOf (col + 0) j) 0
+cut-far s col j c cl l d =
+    elim (decLt col j) [
+      | yes a ↦ let p : past (leftOf (col + 0) j) 0 ≡ col + 256 - j = omega arith in rw p (omega arith)
+      | no a ↦ let p : past (leftOf (col + 0) j) 0 ≡ col - j = omega arith in rw p (omega arith)
+    ]
 
-module _ (vram : List ℕ) (b : Scene) (area : RenderArea) (e h addr col off : ℕ) (el : e ≤ 8) (d : 15 - min col 7 ≤ (col + off + 256 - h) % 256) (hl : h < 256) where
-  far-column : (j : ℕ) → j < reachOf col → standOf area e h .end ≤ standOf area e h .start + past (leftOf (col + off) j) (standOf area e h .mark)
-  far-column j l =
-      let low = end-low area e h in
-      ⊎-elim (λ z. omega (arith, low)) (λ z. rw z (let k : 8 ≤ past (leftOf (col + off) j) h = far-place (col + off) j h (min col 7) hl (omega arith) l d in omega (arith, low))) (mark-at area e h el)
+before-0 : (col a h : ℕ) → h ≤ a → col + a + 256 - h ≡ col + (a - h) + 256
+before-0 col a h l = omega arith
 
-  far-marks : (j : ℕ) → j < reachOf col → bit 0 j ≡ marksLeft vram b (standOf area e h) addr col off j
-  unfolding marksLeft solid
-  far-marks j l = no-bit j ∙ rw (le-ltb (standOf area e h .start + past (leftOf (col + off) j) (standOf area e h .mark)) (standOf area e h .end) (far-column j l))
+from-0 : (col e h : ℕ) → 48 + e ≤ h → h < 256 → col + (48 + e) + 256 - h ≡ col + 0 + 256 - (h - 48 - e)
+from-0 col e h l u = omega arith
 
-  none : (t u v : Bool) → (t && (u && (v && false))) ≡ false
-  none true true true = refl
-  none true true false = refl
-  none true false v = refl
-  none false u v = refl
+-- a column that is so far to the right of the X byte needs no place that is one of the sprite's columns
+module _ (e h col j : ℕ) (el : e ≤ 8) (hl : h < 256) (cl : col < 256) (l : j < reachOf col) where
+  edge-far : 15 - min col 7 ≤ (col + (48 + e) + 256 - h) % 256 → 8 ≤ edgeStand 48 160 e h .start + past (leftOf (col + 0) j) (edgeStand 48 160 e h .mark)
+  unfolding edgeStand
+  edge-far d =
+      elim (decLt h (48 + e)) [
+        | yes a ↦
+            let z : h - 48 - e ≡ 0 = omega arith in
+            rw z (cut-far (48 + e - h) col j (min col 7) cl l (rw (before-0 col (48 + e) h (omega arith)) at d))
+        | no a ↦
+            let k = far-place (col + 0) j (h - 48 - e) (min col 7) (omega arith) (omega arith) l (rw (from-0 col e h (omega arith) hl) at d) in
+            omega (arith, k)
+      ]
 
-  far-colour : (taken old : ℕ) → old ≡ colourWith vram (standOf area e h) addr col 0 taken old
-  unfolding colourWith
-  far-colour taken old =
-      let s = standOf area e h in
-      rw (no-bit (s .start), none (s .seen) (leb (s .x) col) (ltb (s .start + (col - s .x)) (s .end)))
+  pub far-at : (area : RenderArea) → 15 - min col 7 ≤ (col + aheadOf area e + 256 - h) % 256
+      → 8 ≤ standOf area e h .start + past (leftOf (col + offOf area e) j) (standOf area e h .mark)
+  far-at VisibleOnly d =
+      ⊎-elim (λ z. omega arith) (λ z. rw z (let k = far-place (col + (48 + e)) j h (min col 7) hl (omega arith) l d in omega (arith, k))) (visible-mark e h el)
+  far-at EffectiveArea d = rw (effective-mark-at e h) (let k = far-place (col + e) j h (min col 7) hl (omega arith) l d in omega (arith, k))
+  far-at TrueEdges d = edge-far d
 
-  -- it changes neither the column nor the places near it
-  pub column-far : (f : ℕ → Bool) (c : Canvas) (under : Column) → Tied off (standOf area e h) → col < 256 → ((i : ℕ) → i < 256 → frontAt vram b i ≡ f i) → Shows col off c under
-      → Shows col off (laid (standOf area e h) (codeAt (at vram) addr) f c) under
-  column-far f c under t cl pe sh =
-      column-laid vram b (standOf area e h) addr col off t (end-low area e h) cl f c pe under sh 0 far-marks (far-colour (under .taken) (under .colour)) (sym (or-zero-r (under .taken)))
+module _
+    (vram : List ℕ) (b : Scene) (s : Stand) (addr col off back : ℕ) (low : s .end ≤ 8) (d : (j : ℕ) → j < reachOf col → 8 ≤ s .start + past (leftOf (col + off) j) (s .mark))
+  where
+    far-column : (j : ℕ) → j < reachOf col → s .end ≤ s .start + past (leftOf (col + off) j) (s .mark)
+    far-column j l = let k = d j l in omega (arith, low, k)
+
+    far-marks : (j : ℕ) → j < reachOf col → bit 0 j ≡ marksLeft vram b s addr col off j
+    unfolding marksLeft solid
+    far-marks j l = no-bit j ∙ rw (le-ltb (s .start + past (leftOf (col + off) j) (s .mark)) (s .end) (far-column j l))
+
+    none : (t u v : Bool) → (t && (u && (v && false))) ≡ false
+    none true true true = refl
+    none true true false = refl
+    none true false v = refl
+    none false u v = refl
+
+    far-colour : (taken old : ℕ) → old ≡ colourWith vram s addr col back 0 taken old
+    unfolding colourWith
+    far-colour taken old = rw (no-bit back, none (s .seen) (leb (s .x) col) (ltb (s .start + (col - s .x)) (s .end)))
+
+    -- it changes neither the column nor the places near it
+    pub column-far : (f : ℕ → Bool) (c : Canvas) (under : Column) → Tied off back s → col < 256 → ((i : ℕ) → i < 256 → frontAt vram b i ≡ f i) → Shows col off c under
+        → Shows col off (laid s (codeAt (at vram) addr) f c) under
+    column-far f c under t cl pe sh =
+        column-laid vram b s addr col off back t low cl f c pe under sh 0 far-marks (far-colour (under .taken) (under .colour)) (sym (or-zero-r (under .taken)))
 
 -- ---- the list
 pub column-starts : (col off : ℕ) (colour : ℕ → ℕ) {r : Column} → r .colour ≡ colour col → r .taken ≡ 0 → Shows col off (bare colour) r
@@ -273,3 +317,30 @@ pub going-eight : (m g : ℕ → ℕ) (stand : ℕ → Stand) (l : ℕ) (f : ℕ
     → Going m g stand l f colour n count (λ c L. S c) → S (withSprites m g stand l f (take 8 (listed m g l 64 0)) (bare colour))
 unfolding withSprites
 going-eight m g stand l f colour {n} {count} S e o = let k : 8 - count ≡ 0 = omega arith in subst S (rw k at (o .rest)) (o .shows)
+
+-- ---- a pixel of the visible size, by the view of its area
+-- what the code of a view finds
+module _
+    (vram reg : List ℕ) (v : View) (names sx y cut : ℕ) (ne : names ≡ namesAt (at reg)) (ex : (x : ℕ) → x < v .width → v .mapX x ≡ (sx + x) % 256)
+    (ey : (x : ℕ) → v .mapY x ≡ y) (em : (x : ℕ) → x < v .width → v .markAt x ≡ cutMark cut x)
+  where
+    view-number : (col : ℕ) {r : ℕ} → col < v .width
+        → ((f : ℕ → Bool) (colour : ℕ → ℕ) → ((i : ℕ) → i < 256 → prioTo vram names sx y cut (v .width) i ≡ f i) → mapColour (at vram) names ((sx + col) % 256) y ≡ colour col
+        → r ≡ withSprites (at vram) (at reg) (v .stand) (v .line) f (take 8 (listed (at vram) (at reg) (v .line) 64 0)) (bare colour) .colour col)
+        → r ≡ picture (at vram) (at reg) v .colour col
+    unfolding picture backColour
+    view-number col l found =
+        found (front (at vram) (at reg) v) (map-at (at vram) (at reg) v) (λ i h. front-at vram reg v names sx y ne ex ey cut em i) (back-at vram reg v names sx y ne ex ey cut em col l)
+
+pub scrolled-number : (a : RenderArea) (vram reg : List ℕ) (names sx cut scroll row col : ℕ) {r : ℕ}
+    → columns a ≡ 160 → at reg 8 < 256 → names ≡ namesAt (at reg) → sx ≡ (304 - at reg 8) % 256 → cut ≡ cutOf a (sx % 8) → col < 160
+    → ((f : ℕ → Bool) (colour : ℕ → ℕ) → ((i : ℕ) → i < 256 → prioTo vram names sx ((row + 24 + scroll) % 224) cut 160 i ≡ f i)
+    → mapColour (at vram) names ((sx + col) % 256) ((row + 24 + scroll) % 224) ≡ colour col
+    → r ≡ withSprites (at vram) (at reg) (standOf a (early (at reg))) (row + 24) f (take 8 (listed (at vram) (at reg) (row + 24) 64 0)) (bare colour) .colour col)
+    → r ≡ pictureOf a reg scroll vram row .colour col
+unfolding pictureOf visible trueEdges
+scrolled-number VisibleOnly vram reg names sx cut scroll row col w low ne se ce l found =
+    view-number vram reg (visible (at reg) scroll row) names sx ((row + 24 + scroll) % 224) cut ne (λ x h. rw se (visible-x (at reg 8) x low)) (λ x. refl) (λ x h. rw (ce, se)) col l found
+scrolled-number EffectiveArea vram reg names sx cut scroll row col w low ne se ce l found = absurd (omega arith)
+scrolled-number TrueEdges vram reg names sx cut scroll row col w low ne se ce l found =
+    view-number vram reg (trueEdges (at reg) scroll row) names sx ((row + 24 + scroll) % 224) cut ne (λ x h. rw se (visible-x (at reg 8) x low)) (λ x. refl) (λ x h. rw ce (effective-mark x (omega arith))) col l found

@@ -11,7 +11,7 @@ use Rattle.laws.specs.Circle.{past}
 use Rattle.laws.specs.Lists.{at}
 use Rattle.picture.specs.declared.Stand.{Stand}
 use Rattle.picture.specs.declared.RenderArea.{RenderArea}
-use Rattle.picture.specs.declared.RenderArea.the-variants.{VisibleOnly, EffectiveArea}
+use Rattle.picture.specs.declared.RenderArea.the-variants.{VisibleOnly, EffectiveArea, TrueEdges}
 use Rattle.picture.specs.Tile.{codeAt}
 use Rattle.picture.specs.Picture.{Canvas, solid}
 use Rattle.background.specs.Background.{Room, prioTo}
@@ -41,6 +41,19 @@ leftOf i j = (i + 256 - j) % 256
 abbrev pub offOf : RenderArea → ℕ → ℕ
 offOf VisibleOnly e = 48 + e
 offOf EffectiveArea e = e
+offOf TrueEdges e = 0
+
+-- how far its X byte stands to the right of its column
+abbrev pub aheadOf : RenderArea → ℕ → ℕ
+aheadOf VisibleOnly e = 48 + e
+aheadOf EffectiveArea e = e
+aheadOf TrueEdges e = 48 + e
+
+-- how far to the left of its own place a column of a sprite that starts with pixel `start` is tested and marked
+abbrev pub backOf : RenderArea → ℕ → ℕ
+backOf VisibleOnly start = start
+backOf EffectiveArea start = start
+backOf TrueEdges start = 0
 
 -- how many places are needed, the column's own and those to the left of it: a sprite that the left edge cuts is tested `start` places to the left, and
 -- has no pixel as far right as 8 - start
@@ -52,17 +65,19 @@ unfoldable pub marksLeft : List ℕ → Scene → Stand → ℕ → ℕ → ℕ 
 marksLeft vram b s addr col off j =
     solid (s .start) (s .end) (codeAt (at vram) addr) (past (leftOf (col + off) j) (s .mark)) && not (s .seen && frontAt vram b (leftOf col j))
 
--- the colour number of column col with a sprite whose marks are bits, over those that are taken and the colour that was there
-unfoldable pub colourWith : List ℕ → Stand → ℕ → ℕ → ℕ → ℕ → ℕ → ℕ
-colourWith vram s addr col bits taken old =
-    cond (s .seen && (leb (s .x) col && (ltb (s .start + (col - s .x)) (s .end) && (bit bits (s .start) && not (bit taken (s .start))))))
+-- the colour number of column col with a sprite whose marks are bits, over those that are taken and the colour that was there; it is tested `back` to
+-- the left
+unfoldable pub colourWith : List ℕ → Stand → ℕ → ℕ → ℕ → ℕ → ℕ → ℕ → ℕ
+colourWith vram s addr col back bits taken old =
+    cond (s .seen && (leb (s .x) col && (ltb (s .start + (col - s .x)) (s .end) && (bit bits back && not (bit taken back)))))
     (16 + codeAt (at vram) addr (s .start + (col - s .x))) old
 
--- what ties a sprite that is seen to its column: both masks have it at the same distance, and only at the left edge does it not start with pixel 0
-pub record Tied (off : ℕ) (s : Stand) : Type 0 where
-  pub mark : s .seen ≡ true → (s .mark + s .start) % 256 ≡ (s .x + off) % 256
+-- what ties a sprite that is seen to its column: both masks have it at the same distance, and only at the left edge is it tested to the left
+pub record Tied (off back : ℕ) (s : Stand) : Type 0 where
+  pub mark : s .seen ≡ true → (s .mark + back) % 256 ≡ (s .x + off) % 256
   pub prio : s .seen ≡ true → (s .prio + off) % 256 ≡ s .mark % 256
-  pub edge : s .seen ≡ true → (s .start ≡ 0) ⊎ (s .x ≡ 0)
+  pub edge : s .seen ≡ true → (back ≡ 0) ⊎ (s .x ≡ 0)
+  pub within : back ≤ s .start
 
 -- the code's column is column col of the canvas, with the marks that a sprite there can meet
 pub record Shows (col off : ℕ) (c : Canvas) (r : Column) : Type 0 where

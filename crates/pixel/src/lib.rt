@@ -13,13 +13,13 @@ ghost use Rattle.picture.specs.declared.RenderArea.the-variants.{VisibleOnly, E
 ghost use Rattle.picture.specs.Area.{columns, rows, pictureOf};
 ghost use Rattle.background.specs.Background.{Room, backFront};
 ghost use Rattle.sprites.specs.Sprites.{standOf, Fits};
-ghost use Rattle.pixel.specs.Column.{Set, Clear, frontAt, offOf, reachOf, marksLeft, colourWith, Tied, Shows};
+ghost use Rattle.pixel.specs.Column.{Set, Clear, frontAt, offOf, aheadOf, backOf, reachOf, marksLeft, colourWith, Tied, Shows};
 ghost use Rattle.pixel.specs.Pixel.{inArea, noSpot, spotOf};
 use picture::RenderArea;
 use picture::Stand;
 use vdp::Refusal;
 
-// Sizes of both areas, the first line of the visible one, and the bytes of video memory.
+// The sizes that areas have, the first line of the visible ones, and the bytes of video memory.
 const GG_VISIBLE_PIXEL_WIDTH: usize = 160;
 
 const GG_VISIBLE_PIXEL_HEIGHT: usize = 144;
@@ -150,19 +150,20 @@ fn marks_near(vram: &[u8], b: Scene, s: Stand, addr: usize, col: usize, off: usi
 }
 
 // The colour number of the column with a sprite whose marks are `bits`: its own where it is seen, has a pixel there that is marked, and no sprite
-// before has marked that place.
+// before has marked that place, `back` to the left of the column's own.
 fn colour_with(
     vram: &[u8],
     s: Stand,
     addr: usize,
     col: usize,
+    back: usize,
     bits: u8,
     taken: u8,
     old: usize,
 ) -> usize
     requires { ⌜ Fits s ⌝ }
-    requires { ⌜ (addr + 4 ≤ length (now vram)) × (col < 256) ⌝ }
-    ensures { λ r. ⌜ r ≡ colourWith (now (vram .entry)) s addr col bits taken old ⌝ }
+    requires { ⌜ (addr + 4 ≤ length (now vram)) × (col < 256) × (back ≤ s .start) ⌝ }
+    ensures { λ r. ⌜ r ≡ colourWith (now (vram .entry)) s addr col back bits taken old ⌝ }
 {
     let seen = s.seen;
     let x = s.x;
@@ -178,10 +179,10 @@ fn colour_with(
     if end <= p {
         return old;
     }
-    if !small::is_set(bits, start) {
+    if !small::is_set(bits, back) {
         return old;
     }
-    if small::is_set(taken, start) {
+    if small::is_set(taken, back) {
         return old;
     }
     16 + tile::pixel_code(vram, addr, false, p)
@@ -195,17 +196,18 @@ fn with_sprite(
     addr: usize,
     col: usize,
     off: usize,
+    back: usize,
     under: Column,
 ) -> Column
     requires { ⌜ Set (now vram) b ⌝ }
     requires { ⌜ Fits s ⌝ }
-    requires { ⌜ (addr + 4 ≤ length (now vram)) × (col < 256) × (off < 256) ⌝ }
-    ensures { λ r. ⌜ (Tied off s → (f : ℕ → Bool) (c : Canvas) → ((i : ℕ) → i < 256 → frontAt (now (vram .entry)) b i ≡ f i) → Shows col off c under → Shows col off (laid s (codeAt (at (now (vram .entry))) addr) f c) r) ⌝ }
+    requires { ⌜ (addr + 4 ≤ length (now vram)) × (col < 256) × (off < 256) × (back ≤ s .start) ⌝ }
+    ensures { λ r. ⌜ (Tied off back s → (f : ℕ → Bool) (c : Canvas) → ((i : ℕ) → i < 256 → frontAt (now (vram .entry)) b i ≡ f i) → Shows col off c under → Shows col off (laid s (codeAt (at (now (vram .entry))) addr) f c) r) ⌝ }
 {
     let taken = under.taken;
     let bits = marks_near(vram, b, s, addr, col, off);
     Column {
-        colour: colour_with(vram, s, addr, col, bits, taken, under.colour),
+        colour: colour_with(vram, s, addr, col, back, bits, taken, under.colour),
         taken: taken | bits,
     }
 }
@@ -221,6 +223,32 @@ fn off_of(area: RenderArea, e: u8) -> usize
     match area {
         RenderArea::VisibleOnly => 48 + small::wide(e),
         RenderArea::EffectiveArea => small::wide(e),
+        RenderArea::TrueEdges => 0,
+    }
+}
+
+// How far the X byte of a sprite that is seen stands to the right of its column.
+fn ahead_of(area: RenderArea, e: u8) -> usize
+    requires { ⌜ e ≤ 8 ⌝ }
+    ensures { λ r. ⌜ r ≡ aheadOf area e ⌝ }
+    ensures { λ r. ⌜ r < 256 ⌝ }
+{
+    match area {
+        RenderArea::VisibleOnly => 48 + small::wide(e),
+        RenderArea::EffectiveArea => small::wide(e),
+        RenderArea::TrueEdges => 48 + small::wide(e),
+    }
+}
+
+// How far to the left of its own place a column of a sprite that starts with pixel `start` is tested and marked.
+fn back_of(area: RenderArea, start: usize) -> usize
+    ensures { λ r. ⌜ r ≡ backOf area start ⌝ }
+    ensures { λ r. ⌜ r ≤ start ⌝ }
+{
+    match area {
+        RenderArea::VisibleOnly => start,
+        RenderArea::EffectiveArea => start,
+        RenderArea::TrueEdges => 0,
     }
 }
 
@@ -299,12 +327,13 @@ fn sprite_at(
 {
     let h = vram[k];
     let far = 15 - small::smaller(col, 7);
-    if far <= (col + off + 256 - small::wide(h)) % 256 {
+    if far <= (col + ahead_of(area, e) + 256 - small::wide(h)) % 256 {
         return under;
     }
     let s = sprites::settings(area, e, h);
     let addr = sprites::line_at(reg, vram[k + 1], d);
-    with_sprite(vram, b, s, addr, col, off, under)
+    let back = back_of(area, s.start);
+    with_sprite(vram, b, s, addr, col, off, back, under)
 }
 
 // The colour number of a column of a row: the map's, and over it the first eight sprites of the line in turn.
@@ -356,27 +385,28 @@ fn column_at(
 
 // ---- the pixel
 
-// The colour number of a pixel of the visible area: the map is scrolled both ways, and the sprites are those of the line that is 24 further down.
-fn visible_number(vram: &[u8], reg: [u8; 11], scroll: usize, row: usize, col: usize) -> usize
-    requires { ⌜ (length (now vram) ≡ vramSize) × (scroll < 256) × (row < rows VisibleOnly) × (col < columns VisibleOnly) ⌝ }
-    ensures { λ r. ⌜ r ≡ pictureOf VisibleOnly reg scroll (now (vram .entry)) row .colour col ⌝ }
+// The colour number of a pixel of an area of the visible size: the map is scrolled both ways, and the sprites are those of the line that is 24 further
+// down.
+fn visible_number(
+    vram: &[u8],
+    area: RenderArea,
+    reg: [u8; 11],
+    scroll: usize,
+    row: usize,
+    col: usize,
+) -> usize
+    requires { ⌜ (length (now vram) ≡ vramSize) × (scroll < 256) × (row < rows VisibleOnly) × (col < columns VisibleOnly) × (columns area ≡ columns VisibleOnly) ⌝ }
+    ensures { λ r. ⌜ r ≡ pictureOf area reg scroll (now (vram .entry)) row .colour col ⌝ }
 {
     let sx = (304 - small::wide(reg[8])) % 256;
     let b = Scene {
         names: background::names_at(reg),
         sx: sx,
         y: (row + GG_VISIBLE_AREA_START_Y + scroll) % SCROLL_PIXEL_HEIGHT,
-        cut: sx % 8,
+        cut: small::wide(background::cut_of(area, (sx % 8) as u8)),
         width: GG_VISIBLE_PIXEL_WIDTH,
     };
-    column_at(
-        vram,
-        RenderArea::VisibleOnly,
-        reg,
-        b,
-        row + GG_VISIBLE_AREA_START_Y,
-        col,
-    )
+    column_at(vram, area, reg, b, row + GG_VISIBLE_AREA_START_Y, col)
 }
 
 // The same of the effective area: the map is the screen, whatever the scroll.
@@ -394,7 +424,7 @@ fn effective_number(vram: &[u8], reg: [u8; 11], row: usize, col: usize) -> usize
     column_at(vram, RenderArea::EffectiveArea, reg, b, row, col)
 }
 
-// The same of either area.
+// The same of each area.
 fn colour_number(
     vram: &[u8],
     area: RenderArea,
@@ -407,8 +437,27 @@ fn colour_number(
     ensures { λ r. ⌜ r ≡ pictureOf area reg scroll (now (vram .entry)) row .colour col ⌝ }
 {
     match area {
-        RenderArea::VisibleOnly => visible_number(vram, reg, small::wide(scroll), row, col),
+        RenderArea::VisibleOnly => {
+            visible_number(
+                vram,
+                RenderArea::VisibleOnly,
+                reg,
+                small::wide(scroll),
+                row,
+                col,
+            )
+        }
         RenderArea::EffectiveArea => effective_number(vram, reg, row, col),
+        RenderArea::TrueEdges => {
+            visible_number(
+                vram,
+                RenderArea::TrueEdges,
+                reg,
+                small::wide(scroll),
+                row,
+                col,
+            )
+        }
     }
 }
 
@@ -446,6 +495,9 @@ fn in_area(area: RenderArea, row: usize, col: usize) -> bool
         }
         RenderArea::EffectiveArea => {
             small::both(row < SCROLL_PIXEL_HEIGHT, col < SCROLL_PIXEL_WIDTH)
+        }
+        RenderArea::TrueEdges => {
+            small::both(row < GG_VISIBLE_PIXEL_HEIGHT, col < GG_VISIBLE_PIXEL_WIDTH)
         }
     }
 }

@@ -7,7 +7,7 @@ use Prim.Native.Nat.{ℕ, zero, suc, _+_, _-_, _*_, _<_, _≤_}
 use native.Mathlib.Nat.{add-zero, zero-add}
 use native.Mathlib.Decide.{decLt}
 use native.Mathlib.Omega.{arith}
-use borrow.Author.Tests.{ltb-false, leb-true, eqb-true, le-ltb, le-leb, lt-leb}
+use borrow.Author.Tests.{ltb-false, leb-true, eqb-true, eqb-false, le-ltb, le-leb, lt-leb}
 use lib.Dec.{ltb, leb, eqb, lit≤}
 use lib.ListN.{length, take, drop, length-append, drop-of-length-le, List·getD-eq-default}
 use lib.Seq.{length-take-le, take-at, drop-cons, getD-take, take-nil}
@@ -16,7 +16,7 @@ use Rattle.laws.proofs.Lists.{length-written, written-nil, written-on}
 use Rattle.laws.proofs.Parts.{at-past}
 use Rattle.laws.proofs.Tests.{either, split, clash, both}
 use Rattle.picture.specs.declared.RenderArea.{RenderArea}
-use Rattle.picture.specs.declared.RenderArea.the-variants.{VisibleOnly, EffectiveArea}
+use Rattle.picture.specs.declared.RenderArea.the-variants.{VisibleOnly, EffectiveArea, TrueEdges}
 use Rattle.picture.specs.Area.{areaFrom}
 use Rattle.record.specs.declared.Record.{Record}
 use Rattle.record.specs.declared.Record.the-variants.{Write, Read, Step, Bad, End}
@@ -46,21 +46,20 @@ module _ (p l : List ℕ) where
       rw (e, left, f, start, here 1)
 
 -- the area of a step, there and back
-area-there : (a : RenderArea) → ltb 1 (areaNumber a) ≡ false
+area-there : (a : RenderArea) → ltb 2 (areaNumber a) ≡ false
 area-there VisibleOnly = refl
 area-there EffectiveArea = refl
+area-there TrueEdges = refl
 
 area-back : (a : RenderArea) → areaFrom (areaNumber a) ≡ a
 area-back VisibleOnly = refl
 area-back EffectiveArea = refl
+area-back TrueEdges = refl
 
-area-again : (n : ℕ) → ltb 1 n ≡ false → areaNumber (areaFrom n) ≡ n
+area-again : (n : ℕ) → ltb 2 n ≡ false → areaNumber (areaFrom n) ≡ n
 area-again n e =
-    split (eqb n 0) (λ t. rw t (sym (eqb-true n 0 t))) (λ t. rw t (one n (ltb-false 1 n e) t))
-  where
-    one : (n : ℕ) → n ≤ 1 → eqb n 0 ≡ false → 1 ≡ n
-    one zero h f = clash f
-    one (suc n) h f = omega arith
+    split (eqb n 0) (λ t. rw t (sym (eqb-true n 0 t)))
+    (λ t. split (eqb n 1) (λ u. rw (t, u) (sym (eqb-true n 1 u))) (λ u. rw (t, u) (omega (arith, ltb-false 2 n e, eqb-false n 0 t, eqb-false n 1 u))))
 
 pub reads-here : (p q : List ℕ) (x : Record) → isCall x ≡ true → recordAt (p ++ (recordBytes x ++ q)) (length p) ≡ x
 unfolding marked
@@ -106,7 +105,7 @@ marked-on s k n m =
     either P (eqb m 0x5057) (λ _. either P (ltb n 4) (λ _. refl) (λ _. refl))
     (λ _.
     either P (eqb m 0x5052) (λ _. refl)
-    (λ _. either P (eqb m 0x4C53) (λ _. either P (ltb 1 (at s (k + 2))) (λ _. refl) (λ _. refl)) (λ _. refl)))
+    (λ _. either P (eqb m 0x4C53) (λ _. either P (ltb 2 (at s (k + 2))) (λ _. refl) (λ _. refl)) (λ _. refl)))
 
 not-yet : (s : List ℕ) (k : ℕ) → leb (length s) k ≡ false → isEnd (recordAt s k) ≡ false
 unfolding recordAt
@@ -198,7 +197,7 @@ module _ (s : List ℕ) (bytes : (i : ℕ) → at s i < 256) where
       (λ _.
       either P (eqb m 0x4C53)
       (λ t.
-      either P (ltb 1 (at s (k + 2))) (λ _ c. clash (sym c))
+      either P (ltb 2 (at s (k + 2))) (λ _ c. clash (sym c))
       (λ f c.
       let q = mark k 0x4C 0x53 t (omega arith) in
       (λ i. q .0 i ∷ q .1 i ∷ area-again (at s (k + 2)) f i ∷ drop (k + 3) s) ∙ sym (cut-3 s k h)))

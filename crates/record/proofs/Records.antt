@@ -34,7 +34,7 @@ fits s k =
     either P (eqb m 0x5057) (λ _. either P (ltb n 4) (λ _. omega arith) (λ f. ltb-false n 4 f))
     (λ _.
     either P (eqb m 0x5052) (λ _. h)
-    (λ _. either P (eqb m 0x4C53) (λ _. either P (ltb 1 (at s (k + 2))) (λ _. omega arith) (λ _. h)) (λ _. omega arith)))))
+    (λ _. either P (eqb m 0x4C53) (λ _. either P (ltb 2 (at s (k + 2))) (λ _. omega arith) (λ _. h)) (λ _. omega arith)))))
 
 -- a call has three bytes or more, and what is no call none
 pub call-long : (x : Record) → isCall x ≡ true → 3 ≤ size x

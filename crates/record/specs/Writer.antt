@@ -7,7 +7,7 @@ use lib.Dec.{ltb}
 use lib.ListN.{length}
 use Rattle.laws.specs.Lists.{written}
 use Rattle.picture.specs.declared.RenderArea.{RenderArea}
-use Rattle.picture.specs.declared.RenderArea.the-variants.{VisibleOnly, EffectiveArea}
+use Rattle.picture.specs.declared.RenderArea.the-variants.{VisibleOnly, EffectiveArea, TrueEdges}
 use Rattle.vdp.specs.declared.Refusal.{Refusal}
 use Rattle.vdp.specs.declared.Refusal.the-variants.{RecordRoom}
 use Rattle.vdp.specs.Refusals.{Line, line, first, under}
@@ -19,6 +19,7 @@ use Rattle.record.specs.declared.Recorded.{Recorded}
 abbrev pub areaNumber : RenderArea → ℕ
 areaNumber VisibleOnly = 0
 areaNumber EffectiveArea = 1
+areaNumber TrueEdges = 2
 
 -- R7.9: the bytes of a record: `PW` port value, `PR` port, `LS` area; a bad one and the end are none
 abbrev pub recordBytes : Record → List ℕ

@@ -47,7 +47,7 @@ pub fn record_at(s: &[u8], at: usize) -> Record
         }
         0x5052 => Record::Read(x),
         0x4C53 => {
-            if 1 < x {
+            if 2 < x {
                 return Record::Bad;
             }
             Record::Step(picture::area_from(x))
@@ -71,6 +71,7 @@ pub fn area_number(area: RenderArea) -> u8
     match area {
         RenderArea::VisibleOnly => 0,
         RenderArea::EffectiveArea => 1,
+        RenderArea::TrueEdges => 2,
     }
 }
 

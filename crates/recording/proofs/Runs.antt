@@ -11,7 +11,7 @@ use lib.ListN.{length, length-append}
 use Rattle.laws.specs.Lists.{at, written}
 use Rattle.laws.proofs.Tests.{either}
 use Rattle.picture.specs.declared.RenderArea.{RenderArea}
-use Rattle.picture.specs.declared.RenderArea.the-variants.{VisibleOnly, EffectiveArea}
+use Rattle.picture.specs.declared.RenderArea.the-variants.{VisibleOnly, EffectiveArea, TrueEdges}
 use Rattle.vdp.specs.declared.Refusal.{Refusal}
 use Rattle.vdp.specs.Refusals.{refusalNumber}
 use Rattle.vdp.specs.Ports.{portWrite, portRead}
@@ -33,7 +33,7 @@ use Rattle.record.specs.Record.{recordAt}
 use Rattle.record.specs.Writer.{size}
 use Rattle.record.proofs.Records.{fits}
 use Rattle.recording.specs.Text.{digitOf, decimal, hexDigit, lineOf}
-use Rattle.recording.specs.Run.{World, Turn, held, stepAnswer, rowTurn, frameTurn, layerTurn, turnFor, turnBy, turnOf, after, lines, TurnLeaves}
+use Rattle.recording.specs.Run.{World, Turn, held, stepAnswer, rowTurn, intoFrame, frameTurn, layersInto, layerTurn, turnFor, turnBy, turnOf, after, lines, TurnLeaves}
 use Rattle.recording.proofs.Lines.{decimal-short, one, grow}
 
 -- ---- how long a line is
@@ -87,37 +87,61 @@ row-moves =
       short = λ a w. answer-short (rowStep a (w .vram) (length (w .row)) (w .run .vdp));
     }
 
+into-moves : Moves intoFrame
+unfolding intoFrame
+into-moves =
+    record {
+      place = λ a w. refl;
+      counts = λ a w. refl;
+      short = λ a w. answer-short (frameStep a (w .vram) (length (w .frame)) (w .run .vdp));
+    }
+
+layered-moves : Moves layersInto
+unfolding layersInto
+layered-moves =
+    record {
+      place = λ a w. refl;
+      counts = λ a w. refl;
+      short = λ a w. answer-short (rowStep a (w .vram) (length (w .row)) (w .run .vdp));
+    }
+
 pub frame-moves : Moves frameTurn
 unfolding frameTurn
 frame-moves = record { place = place; counts = counts; short = short }
   where
     place : (a : RenderArea) (w : World) → frameTurn a w .world .run .at ≡ w .run .at + 3
-    place VisibleOnly w = refl
+    place VisibleOnly w = into-moves .place VisibleOnly w
     place EffectiveArea w = row-moves .place EffectiveArea w
+    place TrueEdges w = into-moves .place TrueEdges w
 
     counts : (a : RenderArea) (w : World) → frameTurn a w .world .run .count ≡ w .run .count + 1
-    counts VisibleOnly w = refl
+    counts VisibleOnly w = into-moves .counts VisibleOnly w
     counts EffectiveArea w = row-moves .counts EffectiveArea w
+    counts TrueEdges w = into-moves .counts TrueEdges w
 
     short : (a : RenderArea) (w : World) → length (lineOf (frameTurn a w .answer)) ≤ 15
-    short VisibleOnly w = answer-short (frameStep VisibleOnly (w .vram) (length (w .frame)) (w .run .vdp))
+    short VisibleOnly w = into-moves .short VisibleOnly w
     short EffectiveArea w = row-moves .short EffectiveArea w
+    short TrueEdges w = into-moves .short TrueEdges w
 
 pub layer-moves : Moves layerTurn
 unfolding layerTurn
 layer-moves = record { place = place; counts = counts; short = short }
   where
     place : (a : RenderArea) (w : World) → layerTurn a w .world .run .at ≡ w .run .at + 3
-    place VisibleOnly w = refl
+    place VisibleOnly w = layered-moves .place VisibleOnly w
     place EffectiveArea w = row-moves .place EffectiveArea w
+    place TrueEdges w = layered-moves .place TrueEdges w
 
     counts : (a : RenderArea) (w : World) → layerTurn a w .world .run .count ≡ w .run .count + 1
-    counts VisibleOnly w = refl
+    counts VisibleOnly w = layered-moves .counts VisibleOnly w
     counts EffectiveArea w = row-moves .counts EffectiveArea w
+    counts TrueEdges w = layered-moves .counts TrueEdges w
 
     short : (a : RenderArea) (w : World) → length (lineOf (layerTurn a w .answer)) ≤ 15
-    short VisibleOnly w = answer-short (rowStep VisibleOnly (w .vram) (length (w .row)) (w .run .vdp))
+    short VisibleOnly w = layered-moves .short VisibleOnly w
     short EffectiveArea w = row-moves .short EffectiveArea w
+    short TrueEdges w = layered-moves .short TrueEdges w
 
 -- whatever the frame shows
 pub moves-for : (shown : Shown) → Moves (turnFor shown)

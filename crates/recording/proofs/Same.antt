@@ -10,8 +10,8 @@ use lib.ListN.{length, length-set}
 use Rattle.laws.proofs.Paint.{length-painted}
 use Rattle.laws.proofs.Tests.{either}
 use Rattle.picture.specs.declared.RenderArea.{RenderArea}
-use Rattle.picture.specs.declared.RenderArea.the-variants.{VisibleOnly, EffectiveArea}
-use Rattle.picture.specs.Area.{rowSize}
+use Rattle.picture.specs.declared.RenderArea.the-variants.{VisibleOnly, EffectiveArea, TrueEdges}
+use Rattle.picture.specs.Area.{rowSize, frameSize}
 use Rattle.vdp.specs.declared.VdpState.{VdpState}
 use Rattle.vdp.specs.declared.ReadBack.{ReadBack}
 use Rattle.vdp.specs.declared.WriteDest.{WriteDest}
@@ -35,7 +35,7 @@ use Rattle.recording.specs.declared.run.Shown.{Shown}
 use Rattle.recording.specs.declared.run.Shown.the-variants.{Colours, Layers}
 use Rattle.record.specs.Record.{recordAt}
 use Rattle.recording.specs.Text.{lineOf}
-use Rattle.recording.specs.Run.{World, Turn, held, start, on, stepAnswer, rowTurn, frameTurn, layersPainted, layerTurn, turnFor, turnBy, turnOf, after, lines}
+use Rattle.recording.specs.Run.{World, Turn, held, start, on, stepAnswer, rowTurn, intoFrame, frameTurn, layersPainted, layersInto, layerTurn, turnFor, turnBy, turnOf, after, lines}
 
 -- video memory keeps its length
 data-length : (d : WriteDest) (s : VdpState) (m : List ℕ) (v : ℕ) → length (dataBy d s m v .vram) ≡ length m
@@ -114,24 +114,37 @@ row-both a {t} {w} h k =
     same-step a (rowLines a (t .vram) (length (t .row))) (rowLines a (w .vram) (length (w .row))) h (row-taken a h (omega arith))
     (row-passes a (w .vram) (length (w .row)) (memory′ h) (omega arith))
 
-step-both : (shown : Shown) (a : RenderArea) {t w : World} → Alike t w → SameTurn (rowTurn a t) (turnFor shown a w)
-unfolding rowTurn frameTurn layerTurn
-step-both Colours VisibleOnly {t} {w} h =
+-- into the frame in one of them
+into-both : (a : RenderArea) {t w : World} → Alike t w → frameSize a ≡ 92160 → rowSize a ≤ 1024 → SameTurn (rowTurn a t) (intoFrame a w)
+unfolding rowTurn intoFrame
+into-both a {t} {w} h f k =
     let r = h .rows in
     let e =
-    same-step VisibleOnly (rowLines VisibleOnly (t .vram) (length (t .row))) (frameLines VisibleOnly (w .vram) (length (w .frame))) h
-    (row-taken VisibleOnly h (omega arith)) (frame-passes VisibleOnly (w .vram) (length (w .frame)) (memory′ h) (h .frame))
+    same-step a (rowLines a (t .vram) (length (t .row))) (frameLines a (w .vram) (length (w .frame))) h
+    (row-taken a h (omega arith)) (frame-passes a (w .vram) (length (w .frame)) (memory′ h) (h .frame ∙ sym f))
     in
-    record { answer = same-answer e; world = after-step VisibleOnly h e refl (frame-step-length VisibleOnly (w .vram) (w .run .vdp) (w .frame)) }
-step-both Layers VisibleOnly {t} {w} h =
-    let e = row-both VisibleOnly h (omega arith) in
-    record { answer = same-answer e; world = after-step VisibleOnly h e (row-step-length VisibleOnly (w .vram) (w .run .vdp) (w .row)) (length-painted-layers (rowStep VisibleOnly (w .vram) (length (w .row)) (w .run .vdp) .row) (rowLayers VisibleOnly (w .vram) (counterUp (w .run .vdp))) (w .frame)) }
-step-both Colours EffectiveArea {t} {w} h =
-    let e = row-both EffectiveArea h (omega arith) in
-    record { answer = same-answer e; world = after-step EffectiveArea h e (row-step-length EffectiveArea (w .vram) (w .run .vdp) (w .row)) refl }
-step-both Layers EffectiveArea {t} {w} h =
-    let e = row-both EffectiveArea h (omega arith) in
-    record { answer = same-answer e; world = after-step EffectiveArea h e (row-step-length EffectiveArea (w .vram) (w .run .vdp) (w .row)) refl }
+    record { answer = same-answer e; world = after-step a h e refl (frame-step-length a (w .vram) (w .run .vdp) (w .frame)) }
+
+layers-both : (a : RenderArea) {t w : World} → Alike t w → rowSize a ≤ 1024 → SameTurn (rowTurn a t) (layersInto a w)
+unfolding rowTurn layersInto
+layers-both a {t} {w} h k =
+    let e = row-both a h k in
+    record { answer = same-answer e; world = after-step a h e (row-step-length a (w .vram) (w .run .vdp) (w .row)) (length-painted-layers (rowStep a (w .vram) (length (w .row)) (w .run .vdp) .row) (rowLayers a (w .vram) (counterUp (w .run .vdp))) (w .frame)) }
+
+beside-both : (a : RenderArea) {t w : World} → Alike t w → rowSize a ≤ 1024 → SameTurn (rowTurn a t) (rowTurn a w)
+unfolding rowTurn
+beside-both a {t} {w} h k =
+    let e = row-both a h k in
+    record { answer = same-answer e; world = after-step a h e (row-step-length a (w .vram) (w .run .vdp) (w .row)) refl }
+
+step-both : (shown : Shown) (a : RenderArea) {t w : World} → Alike t w → SameTurn (rowTurn a t) (turnFor shown a w)
+unfolding frameTurn layerTurn
+step-both Colours VisibleOnly h = into-both VisibleOnly h refl (omega arith)
+step-both Layers VisibleOnly h = layers-both VisibleOnly h (omega arith)
+step-both Colours EffectiveArea h = beside-both EffectiveArea h (omega arith)
+step-both Layers EffectiveArea h = beside-both EffectiveArea h (omega arith)
+step-both Colours TrueEdges h = into-both TrueEdges h refl (omega arith)
+step-both Layers TrueEdges h = layers-both TrueEdges h (omega arith)
 
 turn-by : (shown : Shown) (x : Record) {t w : World} → Alike t w → SameTurn (turnBy x rowTurn t) (turnBy x (turnFor shown) w)
 unfolding turnBy

@@ -12,7 +12,8 @@ use Rattle.laws.proofs.Paint.{painted-cong}
 use Rattle.laws.proofs.Tests.{split}
 use Rattle.picture.proofs.Layers.{layersIn-at}
 use Rattle.picture.specs.declared.RenderArea.{RenderArea}
-use Rattle.picture.specs.declared.RenderArea.the-variants.{VisibleOnly, EffectiveArea}
+use Rattle.picture.specs.declared.RenderArea.the-variants.{VisibleOnly, EffectiveArea, TrueEdges}
+use Rattle.picture.specs.Area.{columns, rows}
 use Rattle.vdp.specs.declared.VdpState.{VdpState}
 use Rattle.vdp.specs.Refusals.{Line}
 use Rattle.vdp.specs.Ports.{portWrite, portRead}
@@ -32,7 +33,7 @@ use Rattle.recording.specs.declared.run.Shown.{Shown}
 use Rattle.recording.specs.declared.run.Shown.the-variants.{Colours, Layers}
 use Rattle.recording.specs.declared.run.Turned.{Turned}
 use Rattle.record.specs.Record.{recordAt}
-use Rattle.recording.specs.Run.{World, Turn, held, on, stepAnswer, rowTurn, frameTurn, layerColour, layersPainted, layerTurn, turnFor, turnBy, turnOf, TurnLeaves}
+use Rattle.recording.specs.Run.{World, Turn, held, on, stepAnswer, rowTurn, intoFrame, frameTurn, layerColour, layersPainted, layersInto, layerTurn, turnFor, turnBy, turnOf, TurnLeaves}
 
 -- the same turn, said in another way
 same-turn : {u v : Turn} {t : Turned} {vram row frame : List ℕ} → u ≡ v → TurnLeaves u t vram row frame → TurnLeaves v t vram row frame
@@ -50,10 +51,10 @@ row-stepped a w h ea er =
     }
 
 pub frame-stepped :
-    (w : World) {k : Stepped} {frame : List ℕ} {t : Turned} → FrameStepLeaves VisibleOnly (w .vram) (w .run .vdp) (w .frame) k frame
-    → t .answer ≡ stepAnswer k → t .run ≡ on (w .run) 3 (k .vdp) → TurnLeaves (frameTurn VisibleOnly w) t (w .vram) (w .row) frame
-unfolding frameTurn
-frame-stepped w {k} {frame} {t} g ea er =
+    (a : RenderArea) (w : World) {k : Stepped} {frame : List ℕ} {t : Turned} → FrameStepLeaves a (w .vram) (w .run .vdp) (w .frame) k frame
+    → t .answer ≡ stepAnswer k → t .run ≡ on (w .run) 3 (k .vdp) → TurnLeaves (intoFrame a w) t (w .vram) (w .row) frame
+unfolding intoFrame
+frame-stepped a w {k} {frame} {t} g ea er =
     record {
       answer = ea ∙ ap stepAnswer (g .answer);
       world = λ i. held ((er ∙ ap (λ (s : Stepped). on (w .run) 3 (s .vdp)) (g .answer)) i) (w .vram) (w .row) (g .bytes i);
@@ -69,55 +70,75 @@ unfolding stepWith layersAfter stepped
 told-or-not [] a vram d layers = inr (refl, refl)
 told-or-not (l ∷ ls) a vram d layers = split (l .holds) (λ t. inl (rw t)) (λ t. rw t (told-or-not ls a vram d layers))
 
-module _ (vram : List ℕ) (d : VdpState) (frame layers : List ℕ) (n : length layers ≡ 160) where
-  shown-layers : (y : ℕ) → painted frame (160 * y) 160 (λ x. layerColour (at (layersBy (Drawn y) VisibleOnly vram (counterUp d) layers) x))
-      ≡ painted frame (160 * y) 160 (λ x. layerColour (rowLayers VisibleOnly vram (counterUp d) y x))
+-- an area as wide as the visible one has its rows
+same-rows : (a : RenderArea) → columns a ≡ 160 → rows a ≡ 144
+same-rows VisibleOnly c = refl
+same-rows EffectiveArea c = absurd (omega arith)
+same-rows TrueEdges c = refl
+
+module _ (a : RenderArea) (c : columns a ≡ 160) (vram : List ℕ) (d : VdpState) (frame layers : List ℕ) (n : length layers ≡ 160) where
+  shown-layers : (y : ℕ) → painted frame (160 * y) 160 (λ x. layerColour (at (layersBy (Drawn y) a vram (counterUp d) layers) x))
+      ≡ painted frame (160 * y) 160 (λ x. layerColour (rowLayers a vram (counterUp d) y x))
   unfolding layersBy
   shown-layers y =
       let h : 160 ≤ length layers = omega arith in
-      painted-cong frame (160 * y) 160 _ _ (λ x i. ap layerColour (layersIn-at layers 160 (rowLayers VisibleOnly vram (counterUp d) y) h x i))
+      painted-cong frame (160 * y) 160 _ _ (λ x i. ap layerColour (rw c (layersIn-at layers 160 (rowLayers a vram (counterUp d) y) h x i)))
 
-  painted-by : (r : DrawnRow) → layersPainted r (λ y. at (layersBy r VisibleOnly vram (counterUp d) layers)) frame ≡ layersPainted r (rowLayers VisibleOnly vram (counterUp d)) frame
+  painted-by : (r : DrawnRow) → layersPainted r (λ y. at (layersBy r a vram (counterUp d) layers)) frame ≡ layersPainted r (rowLayers a vram (counterUp d)) frame
   painted-by NoRow = refl
   painted-by (Drawn y) = shown-layers y
 
   painted-is :
-      (ls : List Line) {r : DrawnRow} {layers′ : List ℕ} → r ≡ stepWith ls VisibleOnly vram d .row → layers′ ≡ layersAfter ls VisibleOnly vram d layers
-      → layersPainted r (λ y. at layers′) frame ≡ layersPainted r (rowLayers VisibleOnly vram (counterUp d)) frame
+      (ls : List Line) {r : DrawnRow} {layers′ : List ℕ} → r ≡ stepWith ls a vram d .row → layers′ ≡ layersAfter ls a vram d layers
+      → layersPainted r (λ y. at layers′) frame ≡ layersPainted r (rowLayers a vram (counterUp d)) frame
   painted-is ls {r} er el =
-      elim (told-or-not ls VisibleOnly vram d layers) [
+      elim (told-or-not ls a vram d layers) [
         | inl z ↦ rw (er ∙ z)
-        | inr z ↦ rw (er ∙ z .0, el ∙ z .1) (painted-by (rowOn VisibleOnly (lineOf (counterUp d))))
+        | inr z ↦ rw (er ∙ z .0, el ∙ z .1) (painted-by (rowOn a (lineOf (counterUp d))))
       ]
 
   -- the row that is drawn is one of the area's
-  pub row-told : (ls : List Line) {r : DrawnRow} → r ≡ stepWith ls VisibleOnly vram d .row → RowIn VisibleOnly r
+  pub row-told : (ls : List Line) {r : DrawnRow} → r ≡ stepWith ls a vram d .row → RowIn VisibleOnly r
   row-told ls er =
-      elim (told-or-not ls VisibleOnly vram d layers) [
+      elim (told-or-not ls a vram d layers) [
         | inl z ↦ λ y q. absurd (let k : NoRow ≡ Drawn y = sym (er ∙ z) ∙ q in let o : _≡_ {A = ℕ} 0 1 = cc in omega arith)
-        | inr z ↦ row-in VisibleOnly (lineOf (counterUp d)) (er ∙ z .0)
+        | inr z ↦ λ y q. omega (arith, row-in a (lineOf (counterUp d)) (er ∙ z .0) y q, same-rows a c)
       ]
 
 pub layer-stepped :
-    (w : World) (layers : List ℕ) {k : Stepped} {row layers′ frame : List ℕ} {t : Turned} → length layers ≡ 160
-    → RowLayersLeave 160 VisibleOnly (w .vram) (w .run .vdp) (w .row) layers k row layers′ → frame ≡ layersPainted (k .row) (λ y. at layers′) (w .frame)
-    → t .answer ≡ stepAnswer k → t .run ≡ on (w .run) 3 (k .vdp) → TurnLeaves (layerTurn VisibleOnly w) t (w .vram) row frame
-unfolding layerTurn
-layer-stepped w layers {k} {row} {layers′} {frame} {t} n g ef ea er =
-    let room : 160 ≤ length layers = omega arith in
-    let ls = rowLines VisibleOnly (w .vram) (length (w .row)) in
-    let al = alsoLayers 160 (length layers) ls in
-    let s = aside VisibleOnly (w .vram) (w .run .vdp) (w .row) layers room in
-    let q : k ≡ rowStep VisibleOnly (w .vram) (length (w .row)) (w .run .vdp) = g .answer ∙ s .0 in
-    let b : row ≡ rowAfter VisibleOnly (w .vram) (w .run .vdp) (w .row) = g .bytes ∙ s .1 in
-    let f : frame ≡ layersPainted (rowStep VisibleOnly (w .vram) (length (w .row)) (w .run .vdp) .row) (rowLayers VisibleOnly (w .vram) (counterUp (w .run .vdp))) (w .frame) =
+    (a : RenderArea) → columns a ≡ 160 → (w : World) (layers : List ℕ) {k : Stepped} {row layers′ frame : List ℕ} {t : Turned} → length layers ≡ 160
+    → RowLayersLeave (columns a) a (w .vram) (w .run .vdp) (w .row) layers k row layers′ → frame ≡ layersPainted (k .row) (λ y. at layers′) (w .frame)
+    → t .answer ≡ stepAnswer k → t .run ≡ on (w .run) 3 (k .vdp) → TurnLeaves (layersInto a w) t (w .vram) row frame
+unfolding layersInto
+layer-stepped a c w layers {k} {row} {layers′} {frame} {t} n g ef ea er =
+    let room : columns a ≤ length layers = omega arith in
+    let ls = rowLines a (w .vram) (length (w .row)) in
+    let al = alsoLayers (columns a) (length layers) ls in
+    let s = aside a (w .vram) (w .run .vdp) (w .row) layers room in
+    let q : k ≡ rowStep a (w .vram) (length (w .row)) (w .run .vdp) = g .answer ∙ s .0 in
+    let b : row ≡ rowAfter a (w .vram) (w .run .vdp) (w .row) = g .bytes ∙ s .1 in
+    let f : frame ≡ layersPainted (rowStep a (w .vram) (length (w .row)) (w .run .vdp) .row) (rowLayers a (w .vram) (counterUp (w .run .vdp))) (w .frame) =
     ef
-    ∙ painted-is (w .vram) (w .run .vdp) (w .frame) layers n al (ap (λ (x : Stepped). x .row) (g .answer)) (g .owners)
-    ∙ ap (λ (x : Stepped). layersPainted (x .row) (rowLayers VisibleOnly (w .vram) (counterUp (w .run .vdp))) (w .frame)) q in
+    ∙ painted-is a c (w .vram) (w .run .vdp) (w .frame) layers n al (ap (λ (x : Stepped). x .row) (g .answer)) (g .owners)
+    ∙ ap (λ (x : Stepped). layersPainted (x .row) (rowLayers a (w .vram) (counterUp (w .run .vdp))) (w .frame)) q in
     record {
       answer = ea ∙ ap stepAnswer q;
       world = λ i. held ((er ∙ ap (λ (x : Stepped). on (w .run) 3 (x .vdp)) q) i) (w .vram) (b i) (f i);
     }
+
+-- whatever the frame shows, steps of the visible size go there
+abbrev pub shownBy : Shown → RenderArea → World → Turn
+shownBy Colours = intoFrame
+shownBy Layers = layersInto
+
+pub turn-for : (shown : Shown) (a : RenderArea) (w : World) → columns a ≡ 160 → turnFor shown a w ≡ shownBy shown a w
+unfolding frameTurn layerTurn
+turn-for Colours VisibleOnly w c = refl
+turn-for Colours EffectiveArea w c = absurd (omega arith)
+turn-for Colours TrueEdges w c = refl
+turn-for Layers VisibleOnly w c = refl
+turn-for Layers EffectiveArea w c = absurd (omega arith)
+turn-for Layers TrueEdges w c = refl
 
 -- whatever the frame shows, steps of the effective area go into the row buffer
 beside-for : (shown : Shown) (w : World) → turnFor shown EffectiveArea w ≡ rowTurn EffectiveArea w
@@ -131,7 +152,7 @@ pub beside-stepped :
 beside-stepped shown w e h = rw (e, beside-for shown w) (rw e at h)
 
 pub visible-stepped :
-    (shown : Shown) {a : RenderArea} (w : World) {t : Turned} {vram row frame : List ℕ} → a ≡ VisibleOnly → TurnLeaves (turnFor shown VisibleOnly w) t vram row frame
+    (shown : Shown) {a b : RenderArea} (w : World) {t : Turned} {vram row frame : List ℕ} → a ≡ b → TurnLeaves (turnFor shown b w) t vram row frame
     → TurnLeaves (turnFor shown a w) t vram row frame
 visible-stepped shown w e h = rw e h
 

@@ -135,7 +135,7 @@ marked-bad s k n m run =
     either P (eqb m 0x5057) (λ _. either P (ltb n 4) (λ _ _. refl) (λ _ e. clash e))
     (λ _.
     either P (eqb m 0x5052) (λ _ e. clash e)
-    (λ _. either P (eqb m 0x4C53) (λ _. either P (ltb 1 (at s (k + 2))) (λ _ _. refl) (λ _ e. clash e)) (λ _ _. refl)))
+    (λ _. either P (eqb m 0x4C53) (λ _. either P (ltb 2 (at s (k + 2))) (λ _ _. refl) (λ _ e. clash e)) (λ _ _. refl)))
 
 pub last-is : (s : List ℕ) (run : Run) → isCall (recordAt s (run .at)) ≡ false → lastLine s run ≡ closing (recordAt s (run .at)) run
 unfolding lastLine recordAt

@@ -8,7 +8,7 @@ use lib.Dec.{eqb}
 use lib.ListN.{length}
 use Rattle.laws.specs.Paint.{painted, ofBytes}
 use Rattle.picture.specs.declared.RenderArea.{RenderArea}
-use Rattle.picture.specs.declared.RenderArea.the-variants.{VisibleOnly, EffectiveArea}
+use Rattle.picture.specs.declared.RenderArea.the-variants.{VisibleOnly, EffectiveArea, TrueEdges}
 use Rattle.vdp.specs.declared.VdpState.{VdpState}
 use Rattle.vdp.specs.Ports.{portWrite, portRead}
 use Rattle.step.specs.declared.DrawnRow.{DrawnRow}
@@ -64,15 +64,20 @@ rowTurn a w =
       world = held (on (w .run) 3 (s .vdp)) (w .vram) (rowAfter a (w .vram) (w .run .vdp) (w .row)) (w .frame);
     }
 
--- a step as the snapshot makes it: of the visible area into the frame, of the effective area as in the trace
-unfoldable pub frameTurn : RenderArea → World → Turn
-frameTurn VisibleOnly w =
-    let s = frameStep VisibleOnly (w .vram) (length (w .frame)) (w .run .vdp) in
+-- a step into the frame
+unfoldable pub intoFrame : RenderArea → World → Turn
+intoFrame a w =
+    let s = frameStep a (w .vram) (length (w .frame)) (w .run .vdp) in
     record {
       answer = stepAnswer s;
-      world = held (on (w .run) 3 (s .vdp)) (w .vram) (w .row) (frameAfter VisibleOnly (w .vram) (w .run .vdp) (w .frame));
+      world = held (on (w .run) 3 (s .vdp)) (w .vram) (w .row) (frameAfter a (w .vram) (w .run .vdp) (w .frame));
     }
+
+-- R7.13, R18.5: a step as the snapshot makes it: of an area of the visible size into the frame, of the effective area as in the trace
+unfoldable pub frameTurn : RenderArea → World → Turn
+frameTurn VisibleOnly w = intoFrame VisibleOnly w
 frameTurn EffectiveArea w = rowTurn EffectiveArea w
+frameTurn TrueEdges w = intoFrame TrueEdges w
 
 -- R15.5: the colour of a layer: the background dark grey, a held-back pixel magenta, sprite n from green to red as n goes up
 unfoldable pub layerColour : ℕ → ℕ
@@ -84,17 +89,22 @@ abbrev pub layersPainted : DrawnRow → (ℕ → ℕ → ℕ) → List ℕ → L
 layersPainted NoRow layer frame = frame
 layersPainted (Drawn y) layer frame = painted frame (160 * y) 160 (λ x. layerColour (layer y x))
 
--- a step as `layers` makes it: of the visible area into the row buffer, with its layers as colours in the frame; of the effective area as in the trace
-unfoldable pub layerTurn : RenderArea → World → Turn
-layerTurn VisibleOnly w =
-    let s = rowStep VisibleOnly (w .vram) (length (w .row)) (w .run .vdp) in
+-- a step into the row buffer, with its layers as colours in the frame
+unfoldable pub layersInto : RenderArea → World → Turn
+layersInto a w =
+    let s = rowStep a (w .vram) (length (w .row)) (w .run .vdp) in
     record {
       answer = stepAnswer s;
       world =
-          held (on (w .run) 3 (s .vdp)) (w .vram) (rowAfter VisibleOnly (w .vram) (w .run .vdp) (w .row))
-          (layersPainted (s .row) (rowLayers VisibleOnly (w .vram) (counterUp (w .run .vdp))) (w .frame));
+          held (on (w .run) 3 (s .vdp)) (w .vram) (rowAfter a (w .vram) (w .run .vdp) (w .row))
+          (layersPainted (s .row) (rowLayers a (w .vram) (counterUp (w .run .vdp))) (w .frame));
     }
+
+-- R15.5, R18.5: a step as `layers` makes it: the layers of an area of the visible size in the frame, the effective area as in the trace
+unfoldable pub layerTurn : RenderArea → World → Turn
+layerTurn VisibleOnly w = layersInto VisibleOnly w
 layerTurn EffectiveArea w = rowTurn EffectiveArea w
+layerTurn TrueEdges w = layersInto TrueEdges w
 
 -- what the frame shows
 abbrev pub turnFor : Shown → RenderArea → World → Turn

@@ -5,10 +5,10 @@ ghost use Prim.Native.Nat.{_-_, _<_, _≤_};
 ghost use lib.ListN.{length};
 ghost use Rattle.laws.specs.Lists.{at};
 ghost use Rattle.picture.specs.declared.RenderArea.the-variants.{VisibleOnly};
-ghost use Rattle.picture.specs.Area.{frameSize};
+ghost use Rattle.picture.specs.Area.{columns, frameSize};
 ghost use Rattle.step.specs.Points.{RowIn};
 ghost use Rattle.vdp.specs.Ports.{portWrite, portRead};
-ghost use Rattle.recording.specs.Run.{held, on, stepAnswer, rowTurn, layerColour, layersPainted, layerTurn, turnFor, turnOf, TurnLeaves};
+ghost use Rattle.recording.specs.Run.{held, on, stepAnswer, rowTurn, layerColour, layersPainted, layersInto, turnFor, turnOf, TurnLeaves};
 use crate::text::Answer;
 use picture::RenderArea;
 use record::Record;
@@ -27,7 +27,7 @@ pub struct Run {
     pub count: usize,
 }
 
-// What a frame shows of the visible steps: the picture, or which layer owns each pixel.
+// What a frame shows of the steps of the visible size: the picture, or which layer owns each pixel.
 pub enum Shown {
     Colours,
     Layers,
@@ -160,32 +160,39 @@ fn paint_layers(frame: &mut [u8], drawn: DrawnRow, layers: &[u8; 160])
     }
 }
 
-// A visible step whose layers the frame shows.
-fn layer_turn(run: Run, vram: &[u8], row: &mut [u8], frame: &mut [u8]) -> Turned
-    requires { ⌜ (run .at < 4294967296) × (run .count < 4294967296) × (frameSize VisibleOnly ≤ length (now frame)) ⌝ }
-    ensures { λ r. ⌜ TurnLeaves (layerTurn VisibleOnly (held run (now (vram .entry)) (now (row .entry)) (now (frame .entry)))) r (now (vram .entry)) (now (row .exit)) (now (frame .exit)) ⌝ }
+// A step of an area of the visible size, whose layers the frame shows.
+fn layer_turn(run: Run, vram: &[u8], row: &mut [u8], frame: &mut [u8], area: RenderArea) -> Turned
+    requires { ⌜ (run .at < 4294967296) × (run .count < 4294967296) × (frameSize VisibleOnly ≤ length (now frame)) × (columns area ≡ columns VisibleOnly) ⌝ }
+    ensures { λ r. ⌜ TurnLeaves (layersInto area (held run (now (vram .entry)) (now (row .entry)) (now (frame .entry)))) r (now (vram .entry)) (now (row .exit)) (now (frame .exit)) ⌝ }
 {
     let vdp = run.vdp;
     let mut layers = [0u8; 160];
-    let stepped = layer_row_step(vdp, vram, row, &mut layers, RenderArea::VisibleOnly);
+    let stepped = layer_row_step(vdp, vram, row, &mut layers, area);
     let drawn = stepped.row;
     paint_layers(frame, drawn, &layers);
     step_turn(run, stepped)
 }
 
-// A visible step, and what the frame shows of it.
-fn visible_turn(run: Run, shown: Shown, vram: &[u8], row: &mut [u8], frame: &mut [u8]) -> Turned
-    requires { ⌜ (run .at < 4294967296) × (run .count < 4294967296) × (frameSize VisibleOnly ≤ length (now frame)) ⌝ }
-    ensures { λ r. ⌜ TurnLeaves (turnFor shown VisibleOnly (held run (now (vram .entry)) (now (row .entry)) (now (frame .entry)))) r (now (vram .entry)) (now (row .exit)) (now (frame .exit)) ⌝ }
+// A step of an area of the visible size, and what the frame shows of it.
+fn visible_turn(
+    run: Run,
+    shown: Shown,
+    vram: &[u8],
+    row: &mut [u8],
+    frame: &mut [u8],
+    area: RenderArea,
+) -> Turned
+    requires { ⌜ (run .at < 4294967296) × (run .count < 4294967296) × (frameSize VisibleOnly ≤ length (now frame)) × (columns area ≡ columns VisibleOnly) ⌝ }
+    ensures { λ r. ⌜ TurnLeaves (turnFor shown area (held run (now (vram .entry)) (now (row .entry)) (now (frame .entry)))) r (now (vram .entry)) (now (row .exit)) (now (frame .exit)) ⌝ }
 {
     let vdp = run.vdp;
     match shown {
-        Shown::Colours => step_turn(run, frame_step(vdp, vram, frame, RenderArea::VisibleOnly)),
-        Shown::Layers => layer_turn(run, vram, row, frame),
+        Shown::Colours => step_turn(run, frame_step(vdp, vram, frame, area)),
+        Shown::Layers => layer_turn(run, vram, row, frame, area),
     }
 }
 
-// The record at the run's place, with steps of the visible area shown in the frame.
+// The record at the run's place, with steps of the visible size shown in the frame.
 pub fn frame_turn(
     run: Run,
     shown: Shown,
@@ -203,8 +210,13 @@ pub fn frame_turn(
         Record::Write(port, value) => write_turn(run, vram, port, value),
         Record::Read(port) => read_turn(run, vram, port),
         Record::Step(area) => match area {
-            RenderArea::VisibleOnly => visible_turn(run, shown, vram, row, frame),
+            RenderArea::VisibleOnly => {
+                visible_turn(run, shown, vram, row, frame, RenderArea::VisibleOnly)
+            }
             RenderArea::EffectiveArea => step_turn(run, row_step(vdp, vram, row, area)),
+            RenderArea::TrueEdges => {
+                visible_turn(run, shown, vram, row, frame, RenderArea::TrueEdges)
+            }
         },
         Record::Bad => Turned {
             answer: Answer::Nothing,

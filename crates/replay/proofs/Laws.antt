@@ -1,6 +1,7 @@
 -- A replay, from what its parts give.
 -- Assumes nothing.
 use mathlib.Core.Path.{_≡_, sym, ap, _∙_}
+use mathlib.Core.Logic.{_≢_}
 use mathlib.Core.Bool.{Bool, true, false}
 use mathlib.Core.List.{List, []}
 use Prim.Native.Nat.{ℕ, zero, suc, _+_, _-_, _*_, _/_, _%_, _≤_, _<_}
@@ -11,6 +12,8 @@ use borrow.Author.Tests.{ne-eqb}
 use lib.Dec.{eqb}
 use lib.ListN.{length}
 use Rattle.laws.specs.Lists.{at}
+use Rattle.laws.proofs.Tests.{split}
+use Rattle.picture.specs.Area.{areaFrom, rowSize}
 use Rattle.raster.specs.declared.LineTable.the-variants.{Steps261}
 use Rattle.block.specs.Block.{fits}
 use Rattle.face.proofs.Blocks.{new-on}
@@ -27,6 +30,13 @@ part-low i b h l =
 pub sum-step : (l : List ℕ) (i : ℕ) {sum p : ℕ} → sum ≡ sumOf i l → p ≡ (i + 1) * at l i → sum + p ≡ sumOf (i + 1) l
 unfolding sumOf
 sum-step l i e q = rw (add-one i, e, q, add-one i)
+
+-- the row of area 1 has 1,024 bytes, that of any other 640
+pub wide-row : (n : ℕ) → n ≡ 1 → rowSize (areaFrom n) ≡ 1024
+wide-row n e = rw e
+
+pub narrow-row : (n : ℕ) → n ≢ 1 → rowSize (areaFrom n) ≡ 640
+narrow-row n h = split (eqb n 0) (λ t. rw t) (λ t. rw (t, ne-eqb n 1 h))
 
 -- ---- the calls
 module _ (l : List ℕ) (k : ℕ) (w : World) where

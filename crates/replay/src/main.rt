@@ -66,10 +66,10 @@ fn row_sum(word: u32, area: u8, row: &[u8]) -> u32
     if word / 16777216 % 2 != 1 {
         return 0;
     }
-    if area == 0 {
-        return sum_of(row, 640);
+    if area == 1 {
+        return sum_of(row, 1024);
     }
-    sum_of(row, 1024)
+    sum_of(row, 640)
 }
 
 // Whether the record at `at` has this answer, this block and this row.

@@ -1,4 +1,4 @@
-// One row of either area, drawn into a lent row buffer by the picture of section 5, and the layers of its columns (section 15).
+// One row of an area, drawn into a lent row buffer by the picture of section 5, and the layers of its columns (section 15).
 ghost use mathlib.Core.Path.{_≡_};
 ghost use mathlib.Core.Bool.{cond};
 ghost use Prim.Native.Nat.{ℕ, _+_, _<_, _≤_};
@@ -11,7 +11,7 @@ ghost use Rattle.row.specs.Row.{Drawn};
 use picture::RenderArea;
 use sprites::Line;
 
-// Width and first line of the visible area; width and height of the map, which are those of the effective area.
+// Width and first line of the visible area, with its own edges or with true ones; width and height of the map, which are those of the effective area.
 const GG_VISIBLE_PIXEL_WIDTH: usize = 160;
 
 const GG_VISIBLE_AREA_START_Y: usize = 24;
@@ -47,24 +47,25 @@ fn clear(layers: &mut [u8], width: usize)
     }
 }
 
-// Row `line` of the visible area: scrolled both ways, its sprites by the line that is 24 further down.
+// Row `line` of an area of the visible size: scrolled both ways, its sprites by the line that is 24 further down.
 fn render_line_visible(
     row: &mut [u8],
     layers: &mut [u8],
     vram: &[u8],
     colours: &[u32; 32],
+    area: RenderArea,
     reg: [u8; 11],
     scroll: usize,
     line: usize,
 ) -> u8
-    requires { ⌜ (length (now vram) ≡ vramSize) × (rowSize VisibleOnly ≤ length (now row)) × (scroll < 256) × (line < rows VisibleOnly) ⌝ }
-    ensures { λ r. ⌜ Drawn VisibleOnly (now (colours .entry)) (pictureOf VisibleOnly reg scroll (now (vram .entry)) line) (now (row .entry)) (now (row .exit)) r ⌝ }
-    ensures { λ r. ⌜ now (layers .exit) ≡ layersIn (now (layers .entry)) (columns VisibleOnly) (layersOf VisibleOnly reg scroll (now (vram .entry)) line) ⌝ }
+    requires { ⌜ (length (now vram) ≡ vramSize) × (rowSize VisibleOnly ≤ length (now row)) × (scroll < 256) × (line < rows VisibleOnly) × (columns area ≡ columns VisibleOnly) ⌝ }
+    ensures { λ r. ⌜ Drawn area (now (colours .entry)) (pictureOf area reg scroll (now (vram .entry)) line) (now (row .entry)) (now (row .exit)) r ⌝ }
+    ensures { λ r. ⌜ now (layers .exit) ≡ layersIn (now (layers .entry)) (columns area) (layersOf area reg scroll (now (vram .entry)) line) ⌝ }
 {
     clear(layers, GG_VISIBLE_PIXEL_WIDTH);
     let sx = (304 - small::wide(reg[8])) % 256;
     let y = (line + GG_VISIBLE_AREA_START_Y + scroll) % SCROLL_PIXEL_HEIGHT;
-    let cut = (sx % 8) as u8;
+    let cut = background::cut_of(area, (sx % 8) as u8);
     let prio = background::render_background_line(
         row,
         vram,
@@ -80,7 +81,7 @@ fn render_line_visible(
         layers,
         vram,
         colours,
-        RenderArea::VisibleOnly,
+        area,
         reg,
         line + GG_VISIBLE_AREA_START_Y,
         GG_VISIBLE_PIXEL_WIDTH,
@@ -144,7 +145,21 @@ pub fn render_line(
     let s = small::wide(scroll);
     let l = small::wide(line);
     match area {
-        RenderArea::VisibleOnly => render_line_visible(row, layers, vram, colours, reg, s, l),
+        RenderArea::VisibleOnly => {
+            render_line_visible(
+                row,
+                layers,
+                vram,
+                colours,
+                RenderArea::VisibleOnly,
+                reg,
+                s,
+                l,
+            )
+        }
         RenderArea::EffectiveArea => render_line_effective(row, layers, vram, colours, reg, l),
+        RenderArea::TrueEdges => {
+            render_line_visible(row, layers, vram, colours, RenderArea::TrueEdges, reg, s, l)
+        }
     }
 }

@@ -12,8 +12,8 @@ use Rattle.laws.specs.Sizes.{vramSize}
 use Rattle.bitmap.specs.Mask.{bytesOf}
 use Rattle.picture.specs.declared.Stand.{Stand}
 use Rattle.picture.specs.declared.RenderArea.{RenderArea}
-use Rattle.picture.specs.declared.RenderArea.the-variants.{VisibleOnly, EffectiveArea}
-use Rattle.picture.specs.View.{visibleStand, effectiveStand}
+use Rattle.picture.specs.declared.RenderArea.the-variants.{VisibleOnly, EffectiveArea, TrueEdges}
+use Rattle.picture.specs.View.{visibleStand, effectiveStand, edgeStand}
 use Rattle.picture.specs.Picture.{listed, topOf, withSprites, bare}
 use Rattle.picture.specs.Layers.{layersWith, layersIn}
 use Rattle.tile.specs.Layer.{stamped}
@@ -23,6 +23,7 @@ use Rattle.sprites.specs.declared.Marks.{Marks}
 abbrev pub standOf : RenderArea → ℕ → ℕ → Stand
 standOf VisibleOnly e h = visibleStand e h
 standOf EffectiveArea e h = effectiveStand e h
+standOf TrueEdges e h = edgeStand 48 160 e h
 
 -- what the drawing of a sprite that stands at s asks
 pub record Fits (s : Stand) : Type 0 where

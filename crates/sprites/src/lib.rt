@@ -1,8 +1,8 @@
-// The sprites of a line, over its background: which are on it (R5.6, R5.7), where each stands (R5.9, R5.10), and what their pixels meet (R5.11, R5.12).
+// The sprites of a line, over its background: which are on it (R5.6, R5.7), where each stands (R5.9, R5.10, R18.2), and what their pixels meet (R5.11, R5.12).
 ghost use mathlib.Core.Path.{_≡_};
 ghost use mathlib.Core.Bool.{Bool, cond, not, _||_};
 ghost use mathlib.Core.List.{List};
-ghost use Prim.Native.Nat.{ℕ, _+_, _-_, _*_, _/_, _%_, _<_, _≤_};
+ghost use Prim.Native.Nat.{ℕ, _+_, _-_, _*_, _/_, _%_, _<_, _≤_, min};
 ghost use lib.ListN.{length};
 ghost use lib.Bits.{bitAnd};
 ghost use lib.Dec.{eqb};
@@ -12,7 +12,7 @@ ghost use Rattle.laws.specs.Paint.{painted, overlaid};
 ghost use Rattle.laws.specs.Sizes.{vramSize};
 ghost use Rattle.bitmap.specs.Mask.{bytesOf, cleared};
 ghost use Rattle.picture.specs.Tile.{codeAt};
-ghost use Rattle.picture.specs.View.{early, visibleEnd, visibleSeen, visibleStand, effectiveStand};
+ghost use Rattle.picture.specs.View.{early, visibleEnd, visibleSeen, visibleStand, effectiveStand, edgeStand};
 ghost use Rattle.picture.specs.Picture.{solid, tableAt, tall, spriteLine};
 ghost use Rattle.picture.specs.Layers.{layersIn};
 ghost use Rattle.tile.specs.Line.{lineMarked, lineDrawn, lineHeld, spriteColour};
@@ -125,7 +125,39 @@ fn sprite_line_settings_effective(e: u8, h: u8) -> Stand
     }
 }
 
-// The same in either area.
+// The tile's pixel before which a sprite at column x of a row of `width` columns ends.
+fn edge_end(width: usize, x: usize) -> usize
+    ensures { λ r. ⌜ r ≡ min (width - x) 8 ⌝ }
+    ensures { λ r. ⌜ r ≤ 8 ⌝ }
+{
+    if x < width {
+        small::smaller(width - x, 8)
+    } else {
+        0
+    }
+}
+
+// The same by true columns, on a row of `width` columns whose column 0 is at X byte `left`: what lies off the row neither draws nor marks.
+fn sprite_line_settings_true(left: u8, width: usize, e: u8, h: u8) -> Stand
+    requires { ⌜ (left ≤ 48) × (e ≤ 8) ⌝ }
+    ensures { λ r. ⌜ r ≡ edgeStand left width e h ⌝ }
+    ensures { λ r. ⌜ Fits r ⌝ }
+{
+    let x = minus(minus(h, left), e);
+    let start = minus(left + e, h);
+    let place = small::wide(x);
+    let mark = small::wide(x);
+    Stand {
+        seen: true,
+        x: place,
+        start: small::wide(start),
+        end: edge_end(width, place),
+        prio: place,
+        mark: mark,
+    }
+}
+
+// The same in each area.
 pub fn settings(area: RenderArea, e: u8, h: u8) -> Stand
     requires { ⌜ e ≤ 8 ⌝ }
     ensures { λ r. ⌜ r ≡ standOf area e h ⌝ }
@@ -134,6 +166,7 @@ pub fn settings(area: RenderArea, e: u8, h: u8) -> Stand
     match area {
         RenderArea::VisibleOnly => sprite_line_settings_visible(e, h),
         RenderArea::EffectiveArea => sprite_line_settings_effective(e, h),
+        RenderArea::TrueEdges => sprite_line_settings_true(48, 160, e, h),
     }
 }
 

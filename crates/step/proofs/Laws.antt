@@ -19,7 +19,7 @@ use Rattle.laws.proofs.Tables.{length-table}
 use Rattle.laws.proofs.Tests.{either, split, both}
 use Rattle.dump.specs.Dump.{dumpSize, dumped}
 use Rattle.picture.specs.declared.RenderArea.{RenderArea}
-use Rattle.picture.specs.declared.RenderArea.the-variants.{VisibleOnly, EffectiveArea}
+use Rattle.picture.specs.declared.RenderArea.the-variants.{VisibleOnly, EffectiveArea, TrueEdges}
 use Rattle.picture.specs.Area.{rows, rowSize, frameSize, rowBytes, statusBits}
 use Rattle.raster.specs.declared.Raster.{Raster}
 use Rattle.raster.specs.Raster.{advanced, lineInterrupt, counted, ticked}
@@ -224,6 +224,7 @@ pub drawn-length : (a : RenderArea) (vram : List ℕ) (d : VdpState) (y : ℕ) �
 unfolding drawnBytes rowBytes
 drawn-length VisibleOnly vram d y = length-table 640 _
 drawn-length EffectiveArea vram d y = length-table 1024 _
+drawn-length TrueEdges vram d y = length-table 640 _
 
 -- ---- a row buffer
 module _ (a : RenderArea) (vram : List ℕ) (d : VdpState) (b : List ℕ) where

@@ -10,6 +10,7 @@ ghost use Rattle.laws.specs.Bits.{bit};
 ghost use Rattle.laws.specs.Lists.{at};
 ghost use Rattle.laws.specs.Sizes.{vramSize};
 ghost use Rattle.colour.specs.Colour.{coloursOf};
+ghost use Rattle.picture.specs.declared.RenderArea.the-variants.{VisibleOnly};
 ghost use Rattle.picture.specs.Area.{columns, rows, rowSize, frameSize, pictureOf};
 ghost use Rattle.picture.specs.Layers.{layersOf};
 ghost use Rattle.raster.specs.Raster.{lineInterrupt};
@@ -99,26 +100,31 @@ pub struct Stepped {
     pub vdp: VdpState,
 }
 
-// R4.2: the row that a line draws.
+// R4.2: the row that a line draws, in an area of the visible size and in each area.
+fn visible_row(line: u8) -> DrawnRow
+    ensures { λ r. ⌜ r ≡ rowOn VisibleOnly line ⌝ }
+{
+    if line < GG_VISIBLE_AREA_START_Y {
+        return DrawnRow::NoRow;
+    }
+    if GG_VISIBLE_AREA_END_Y <= line {
+        return DrawnRow::NoRow;
+    }
+    DrawnRow::Drawn(line - GG_VISIBLE_AREA_START_Y)
+}
+
 fn row_on(area: RenderArea, line: u8) -> DrawnRow
     ensures { λ r. ⌜ r ≡ rowOn area line ⌝ }
 {
     match area {
-        RenderArea::VisibleOnly => {
-            if line < GG_VISIBLE_AREA_START_Y {
-                return DrawnRow::NoRow;
-            }
-            if GG_VISIBLE_AREA_END_Y <= line {
-                return DrawnRow::NoRow;
-            }
-            DrawnRow::Drawn(line - GG_VISIBLE_AREA_START_Y)
-        }
+        RenderArea::VisibleOnly => visible_row(line),
         RenderArea::EffectiveArea => {
             if SCROLL_PIXEL_HEIGHT <= line {
                 return DrawnRow::NoRow;
             }
             DrawnRow::Drawn(line)
         }
+        RenderArea::TrueEdges => visible_row(line),
     }
 }
 
@@ -207,6 +213,7 @@ fn column_count(area: RenderArea) -> usize
     match area {
         RenderArea::VisibleOnly => 160,
         RenderArea::EffectiveArea => 256,
+        RenderArea::TrueEdges => 160,
     }
 }
 
@@ -216,6 +223,7 @@ fn row_count(area: RenderArea) -> usize
     match area {
         RenderArea::VisibleOnly => 144,
         RenderArea::EffectiveArea => 224,
+        RenderArea::TrueEdges => 144,
     }
 }
 
@@ -225,6 +233,7 @@ fn row_size(area: RenderArea) -> usize
     match area {
         RenderArea::VisibleOnly => 640,
         RenderArea::EffectiveArea => 1024,
+        RenderArea::TrueEdges => 640,
     }
 }
 
@@ -234,6 +243,7 @@ fn frame_size(area: RenderArea) -> usize
     match area {
         RenderArea::VisibleOnly => 92160,
         RenderArea::EffectiveArea => 229376,
+        RenderArea::TrueEdges => 92160,
     }
 }
 

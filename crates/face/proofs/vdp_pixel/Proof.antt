@@ -47,7 +47,7 @@ long-requires-2 c κs = search needs
 -- src/lib.rt:275:9
 returns-2 : tie.Need-returns-2
 unfolding pixelCall
-returns-2 c = c .long2 .ensures .0 ∙ c .before .number2 .ensures .0 ∙ sym (rw (sym (c .before .before .before .before .well-formed .ensures) ∙ not-false (c .before .before .before .before .well-formed .result) (c .before .before .before .if1 .left), lt-leb (c .before .before .before .before .before .before .before .args .area) 1 (c .before .before .if2 .taken)))
+returns-2 c = c .long2 .ensures .0 ∙ c .before .number2 .ensures .0 ∙ sym (rw (sym (c .before .before .before .before .well-formed .ensures) ∙ not-false (c .before .before .before .before .well-formed .result) (c .before .before .before .if1 .left), lt-leb (c .before .before .before .before .before .before .before .args .area) 2 (c .before .before .if2 .taken)))
 
 -- src/lib.rt:277:9
 raster-in-requires : tie.Need-raster-in-requires
@@ -86,7 +86,7 @@ returns-3 : tie.Need-returns-3
 unfolding pixelCall pixelOf
 returns-3 c =
     let w : wellFormed (c .before .before .before .before .before .before .before .before .before .before .before .before .args .state .now) ≡ _ = sym (c .before .before .before .before .before .before .before .before .before .well-formed .ensures) ∙ not-false (c .before .before .before .before .before .before .before .before .before .well-formed .result) (c .before .before .before .before .before .before .before .before .if1 .left) in
-    rw (w, le-leb (c .before .before .before .before .before .before .before .before .before .before .before .before .args .area) 1 (c .before .before .before .before .before .before .before .if2 .left), c .before .long3 .ensures .0, c .before .before .number3 .ensures .0, c .pixel-bits .ensures .0, c .before .before .before .spot-at .ensures .0, c .before .before .before .before .registers .ensures, c .before .before .before .before .before .before .raster-in .ensures, c .before .before .before .before .before .area-from .ensures)
+    rw (w, le-leb (c .before .before .before .before .before .before .before .before .before .before .before .before .args .area) 2 (c .before .before .before .before .before .before .before .if2 .left), c .before .long3 .ensures .0, c .before .before .number3 .ensures .0, c .pixel-bits .ensures .0, c .before .before .before .spot-at .ensures .0, c .before .before .before .before .registers .ensures, c .before .before .before .before .before .before .raster-in .ensures, c .before .before .before .before .before .area-from .ensures)
 
 pub vdp-pixel-spec : {M : Type 1} → statement M
 vdp-pixel-spec =

@@ -1,7 +1,7 @@
 use borrow.Author.Needs.{needs}
-use mathlib.Core.Path.{_≡_, refl, sym, ap, _∙_}
+use mathlib.Core.Path.{ap}
 use native.Mathlib.Omega.{arith}
-use Prim.Native.Nat.{ℕ, _+_, _-_, _*_, _/_, _%_, _<_, _≤_}
+use Prim.Native.Nat.{_+_}
 use Rattle.pixel.proofs.off_of.Statement.{statement}
 use Rattle.pixel.proofs.off_of.Tie as tie
 use Rattle.pixel.proofs.off_of.Reads as reads
@@ -28,6 +28,10 @@ enum-told-2 c = search needs
 wide-requires-2 : tie.Need-wide-requires-2
 wide-requires-2 c κs = search needs
 
+-- src/lib.rt:226:34
+enum-told-3 : tie.Need-enum-told-3
+enum-told-3 c = search needs
+
 -- src/lib.rt:218:1
 returns : tie.Need-returns
 returns c = (rw (c .before .enum-told .given .1) (ap (λ k. 48 + k) (c .wide .ensures .0)), omega arith)
@@ -36,7 +40,20 @@ returns c = (rw (c .before .enum-told .given .1) (ap (λ k. 48 + k) (c .wide .en
 returns-2 : tie.Need-returns-2
 returns-2 c = search needs
 
+-- src/lib.rt:218:1
+returns-3 : tie.Need-returns-3
+returns-3 c = search needs
+
 pub off-of-spec : {M : Type 1} → statement M
 off-of-spec =
     tie.close
-    (tie.spec enum-told wide-requires add-result enum-told-2 wide-requires-2 returns returns-2)
+    (tie.spec
+    enum-told
+    wide-requires
+    add-result
+    enum-told-2
+    wide-requires-2
+    enum-told-3
+    returns
+    returns-2
+    returns-3)

@@ -1,5 +1,5 @@
 use borrow.Author.Needs.{needs}
-use mathlib.Core.Path.{_≡_, refl, sym, ap, _∙_}
+use mathlib.Core.Path.{refl}
 use Rattle.laws.proofs.Bits.{bit-number}
 use Rattle.pixel.specs.Column.{reachOf, marksLeft}
 use Rattle.pixel.proofs.Laws.{column-laid}
@@ -22,7 +22,7 @@ colour-with-requires c κs = search needs
 returns : tie.Need-returns
 returns c =
     let a = c .before .before .before .args in
-    λ t f q pe sh. column-laid (a .vram .now) (a .b) (a .s) (a .addr) (a .col) (a .off) t (c .before .before .before .pre .1 .0 .end-low) (c .before .before .before .pre .1 .1 .1) f q pe (a .under) sh (c .before .marks-near .result) (λ j h. rw (c .before .marks-near .ensures) (bit-number (reachOf (a .col)) (marksLeft (a .vram .now) (a .b) (a .s) (a .addr) (a .col) (a .off)) j h)) (c .colour-with .ensures) refl
+    λ t f q pe sh. column-laid (a .vram .now) (a .b) (a .s) (a .addr) (a .col) (a .off) (a .back) t (c .before .before .before .pre .1 .0 .end-low) (c .before .before .before .pre .1 .1 .1) f q pe (a .under) sh (c .before .marks-near .result) (λ j h. rw (c .before .marks-near .ensures) (bit-number (reachOf (a .col)) (marksLeft (a .vram .now) (a .b) (a .s) (a .addr) (a .col) (a .off)) j h)) (c .colour-with .ensures) refl
 
 pub with-sprite-spec : {M : Type 1} → statement M
 with-sprite-spec = tie.close (tie.spec marks-near-requires colour-with-requires returns)

@@ -1,11 +1,7 @@
 use borrow.Author.Needs.{needs}
-use native.Mathlib.Omega.{arith}
-use mathlib.Core.Path.{_≡_, refl, sym, ap, _∙_}
-use lib.ListN.{length, replicate}
-use Rattle.picture.specs.declared.RenderArea.the-variants.{VisibleOnly}
+use mathlib.Core.Path.{refl, ap}
+use lib.ListN.{replicate}
 use Rattle.step.specs.declared.Stepped.{Stepped}
-use Rattle.step.specs.Step.{rowLines}
-use Rattle.step.specs.Layers.{alsoLayers}
 use Rattle.recording.specs.Run.{held}
 use Rattle.recording.proofs.Turns.{row-told, layer-stepped}
 use Rattle.recording.proofs.run.layer_turn.Statement.{statement}
@@ -16,39 +12,39 @@ use Rattle.recording.proofs.run.paint_layers.Reads as paint-layers-read
 use Rattle.recording.proofs.run.step_turn.Reads as step-turn-reads
 use Rattle.step.proofs.layer_row_step.Reads as layer-row-step-reads
 
--- src/run.rt:164:50
+-- src/run.rt:176:50
 slice-aggregate-layer-row-step : tie.Need-slice-aggregate-layer-row-step
 slice-aggregate-layer-row-step c = search needs
 
--- src/run.rt:164:9
+-- src/run.rt:176:9
 layer-row-step-requires : tie.Need-layer-row-step-requires
 layer-row-step-requires c κs = search needs
 
--- src/run.rt:166:5
+-- src/run.rt:178:5
 paint-layers-requires : tie.Need-paint-layers-requires
 paint-layers-requires c κs =
     let a = c .before .before .before .before .before .before .before .before .before .before .before .before .args in
     let g = c .before .before .before .before .before .layer-row-step .ensures in
-    (c .before .before .before .before .before .before .before .before .before .before .before .before .pre .2, row-told (a .vram .now) (a .run .vdp) (a .frame .now) (replicate 160 0) refl _ (ap (λ (x : Stepped). x .row) (g .answer)))
+    (c .before .before .before .before .before .before .before .before .before .before .before .before .pre .2, row-told (a .area) (c .before .before .before .before .before .before .before .before .before .before .before .before .pre .3) (a .vram .now) (a .run .vdp) (a .frame .now) (replicate 160 0) refl _ (ap (λ (x : Stepped). x .row) (g .answer)))
 
--- src/run.rt:167:5
+-- src/run.rt:179:5
 step-turn-requires : tie.Need-step-turn-requires
 step-turn-requires c κs = search needs
 
--- src/run.rt:158:1
+-- src/run.rt:164:1
 same-length : tie.Need-same-length
 same-length c = search needs
 
--- src/run.rt:158:1
+-- src/run.rt:164:1
 same-length-2 : tie.Need-same-length-2
 same-length-2 c = search needs
 
--- src/run.rt:158:1
+-- src/run.rt:164:1
 returns : tie.Need-returns
 returns c =
     let a = c .before .before .before .before .before .before .before .before .before .before .before .before .before .before .before .before .args in
     let w = held (a .run) (a .vram .now) (a .row .now) (a .frame .now) in
-    layer-stepped w (replicate 160 0) refl (c .before .before .before .before .before .before .before .before .before .layer-row-step .ensures) (c .before .before .before .paint-layers .ensures) (c .step-turn .ensures .0) (c .step-turn .ensures .1)
+    layer-stepped (a .area) (c .before .before .before .before .before .before .before .before .before .before .before .before .before .before .before .before .pre .3) w (replicate 160 0) refl (c .before .before .before .before .before .before .before .before .before .layer-row-step .ensures) (c .before .before .before .paint-layers .ensures) (c .step-turn .ensures .0) (c .step-turn .ensures .1)
 
 pub layer-turn-spec : {M : Type 1} → statement M
 layer-turn-spec =

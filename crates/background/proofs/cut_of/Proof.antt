@@ -1,0 +1,34 @@
+use borrow.Author.Needs.{needs}
+use mathlib.Core.Path.{refl}
+use mathlib.Core.Logic.{inl, inr}
+use Rattle.background.proofs.cut_of.Statement.{statement}
+use Rattle.background.proofs.cut_of.Tie as tie
+use Rattle.background.proofs.cut_of.Reads as reads
+use Rattle.background.proofs.cut_of.Lts as lts
+
+-- src/lib.rt:56:36
+enum-told : tie.Need-enum-told
+enum-told c = search needs
+
+-- src/lib.rt:57:38
+enum-told-2 : tie.Need-enum-told-2
+enum-told-2 c = search needs
+
+-- src/lib.rt:58:34
+enum-told-3 : tie.Need-enum-told-3
+enum-told-3 c = search needs
+
+-- src/lib.rt:51:1
+returns : tie.Need-returns
+returns c = (rw (c .enum-told .given .1), inr refl)
+
+-- src/lib.rt:51:1
+returns-2 : tie.Need-returns-2
+returns-2 c = (rw (c .enum-told2 .given .1), inl refl)
+
+-- src/lib.rt:51:1
+returns-3 : tie.Need-returns-3
+returns-3 c = (rw (c .enum-told3 .given .1), inl refl)
+
+pub cut-of-spec : {M : Type 1} → statement M
+cut-of-spec = tie.close (tie.spec enum-told enum-told-2 enum-told-3 returns returns-2 returns-3)
