@@ -13,14 +13,21 @@ BINS := $(addprefix build/bin/,$(subst _,-,$(PROGRAMS)))
 # The library that a C program for this very machine links.
 LIBRARY := $(if $(filter x86_64,$(shell uname -m)),build/libvdp.a,build/native/libvdp.a)
 
-.PHONY: all build native install cartridge test compare memcheck damaged bench bus gears setup setup-rust setup-bus setup-cartridge prove clean help FORCE
+.PHONY: all build desk native install cartridge test compare memcheck damaged bench bus gears setup setup-rust setup-bus setup-cartridge prove clean help FORCE
 
 all: build ## build build/libvdp.a and the programs in build/bin, and show the trace program at work
 	@echo "build/libvdp.a (header include/vdp.h) and $(BINS) are built."
 	@echo "The trace of crates/trace/stdin (docs/TRACES.md says what its lines mean):"
 	@sh tools/cross.sh run build/bin/trace crates/trace/stdin
 
-build: $(BINS) build/libvdp.a ## prove and build them, and no more
+build: $(BINS) build/libvdp.a build/bin/desk ## prove and build them, and no more
+
+desk: native build/bin/desk ## the authors' desk, build/bin/desk, with the library that it goes by (docs/DESK.md)
+	@true
+
+build/bin/desk: desk/desk | setup
+	@mkdir -p build/bin
+	@cp desk/desk $@
 
 # A file is made again where a source of it, or the toolchain, has changed.
 $(BINS): $(shell sh tools/sources.sh $(PROGRAMS)) build/toolchain | setup

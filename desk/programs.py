@@ -1,0 +1,33 @@
+"""The proved programs, traces in and pictures out: what the desk's own pictures are held to where `--check` asks for it."""
+import os
+
+import errors
+import header
+import pictures
+import records
+
+
+def run(program, trace):
+    """What a program of build/bin prints of a trace. They are x86-64 ones: elsewhere an emulator runs them, as tools/cross.sh has it."""
+    import subprocess  # here, for it takes long to load and is seldom needed
+
+    path = header.ROOT / "build" / "bin" / program
+    if not os.path.exists(path):
+        raise errors.Failed(f"desk: no {path}: `make` makes it")
+    emulator = [] if os.uname().machine == "x86_64" else ["qemu-x86_64"]
+    try:
+        return subprocess.run(emulator + [str(path)], input=trace, stdout=subprocess.PIPE, check=True).stdout
+    except (OSError, subprocess.CalledProcessError) as error:
+        raise errors.Failed(f"desk: {program}: {error}")
+
+
+def picture(program, trace):
+    """The picture that a program draws of a trace (R7.13)."""
+    if len(trace) > records.LIMIT:
+        raise errors.Bad(f"desk: the trace has {len(trace):,} bytes, and `{program}` takes at most {records.LIMIT:,}")
+    said = run(program, trace)
+    kind, size, most, data = (said.split(b"\n", 3) + [b""] * 4)[:4]
+    if kind != b"P6":
+        raise errors.Failed(f"desk: {program} printed no picture, but: {kind.decode('latin-1')}")
+    width, height = map(int, size.split())
+    return pictures.Picture(width, height, data)

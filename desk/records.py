@@ -1,0 +1,67 @@
+"""A trace as records (docs/RULES.md, R7.9), and back."""
+import collections
+
+import errors
+import library
+
+WRITE, READ, STEP = b"PW", b"PR", b"LS"
+LENGTHS = {WRITE: 4, READ: 3, STEP: 3}
+LIMIT = 65535  # what the programs take (R7.8); the library has no limit
+
+Record = collections.namedtuple("Record", "kind place value")  # place: the port or the area; value: of a write
+
+
+class Broken(errors.Bad):
+    """A record that is none; the trace up to it."""
+
+    def __init__(self, text, before):
+        super().__init__(text)
+        self.before = before
+
+
+def write(port, *values):
+    return b"".join(WRITE + bytes([port, value]) for value in values)
+
+
+def read(port):
+    return READ + bytes([port])
+
+
+def step(area):
+    return STEP + bytes([area])
+
+
+def whats_wrong(data, at):
+    """Why no record stands at this offset; None where one does."""
+    mark = data[at : at + 2]
+    if mark not in LENGTHS:
+        if len(mark) < 2 and any(known.startswith(mark) for known in LENGTHS):
+            return "the record is cut: the trace ends in it"
+        return f"no record begins with the bytes {mark.hex(' ').upper()}"
+    if at + LENGTHS[mark] > len(data):
+        return "the record is cut: the trace ends in it"
+    if mark == STEP and not library.is_area(data[at + 2]):
+        return f"a step of area {data[at + 2]}, and there is no such area"
+    return None
+
+
+class Trace:
+    """The bytes of a trace, each record of them whole; Broken where one is none, as `trace` prints `bad` and its offset."""
+
+    def __init__(self, data, name):
+        self.data, self.count = data, 0
+        known, at = set(library.areas()), 0
+        while at < len(data):
+            mark = data[at : at + 2]
+            length = LENGTHS.get(mark)
+            if length is None or at + length > len(data) or (mark == STEP and data[at + 2] not in known):
+                raise Broken(f"desk: {name}: byte {at}, record {self.count + 1}: {whats_wrong(data, at)}", Trace(data[:at], name))
+            self.count += 1
+            at += length
+
+    def __iter__(self):
+        data, at = self.data, 0
+        while at < len(data):
+            mark = data[at : at + 2]
+            yield Record(mark, data[at + 2], data[at + 3] if mark == WRITE else 0)
+            at += LENGTHS[mark]

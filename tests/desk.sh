@@ -1,0 +1,284 @@
+#!/usr/bin/env bash
+# desk.sh: the authors' desk: every subcommand, its errors with their statuses, scripts to traces and back, its pictures beside those of the programs and
+# of docs, what it tells of pixels beside the frame that snapshot draws, and the pages docs/DESK.md and README.md, whose commands are run again.
+set -u
+cd "$(dirname "$0")/.."
+unset MAKEFLAGS MAKELEVEL
+. tools/cross.sh
+. tools/tell.sh
+if ! command -v python3 >/dev/null; then
+    echo 'SKIPPED: the desk: no python3 here'
+    skipped=1
+    total
+    exit
+fi
+if ! make --no-print-directory build desk; then
+    echo '0 passed, 1 failed'
+    exit 1
+fi
+work=$PWD/build/test/desk
+rm -rf "$work"
+mkdir -p "$work"
+desk=$PWD/build/bin/desk
+
+# run WORDS..: the desk with these words; what it says is in out and err.
+run() {
+    "$desk" "$@" >"$work/out" 2>"$work/err"
+    status=$?
+}
+# says NAME STATUS LINE WORDS..: the desk says this one line on standard error, nothing on standard output, and ends with this status.
+says() {
+    local name=$1 wanted=$2 line=$3
+    shift 3
+    run "$@"
+    [ "$status" -eq "$wanted" ] && [ ! -s "$work/out" ] && printf '%s\n' "$line" | cmp - "$work/err"
+    tell "$name" $?
+}
+# try NAME PROGRAM..: a test program ends well; its last line is told.
+try() {
+    local name=$1 said
+    shift
+    said=$("$@" 2>&1)
+    status=$?
+    [ "$status" -eq 0 ] || printf '%s\n' "$said"
+    tell "$name: $(tail -n 1 <<<"$said")" "$status"
+}
+
+# Scripts to traces.
+try 'each statement makes its records' python3 tests/desk/statements.py
+try 'wrong scripts are told by line and column, and nothing is written' python3 tests/desk/wrong_scripts.py "$work/wrong"
+for both in docs/scripts/split-new.desk:split90 tests/desk/layers.desk:layers; do
+    run make "${both%:*}" -o "$work/made.trace"
+    [ "$status" -eq 0 ] && [ ! -s "$work/err" ] && grep -q ' bytes, .* records, 262 steps among them$' "$work/out" && cmp "$work/made.trace" "tests/traces/${both#*:}.trace"
+    tell "${both%:*} makes tests/traces/${both#*:}.trace" $?
+done
+"$desk" make - -o - <tests/desk/layers.desk 2>/dev/null | cmp - tests/traces/layers.trace
+tell 'a script on standard input, a trace to standard output' $?
+mkdir "$work/a folder"
+cp docs/scripts/split-new.desk "$work/a folder/a script.desk"
+(cd "$work/a folder" && "$desk" make 'a script.desk' -o 'a trace' >/dev/null) && cmp "$work/a folder/a trace" tests/traces/split90.trace
+tell 'names with spaces, from another folder' $?
+printf 'steps 1\n\xff\n' >"$work/bytes.desk"
+says 'a script that is no text' 1 "$work/bytes.desk:2:1: byte FF is no text (UTF-8)" make "$work/bytes.desk" -o "$work/none"
+for _ in $(seq 30); do echo foo; done >"$work/many.desk"
+run make "$work/many.desk" -o "$work/none"
+[ "$status" -eq 1 ] && [ "$(wc -l <"$work/err")" -eq 21 ] && [ ! -e "$work/none" ]
+tell 'of many errors twenty are told' $?
+
+# Pictures as tiles.
+try 'PNGs of every kind, depth and filter become tiles, and damaged ones are told' python3 tests/desk/pngs.py "$work/png"
+# A whole drawing by its own colours: the picture that docs shows.
+{
+    echo 'palette 0 = drawing.png'
+    echo 'tile 0 = drawing.png'
+    echo 'map 0 0 = 256 times 896'
+    for n in $(seq 0 255); do echo "map $((8 + n % 16)) $((4 + n / 16)) = $n"; done
+    echo pass
+} >"$work/drawing.desk"
+python3 tests/tiles/drawing.py | python3 tools/ppm2png.py >"$work/drawing.png"
+run show "$work/drawing.desk" --scale 2 -o "$work/shown.png"
+[ "$status" -eq 0 ] && python3 tests/desk/same.py "$work/shown.png" docs/tiles.png
+tell 'a drawing of 256 tiles is shown as docs/tiles.png has it' $?
+
+# Traces to scripts.
+python3 tests/desk/random_traces.py 4 "${SEED:-1}" "$work/random"
+"$desk" make tests/desk/corners.desk -o "$work/random/corners.trace" >/dev/null
+texts= frames=
+for trace in tests/traces/*.trace; do texts="$texts $trace ${trace%.trace}.text"; done
+for trace in build/test/desk/random/*.trace; do
+    $RUN build/bin/trace "$trace" >"${trace%.trace}.text"
+    $RUN build/bin/snapshot "$trace" >"${trace%.trace}.ppm"
+    texts="$texts $trace ${trace%.trace}.text" frames="$frames $trace ${trace%.trace}.ppm"
+done
+try 'listings, word for word' python3 tests/desk/listed.py
+try 'listings make their traces again, and say of each record what trace prints' python3 tests/desk/round.py $texts
+run list tests/traces/sprites.trace
+cp "$work/out" "$work/listing.desk"
+[ "$status" -eq 0 ] && [ ! -s "$work/err" ] && "$desk" make "$work/listing.desk" -o - 2>/dev/null | cmp - tests/traces/sprites.trace
+tell 'a listing by the command makes its trace again' $?
+# Damaged traces: the offset is that of trace's bad line, and what stands before it is listed.
+status=0
+for end in 'XX\000\000LS\000' 'LS\377LS\000' 'PW\277' 'P'; do
+    printf "PR~$end" >"$work/damaged"
+    at=$($RUN build/bin/trace "$work/damaged" | sed -n 's/^bad //p')
+    "$desk" list "$work/damaged" >"$work/out" 2>"$work/err"
+    [ $? -eq 1 ] && [ "$(wc -l <"$work/out")" -eq 2 ] && [ "$(wc -l <"$work/err")" -eq 1 ] && grep -q "^desk: $work/damaged: byte $at, record 2: " "$work/err" || status=1
+done
+tell 'damaged traces are told by the byte, as trace tells it' $status
+for command in show tiles; do
+    says "$command: a damaged trace, and nothing is written" 1 "desk: $work/damaged: byte 3, record 2: the record is cut: the trace ends in it" $command "$work/damaged" -o "$work/none"
+done
+[ ! -e "$work/none" ]
+tell 'nothing was written' $?
+
+# Pictures, byte for byte: those of the programs, and those of docs.
+for trace in tests/traces/sprites tests/traces/areas tests/traces/late tests/traces/empty build/test/desk/random/random-0 build/test/desk/random/random-1; do
+    run show $trace.trace --area 0 --check -o "$work/shown.png"
+    [ "$status" -eq 0 ] && grep -qx 'checked: `snapshot` draws the same' "$work/out"
+    tell "$trace: the last frame is the picture of snapshot" $?
+done
+run show build/test/desk/random/random-0.trace --layers --check -o "$work/shown.png"
+[ "$status" -eq 0 ] && grep -qx 'checked: `layers` draws the same' "$work/out"
+tell 'and by layers that of layers' $?
+$RUN build/bin/snapshot tests/traces/split90.trace | python3 tools/ppm2png.py 2 >"$work/program.png"
+"$desk" show tests/traces/split90.trace --scale 2 -o "$work/shown.png" >/dev/null && cmp "$work/program.png" "$work/shown.png"
+tell 'split90: the file of snapshot and ppm2png.py' $?
+$RUN build/bin/layers tests/traces/layers.trace | python3 tools/ppm2png.py 2 >"$work/program.png"
+"$desk" show tests/traces/layers.trace --layers --scale 2 -o "$work/shown.png" >/dev/null && cmp "$work/program.png" "$work/shown.png" && python3 tests/desk/same.py "$work/shown.png" docs/layers.png
+tell 'layers: that of layers, and of docs/layers.png' $?
+$RUN build/bin/snapshot-261 tests/traces/late.trace | python3 tools/ppm2png.py >"$work/program.png"
+"$desk" show tests/traces/late.trace --table 0 --frame 2 -o "$work/shown.png" >/dev/null && cmp "$work/program.png" "$work/shown.png"
+tell 'table 0: that of snapshot-261' $?
+for both in split-new:split90.png layers:layers-picture.png; do
+    script=docs/scripts/${both%:*}.desk
+    [ -e "$script" ] || script=tests/desk/${both%:*}.desk
+    "$desk" show "$script" --scale 2 -o "$work/shown.png" >/dev/null && python3 tests/desk/same.py "$work/shown.png" "docs/${both#*:}"
+    tell "$script shows docs/${both#*:}" $?
+done
+# damaged SED FILE: a copy of the desk with this file changed so.
+damaged() {
+    rm -rf "$work/copy"
+    mkdir "$work/copy"
+    cp -r desk include "$work/copy/"
+    ln -s "$PWD/build" "$work/copy/build"
+    sed "$1" "desk/$2" >"$work/copy/desk/$2"
+    ! cmp -s "desk/$2" "$work/copy/desk/$2"
+}
+damaged 's/data\[part::3\] = pixels\[part::4\]/data[part::3] = pixels[2 - part::4]/' pictures.py && "$work/copy/desk/desk" show docs/scripts/split-new.desk --check -o "$work/none" >"$work/out" 2>"$work/err"
+[ $? -eq 1 ] && grep -q '^desk: THE PICTURE OF `snapshot` IS ANOTHER' "$work/err" && [ ! -e "$work/none" ]
+tell '--check catches a picture that is another' $?
+run show docs/scripts/flicker.desk -o "$work/two.png"
+[ "$status" -eq 0 ] && [ "$(cat "$work/out")" = "$work/two.png: 2 frames of 160 x 144, row by row" ] && [ "$(od -An -tx1 -j16 -N8 "$work/two.png" | tr -d ' ')" = 0000014400000090 ]
+tell 'two frames are one sheet' $?
+run show docs/scripts/flicker.desk --layers --grid --frame 2 --scale 3 -o "$work/grid.png"
+[ "$status" -eq 0 ] && [ "$(od -An -tx1 -j16 -N8 "$work/grid.png" | tr -d ' ')" = "$(printf '%08x%08x' $((160 * 3 + 19)) $((144 * 3 + 17)))" ]
+tell 'a grid has a line between any two tiles' $?
+run show tests/traces/areas.trace --area 1 -o "$work/effective.png"
+[ "$status" -eq 0 ] && grep -q '256 x 224' "$work/out"
+tell 'steps of the effective area are shown where they are asked for' $?
+{ echo 'vram 0 = FF times 16384'; echo 'passes 40'; } >"$work/long.desk"
+run make "$work/long.desk" -o "$work/long.trace"
+[ "$status" -eq 0 ] && grep -q '^desk: note: the trace has 96,984 bytes\. The programs .* at most 65,535; the desk, .* has no limit$' "$work/err"
+tell 'a trace that is too long for the programs is made, and the desk says so' $?
+says 'which --check tells too' 1 'desk: the trace has 96,984 bytes, and `snapshot` takes at most 65,535' show "$work/long.trace" --check -o "$work/none"
+run show "$work/long.trace" --progress -o "$work/long.png"
+[ "$status" -eq 0 ] && grep -q '40 frames' "$work/out" && grep -q '^desk: 0 of 26,866 records$' "$work/err" && [ "$(tail -n 1 "$work/err")" = 'desk: 26,866 of 26,866 records' ]
+tell 'and shown, with progress' $?
+says 'a picture that is too large' 1 'desk: a picture of 160,000 x 144,000 is too large: a smaller --scale, or one --frame' show tests/traces/split90.trace --scale 1000 -o "$work/none"
+
+# What differs.
+run differ docs/scripts/split-old.desk docs/scripts/split-new.desk -o "$work/differ.png"
+[ "$status" -eq 0 ] && head -n 1 "$work/out" | grep -q '^10,880 of 23,040 pixels differ, in rows 67 to 143 '
+tell "the author's question: rows 67 to 143" $?
+python3 tests/desk/at.py "$work/differ.png" 0,66=85,0,0 159,66=85,0,0 0,67=255,0,255 159,71=255,0,255 0,72=34,34,34 159,143=255,0,255
+tell 'the changed pixels are marked, and no others' $?
+run differ docs/scripts/split-new.desk docs/scripts/split-new.desk -o "$work/same.png"
+[ "$status" -eq 0 ] && head -n 1 "$work/out" | grep -qx 'no pixel differs' && [ -s "$work/same.png" ]
+tell 'two that are the same' $?
+printf 'colour 0 = 0F 00\nsteps 100\n' >"$work/one.desk"
+printf 'steps 99\ncolour 0 = 0F 00\nsteps 1\n' >"$work/other.desk"
+run differ "$work/one.desk" "$work/other.desk"
+[ "$status" -eq 0 ] && head -n 1 "$work/out" | grep -qx '12,160 of 23,040 pixels differ, in rows 0 to 75'
+tell 'one that begins late' $?
+run differ docs/scripts/flicker.desk docs/scripts/split-new.desk
+[ "$status" -eq 0 ] && grep -q '^desk: note: .* has 2 frames, .* 1 frame: those that both have are compared$' "$work/err"
+tell 'another number of frames is told' $?
+
+# Pixels and sprites.
+try 'every pixel of some rows is that of the frame that snapshot draws' python3 tests/desk/pixels.py 5 $frames
+run pixel docs/scripts/split-new.desk 66 0
+[ "$status" -eq 0 ] && grep -qx '  bytes   FF 00 00 FF: red 255, green 0, blue 0' "$work/out" && grep -qx '  colour  3: palette 0, code 3' "$work/out"
+tell 'pixel: the last row with the old colour' $?
+run pixel docs/scripts/split-new.desk 66 0 --now
+[ "$status" -eq 0 ] && grep -qx '  bytes   00 00 FF FF: red 0, green 0, blue 255' "$work/out"
+tell 'pixel --now: the same with the colour at the end of the trace' $?
+printf 'passes 2\nsteps 90\n' >"$work/cut.desk"
+says 'pixel: of a frame that has not drawn the row it says so' 1 "desk: $work/cut.desk: frame 3 has not drawn row 67" pixel "$work/cut.desk" 67 0 --frame 3
+run pixel "$work/cut.desk" 67 0
+[ "$status" -eq 0 ] && head -n 1 "$work/out" | grep -q ', as frame 2 of 3 drew it at line 91$'
+tell 'pixel: where the last frame is cut, the one before it' $?
+run pixel tests/traces/p1.trace 143 159
+[ "$status" -eq 0 ] && head -n 1 "$work/out" | grep -q 'which the trace has not drawn'
+tell 'pixel: of a row that was not drawn it says so' $?
+run sprites tests/traces/sprites.trace 76
+[ "$status" -eq 0 ] && grep -q '^      9       8 .* NINTH: not laid, and sets status bit 6$' "$work/out" && grep -q 'status bit 5 is set$' "$work/out"
+tell 'sprites: the ninth is marked' $?
+run sprites docs/scripts/flicker.desk --frame 1
+[ "$status" -eq 0 ] && grep -qx '  rows 40 to 47    0 1 2 3 4 5 6 7 | NINTH 8, then 9: not laid' "$work/out"
+tell 'sprites with no row: every row' $?
+run sprites docs/scripts/flicker.desk --sprite 8 --frame 1
+[ "$status" -eq 0 ] && grep -qx '  rows 40 to 47    sprite 8 is number 9 of 10, before it 0 1 2 3 4 5 6 7: NINTH, not laid' "$work/out"
+tell 'sprites --sprite: its rows and its place' $?
+# Reasons that are wrong are caught: a copy of the desk whose rules are damaged.
+for damage in 's/MOST = 8 /MOST = 9 /' 's/in self\.front:/in ():/' 's/40 < byte < 208/40 < byte < 200/' 's/min(160 - x, 8)/8/' 's/elif place in mask:/elif False:/' 's/(x - self.cut) % 256/x/'; do
+    caught=1
+    damaged "$damage" rules.py && "$work/copy/desk/desk" sprites tests/desk/corners.desk >"$work/out" 2>"$work/err"
+    [ $? -eq 1 ] && grep -q "^desk: THE DESK'S REASONS DISAGREE WITH THE LIBRARY" "$work/err" && [ ! -s "$work/out" ] && caught=0
+    tell "wrong reasons are caught: $damage" $caught
+done
+
+# Tiles and colours.
+run tiles tests/traces/layers.trace -o "$work/tiles.png"
+[ "$status" -eq 0 ] && [ ! -s "$work/err" ] && [ "$(od -An -tx1 -j16 -N8 "$work/tiles.png" | tr -d ' ')" = 0000008000000100 ]
+tell 'tiles: the sheet of 128 x 256' $?
+python3 tests/desk/at.py "$work/tiles.png" 0,0=34,34,85 7,0=34,34,85 8,0=136,102,51 15,7=136,102,51 16,0=34,34,85 0,128=0,0,0 2,128=255,221,34 7,131=255,221,34
+tell 'tiles: background above, sprites below' $?
+{ cat docs/scripts/split-new.desk; echo 'colour 3 = F0 00'; } >"$work/dirty.desk"
+run tiles "$work/dirty.desk" -o "$work/before.png"
+[ "$status" -eq 0 ] && grep -q '^desk: note: the palette has changed since the last row was drawn, ' "$work/err"
+tell 'tiles: colours from before are told' $?
+run tiles "$work/dirty.desk" --fresh -o "$work/fresh.png"
+[ "$status" -eq 0 ] && [ ! -s "$work/err" ] && ! python3 tests/desk/same.py "$work/before.png" "$work/fresh.png" 2>/dev/null
+tell 'tiles --fresh: with the colours as they are' $?
+run palette tests/traces/layers.trace
+[ "$status" -eq 0 ] && [ "$(wc -l <"$work/out")" -eq 32 ] && grep -qx 'colour 18 = DF 02  # red 255, green 221, blue  34' "$work/out" &&
+    "$desk" make - -o - <"$work/out" 2>/dev/null | cmp -s - <("$desk" make - -o - 2>/dev/null < <(cut -d'#' -f1 "$work/out"))
+tell 'palette: the 32 colours, as a script takes them' $?
+run palette tests/traces/layers.trace -o "$work/palette.png" --scale 4
+[ "$status" -eq 0 ] && python3 tests/desk/at.py "$work/palette.png" 0,0=34,34,85 4,0=136,102,51 8,3=0,0,0 8,4=255,221,34 11,7=255,221,34 12,7=0,0,0
+tell 'palette: its picture' $?
+
+# Help, words that are wrong, and what cannot be read or written.
+run --help
+status_help=$status
+for command in make list show differ pixel sprites tiles palette; do
+    grep -q "^    $command " "$work/out" || status_help=1
+done
+for command in make list show differ pixel sprites tiles palette; do
+    run $command --help
+    [ "$status" -eq 0 ] && [ ! -s "$work/err" ] && grep -q "^usage: desk $command " "$work/out" || status_help=1
+done
+tell 'every command has its help' $status_help
+says 'no command' 1 'desk: a command is missing (--help tells which there are)'
+says 'no output' 1 'desk show: the following arguments are required: -o (--help tells more)' show tests/traces/p1.trace
+says 'a row that is no number' 1 'desk pixel: argument ROW: `x` is no number from 0 up (--help tells more)' pixel tests/traces/p1.trace x 0
+says 'a row that is not there' 1 'desk: row 144: area 0 has rows 0 to 143' pixel tests/traces/p1.trace 144 0
+says 'a column that is not there' 1 'desk: column 160: area 0 has columns 0 to 159' pixel tests/traces/p1.trace 143 160
+says 'an area that is not there' 1 'desk: area 200: the library has no such area' show tests/traces/p1.trace --area 200 -o "$work/none"
+says 'a frame that is not there' 1 'desk: tests/traces/split90.trace: frame 2, and there is 1 frame' show tests/traces/split90.trace --frame 2 -o "$work/none"
+says 'a trace that is not there' 2 "desk: $work/none: No such file or directory" list "$work/none"
+says 'a folder in place of a trace' 2 "desk: $work: Is a directory" list "$work"
+says 'a script that is not there' 2 "desk: none.desk: No such file or directory" make none.desk -o "$work/none"
+says 'a folder that is not there' 2 "desk: $work/none/x: No such file or directory" make docs/scripts/flicker.desk -o "$work/none/x"
+says 'a file that cannot be written' 2 'desk: /dev/full: No space left on device' show docs/scripts/split-new.desk -o /dev/full
+"$desk" list tests/traces/split90.trace >/dev/full 2>"$work/err"
+[ $? -eq 2 ] && [ "$(cat "$work/err")" = 'desk: standard output: No space left on device' ]
+tell 'standard output that is full' $?
+"$desk" list tests/traces/split90.trace >&- 2>"$work/err"
+[ $? -eq 2 ] && [ "$(cat "$work/err")" = 'desk: standard output is closed' ]
+tell 'standard output that is closed' $?
+"$desk" list - <&- >"$work/out" 2>"$work/err"
+[ $? -eq 2 ] && [ ! -s "$work/out" ] && [ "$(cat "$work/err")" = 'desk: standard input: Bad file descriptor' ]
+tell 'standard input that is closed' $?
+"$desk" list --each tests/traces/split90.trace 2>"$work/err" | head -n 1 >/dev/null
+[ ! -s "$work/err" ]
+tell 'a reader that goes away is no error to tell' $?
+export DESK_LIBRARY=$work/none
+says 'no library' 2 "desk: no $work/none: \`make desk\` makes it" list tests/traces/p1.trace
+unset DESK_LIBRARY
+
+# The pages.
+try 'docs/DESK.md is as its commands have it' python3 tests/desk/document.py docs/DESK.md "$work/page"
+try 'and README.md' python3 tests/desk/document.py README.md "$work/readme"
+
+total

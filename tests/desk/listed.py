@@ -1,0 +1,72 @@
+#!/usr/bin/env python3
+"""listed.py: what `desk list` says of statements and of odd port calls, word for word; each listing makes its trace again."""
+import pathlib
+import sys
+
+sys.path.insert(0, str(pathlib.Path(__file__).resolve().parents[2] / "desk"))
+import language  # noqa: E402
+import listing  # noqa: E402
+import records  # noqa: E402
+
+START = "line 0, before any row: "
+# a script, and the statements and words of its listing, with --each where the third is True
+CASES = [
+    ("reg 0 = 18", [("reg 0 = 18", START + "line interrupts on, early clock on")]),
+    ("reg 1 = 62", [("reg 1 = 62", START + "display on, frame interrupts on, sprites 16 high")]),
+    ("reg 2 = 0C", [("reg 2 = 0C", START + "the map is at 3000")]),
+    ("reg 3 = 00", [("reg 3 = 00", START + "no rule reads it")]),
+    ("reg 5 = 7D", [("reg 5 = 7D", START + "the table of sprites is at 3E00")]),
+    ("reg 6 = 04", [("reg 6 = 04", START + "the tiles of sprites are at 2000")]),
+    ("reg 8 = 10", [("reg 8 = 10", START + "the background goes 16 to the right")]),
+    ("reg 9 = 10", [("reg 9 = 10", START + "the background goes 16 up, from line 0 of the next pass on")]),
+    ("reg 10 = 3B", [("reg 10 = 3B", START + "a line interrupt every 60 lines, where they are on")]),
+    ("colour 3 = 8F 02 00 0F", [("colour 3 = 8F 02 00 0F", START + "colours 3 to 4")]),
+    ("colour 3 = 8F 02", [("colour 3 = 8F 02", START + "red 255, green 136, blue 34")]),
+    # a run, then bytes, then a run: the addresses go on
+    ("vram 20 = 00 times 40\nwrite BE = 1 2 3 4 5 6 7 8 9 A B C D E F 10 FF FF", [
+        ("vram 0020 = 00 times 40", START + "0020 to 0047: tiles 1 to 2"),
+        ("write BE = 01 02 03 04 05 06 07 08 09 0A 0B 0C 0D 0E 0F 10", "0048 to 0057: in tile 2"),
+        ("write BE = FF FF", "0058 to 0059: in tile 2")]),
+    ("map 1 2 = 300 across priority", [("vram 3882 = 2C 13", START + "3882 to 3883: the map's column 1, row 2: tile 300, across, priority")]),
+    ("map 31 2 = 7 times 2", [("vram 38BE = 07 00 07 00", START + "38BE to 38C1: from the map's column 31, row 2 to column 0, row 3")]),
+    ("sprite 3 = 20 40 7", [("vram 3F03 = 3F", START + "3F03: sprite 3 from line 64 on, row 40"),
+                            ("vram 3F86 = 44 07", START + "3F86 to 3F87: sprite 3: X 68, column 20; tile 7")]),
+    ("vram 3F00 = 1 2 D0", [("vram 3F00 = 01 02 D0", START + "3F00 to 3F02: the Y bytes of sprites 0 to 2")]),
+    ("vram 3F80 = 1 2 3 4", [("vram 3F80 = 01 02 03 04", START + "3F80 to 3F83: X and tile of sprites 0 to 1")]),
+    # an odd palette address, a palette that wraps round, and other ways to say a command: record by record
+    ("write BF = 07 C0\nwrite BE = 22", [("write BF = 07", START + "the first byte of a command"), ("write BF = C0", START + "palette address 07"),
+                                       ("write BE = 22", START + "REFUSED: refusal 6, data write at an odd palette address, palette latch empty: latch empty")]),
+    ("write BF = 3E C0\nwrite BE = 11 02 33", [("colour 31 = 11 02", START + "red 17, green 17, blue 34"),
+                                             ("write BE = 33", START + "palette address 00: latched until the odd byte comes")]),
+    ("write BF = 46 C0\nwrite BE = 11 02", [("write BF = 46", START + "the first byte of a command"), ("write BF = C0", START + "palette address 06"),
+                                          ("write BE = 11", START + "palette address 06: latched until the odd byte comes"), ("write BE = 02", START + "colour 3: red 17, green 17, blue 34")]),
+    ("write BF = 07 C0\nwrite BE = 22 33", [("write BF = 07", START + "the first byte of a command"), ("write BF = C0", START + "palette address 07"),
+                                          *[(f"write BE = {byte}", START + "REFUSED: refusal 6, data write at an odd palette address, palette latch empty: latch empty") for byte in ("22", "33")]]),
+    ("write BF = 00 FF\nwrite BE = 11 02", [("write BF = 00", START + "the first byte of a command"), ("write BF = FF", START + "palette address 00"),
+                                          ("write BE = 11", START + "palette address 00: latched until the odd byte comes"), ("write BE = 02", START + "colour 0: red 17, green 17, blue 34")]),
+    ("write BF = 12\nsteps 1\nwrite BF = 74 81", [("write BF = 12", START + "the first byte of a command"), ("steps 1", "line 1 draws no row"),
+                                                ("write BF = 74", "line 1, before any row: address 3412, to write"), ("write BF = 81", "line 1, before any row: the first byte of a command")]),
+    ("write BF = 00 FF", [("write BF = 00", START + "the first byte of a command"), ("write BF = FF", START + "palette address 00")]),
+    ("write BF = 12 34\nread BE", [("write BF = 12", START + "the first byte of a command"), ("write BF = 34", START + "address 3412, to read: the buffer is loaded, and the address goes up"),
+                                 ("read BE", START + "data: 00; the byte at 3413 is read ahead")]),
+    ("write BF = 12 74", [("write BF = 12", START + "the first byte of a command"), ("write BF = 74", START + "address 3412, to write")]),
+    # a read between its bytes empties the latch
+    ("write BF = 40\nread BF\nwrite BF = 81", [("write BF = 40", START + "the first byte of a command"), ("read BF", START + "the status: 00, nothing; it is 0 now"),
+                                             ("write BF = 81", START + "the first byte of a command")]),
+    ("reg 1 = 40", [("write BF = 40", START + "the first byte of a command"), ("write BF = 81", START + "register 1 is 40: display on, frame interrupts off, sprites 8 high")], True),
+    # steps
+    ("steps 25", [("steps 23", "lines 1 to 23 draw no row"), ("steps 2", "lines 24 to 25 draw rows 0 to 1")]),
+    ("steps 25", [("steps 1", f"line {line} draws " + ("no row" if line < 24 else f"row {line - 24}")) for line in range(1, 26)], True),
+    ("area 1\nsteps 2\nread 7E", [("area 1", "steps of area 1 from here on, 256 x 224"), ("steps 2", "lines 1 to 2 draw rows 1 to 2"), ("read 7E", "line 2, after row 2: the line counter: 02 (2)")]),
+    ("reg 1 = 60\nsteps 194\nread BF", [("reg 1 = 60", START + "display on, frame interrupts on, sprites 8 high"), ("steps 23", "lines 1 to 23 draw no row"), ("steps 144", "lines 24 to 167 draw rows 0 to 143"),
+                                      ("steps 25", "lines 168 to 192 draw no row"), ("steps 1", "line 193 draws no row, the screen ends, an interrupt"),
+                                      ("steps 1", "line 194 draws no row, an interrupt"), ("read BF", "line 194, after row 143: the status: 80, the screen has ended; it is 0 now")]),
+]
+for script, wanted, *each in CASES:
+    trace = language.made(script, "script", ".", 1)
+    text = listing.listed(records.Trace(trace, "trace"), 1, bool(each))
+    if text != "".join(f"{statement:24}  # {words}\n" for statement, words in wanted):
+        sys.exit(f"{script!r} is listed as\n{text}not as\n{wanted}")
+    if language.made(text, "listing", ".", 1) != trace:
+        sys.exit(f"{script!r}: its listing makes another trace")
+print(f"{len(CASES)} listings")
