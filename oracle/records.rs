@@ -118,7 +118,7 @@ fn any_call(random: &mut Random) -> Call {
     match random.below(3) {
         0 => Call::Out(random.byte(), random.byte()),
         1 => Call::Input(random.byte()),
-        _ => Call::Step(random.below(2) as u8),
+        _ => Call::Step(random.below(3) as u8),
     }
 }
 

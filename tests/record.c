@@ -58,6 +58,8 @@ int main(int argc, char **argv)
         test(vdp_record_next(room, 29, SIZE_MAX - k) == VDP_RECORD_END, "nor at the largest places");
     }
     test(vdp_record_step(room, 29, SIZE_MAX, 255) == VDP_REFUSED_AREA, "the area comes before the room");
+    test(vdp_record_step(room, 29, SIZE_MAX, 3) == VDP_REFUSED_AREA && vdp_record_step(room, 29, SIZE_MAX, VDP_TRUE_EDGES) == VDP_REFUSED_RECORD_ROOM,
+         "an area is unknown from 3 on");
     test(memcmp(before, room, sizeof room) == 0, "and nothing has changed");
 
     /* Read back, one record after another. */
@@ -76,6 +78,9 @@ int main(int argc, char **argv)
     test(vdp_record_next(room, used, 1) == VDP_RECORD_BAD, "no record starts in the middle of one");
     test(vdp_record_next(room, 28, 26) == VDP_RECORD_BAD, "a record that is cut is bad");
     test(vdp_record_next((const uint8_t *)"LS\xFF", 3, 0) == VDP_RECORD_BAD, "and so is a step of no area");
+    answer = vdp_record_next((const uint8_t *)"LS\x02", 3, 0);
+    test(vdp_record_kind(answer) == VDP_RECORD_STEP && vdp_record_area(answer) == VDP_TRUE_EDGES, "a step with true edges is one");
+    test(vdp_record_next((const uint8_t *)"LS\x03", 3, 0) == VDP_RECORD_BAD, "and the area behind it is none");
 
     if (argc > 1) {
         file = fopen(argv[1], "wb");
