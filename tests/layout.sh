@@ -61,7 +61,7 @@ tell "every public function has its theorem of one outcome, or is an exception o
 # constructors FILE TYPE: those of a data type, as the code writes them. named FILE WORDS: the names behind `-- WORDS: `, up to the full stop.
 constructors() { awk -v type="$2" '/^[^ ]/ { on = $0 ~ "^pub data " type " " } on && /^  [a-z]/ { print $1 }' "$1" | tr - _; }
 named() { sed -nE "s/^-- $2: ([a-z0-9_, ]+)\..*/\1/p" "$1" | tr -d ' ' | tr , '\n'; }
-pass=crates/demands/specs/Pass.antt seven=crates/demands/specs/Seven.antt
+pass=crates/demands/specs/Handheld.antt seven=crates/demands/specs/Seven.antt
 public=$(for crate in vdp step tiles; do
     sed -nE 's/^ *pub fn ([a-z0-9_]+).*/\1/p; s/^pub use [a-z_]+::([a-z0-9_]+);/\1/p' crates/$crate/src/lib.rt
 done | sort)

@@ -1,12 +1,12 @@
 -- A fresh device of either table has the shape that the block asks, so has that of a well-formed block, and every port call keeps it.
 -- Assumes nothing.
-use Prim.Native.Nat.{ℕ, zero, suc, _+_, _-_, _*_, _%_, _/_, _≤_, _<_}
-use mathlib.Core.Path.{_≡_, refl}
+use Prim.Native.Nat.{ℕ, zero, suc, _+_, _-_, _*_, _%_, _≤_, _<_}
+use mathlib.Core.Path.{_≡_, refl, ap, _∙_}
 use mathlib.Core.List.{List}
 use mathlib.Core.Bool.{Bool, true}
 use native.Mathlib.Decide.{decLt}
 use native.Mathlib.Omega.{arith}
-use lib.Dec.{ltb, eqb}
+use lib.Dec.{eqb}
 use lib.ListN.{length, take, drop, set, length-set, length-take, length-drop, replicate, List·getD-eq-default}
 use lib.Seq.{getD-take, getD-drop}
 use Rattle.laws.specs.Lists.{at}
@@ -15,16 +15,15 @@ use Rattle.laws.proofs.Tables.{getD-table}
 use Rattle.laws.proofs.Tests.{either}
 use Rattle.raster.specs.declared.Raster.{Raster}
 use Rattle.raster.specs.declared.LineTable.{LineTable}
+use Rattle.vdp.specs.declared.Front.{Front}
 use Rattle.vdp.specs.declared.VdpState.{VdpState}
 use Rattle.vdp.specs.declared.Written.{Written}
-use Rattle.vdp.specs.declared.ReadBack.{ReadBack}
 use Rattle.vdp.specs.declared.WriteDest.{WriteDest}
-use Rattle.vdp.specs.declared.WriteDest.the-variants.{None, Vram, Cram}
 use Rattle.vdp.specs.declared.Latch.{Latch}
 use Rattle.vdp.specs.declared.Latch.the-variants.{Empty, Held}
-use Rattle.vdp.specs.Device.{device, made, unlatched, withReg, withPaletteByte, withAddr}
-use Rattle.vdp.specs.Refusals.{whole, isPort}
-use Rattle.vdp.specs.Ports.{After, secondByte, commandBy, oddPalette, paletteWrite, dataBy, readBy, portWrite, portRead}
+use Rattle.vdp.specs.Device.{device, made, frontOf, withFront, withPaletteByte, withAddr}
+use Rattle.vdp.specs.Ports.{frontWrite, frontRead, oddPalette, paletteWrite, portWrite, portRead}
+use Rattle.vdp.proofs.Kept.{write-kept, read-registers}
 use Rattle.block.specs.Block.{latchByte, latchFrom, colourAt, coloursAt, wellFormed, stateOf, Shape}
 use Rattle.block.proofs.Copies.{length-coloursAt}
 use Rattle.block.proofs.Whole.{long}
@@ -89,41 +88,13 @@ module _ {s : VdpState} (g : Shape s) where
   carried status raster addr buffer dest command dirty =
       record { registers = g .registers; palette = g .palette; cache = g .cache; byte = g .byte; latched = g .latched; colour = g .colour }
 
-  pub same : (addr buffer : ℕ) (dest : WriteDest) (command : Latch)
-      → Shape (device (s .status) (s .reg) (s .raster) addr buffer dest (s .cram) command (s .«cram_byte1») (s .«cram_dirty») (s .«color_cache»))
-  same addr buffer dest command = carried (s .status) (s .raster) addr buffer dest command (s .«cram_dirty»)
+  -- and so is any front with as many registers
+  fronted : (f : Front) → length (f .reg) ≡ length (s .reg) → Shape (withFront s f)
+  fronted f e =
+      record { registers = e ∙ g .registers; palette = g .palette; cache = g .cache; byte = g .byte; latched = g .latched; colour = g .colour }
 
 abbrev ShapeW : Written → Type 0
 ShapeW a = Shape (a .vdp)
-
-abbrev ShapeA : After → Type 0
-ShapeA a = Shape (a .answer .vdp)
-
-abbrev ShapeR : ReadBack → Type 0
-ShapeR a = Shape (a .vdp)
-
-second-byte : (s : VdpState) (m : List ℕ) (d v : ℕ) → Shape s → ShapeW (secondByte s m d v)
-second-byte s m d v g =
-    either ShapeW (eqb (v / 64) 0) (λ _. same g _ _ _ _)
-    (λ _. either ShapeW (eqb (v / 64) 1) (λ _. same g _ _ _ _)
-    (λ _. either ShapeW (eqb (v / 64) 2)
-    (λ _. either ShapeW (ltb 10 (v % 128)) (λ _. g) (λ _. registered))
-    (λ _. same g _ _ _ _)))
-  where
-    registered : Shape (withReg s (set (s .reg) (v % 128) d))
-    registered =
-        record {
-          registers = simp length-set (g .registers);
-          palette = g .palette;
-          cache = g .cache;
-          byte = g .byte;
-          latched = g .latched;
-          colour = g .colour;
-        }
-
-command-by : (l : Latch) (s : VdpState) (m : List ℕ) (v : ℕ) → Shape s → ShapeW (commandBy l s m v)
-command-by Empty s m v g = same g _ _ _ _
-command-by (Held d) s m v g = second-byte (unlatched s) m d v (same g _ _ _ _)
 
 module _ (v : ℕ) (small : v < 256) where
   even-palette : (s : VdpState) (a : ℕ) → Shape s → Shape (withAddr (withPaletteByte s (Held v)) a)
@@ -144,34 +115,17 @@ module _ (v : ℕ) (small : v < 256) where
 
   palette-write : (s : VdpState) → Shape s → ShapeW (paletteWrite s v)
   palette-write s g =
-      either ShapeW (ltb (s .addr) 64)
-      (λ _. either ShapeW (eqb (s .addr % 2) 0) (λ _. even-palette s ((s .addr + 1) % 64) g) (λ _. odd-palette (s .«cram_byte1») s (g .latched) g))
-      (λ _. g)
-
-  data-by : (d : WriteDest) (s : VdpState) (m : List ℕ) → Shape s → ShapeA (dataBy d s m v)
-  data-by None s m g = g
-  data-by Vram s m g = either ShapeA (ltb (s .addr) 16384) (λ _. same g _ _ _ _) (λ _. g)
-  data-by Cram s m g = palette-write s g
+      either ShapeW (eqb (s .addr % 2) 0) (λ _. even-palette s ((s .addr + 1) % 64) g) (λ _. odd-palette (s .«cram_byte1») s (g .latched) g)
 
   pub write-shape : (s : VdpState) (m : List ℕ) (p : ℕ) → Shape s → Shape (portWrite s m p v .answer .vdp)
   unfolding portWrite
   write-shape s m p g =
-      either ShapeA (whole m)
-      (λ _. either ShapeA (isPort 0xBF p) (λ _. command-by (s .«cmd_byte1») s m v g)
-      (λ _. either ShapeA (isPort 0xBE p) (λ _. data-by (s .dest) (unlatched s) m (same g _ _ _ _)) (λ _. g)))
-      (λ _. g)
-
-read-by : (d : WriteDest) (s : VdpState) (m : List ℕ) → Shape s → ShapeR (readBy d s m)
-read-by None s m g = g
-read-by Cram s m g = g
-read-by Vram s m g = either ShapeR (ltb (s .addr) 16384) (λ _. same g _ _ _ _) (λ _. g)
+      let a = frontWrite 64 (frontOf s) m p v .answer in
+      let h = fronted g (a .front) (write-kept 64 (frontOf s) m p v .registers) in
+      either ShapeW (a .palette) (λ _. palette-write (withFront s (a .front)) h) (λ _. h)
 
 pub read-shape : (s : VdpState) (m : List ℕ) (p : ℕ) → Shape s → Shape (portRead s m p .vdp)
 unfolding portRead
 read-shape s m p g =
-    either ShapeR (whole m)
-    (λ _. either ShapeR (isPort 0x7E p) (λ _. g)
-    (λ _. either ShapeR (isPort 0x7F p) (λ _. g)
-    (λ _. either ShapeR (isPort 0xBF p) (λ _. carried g _ _ _ _ _ _ _)
-    (λ _. either ShapeR (isPort 0xBE p) (λ _. read-by (s .dest) (unlatched s) m (same g _ _ _ _)) (λ _. g)))))
-    (λ _. g)
+    let c = s .raster .«v_counter» in
+    fronted g (frontRead (frontOf s) m p c .front) (ap length (read-registers (frontOf s) m p c))

@@ -15,24 +15,28 @@ use Rattle.colour.proofs.Laws.{colours-at}
 use Rattle.picture.specs.declared.RenderArea.the-variants.{VisibleOnly}
 use Rattle.raster.specs.declared.LineTable.{LineTable}
 use Rattle.raster.proofs.Tables.{jump-back, pass-is}
+use Rattle.vdp.specs.declared.Front.{Front}
+use Rattle.vdp.specs.declared.FrontWritten.{FrontWritten}
 use Rattle.vdp.specs.declared.VdpState.{VdpState}
-use Rattle.vdp.specs.declared.Written.{Written}
 use Rattle.vdp.specs.declared.WriteDest.the-variants.{Cram}
 use Rattle.vdp.specs.declared.Latch.{Latch}
 use Rattle.vdp.specs.declared.Latch.the-variants.{Empty, Held}
 use Rattle.vdp.specs.declared.Refusal.the-variants.{Accepted}
-use Rattle.vdp.specs.Device.{made, fresh, withCommand, unlatched, withDest, withAddr, withPaletteByte}
+use Rattle.vdp.specs.Front.{withCommand, emptied, choosing, commandBy, commandWrite, dataWrite}
+use Rattle.vdp.specs.Device.{made, fresh, frontOf, withFront, withAddr, withPaletteByte}
 use Rattle.vdp.specs.Refusals.{whole}
-use Rattle.vdp.specs.Ports.{commandBy, commandWrite, dataWrite, stored, portWrite}
+use Rattle.vdp.specs.Ports.{frontWrite, stored, writtenBy, portWrite}
 use Rattle.step.specs.Step.{frameLines, frameStep}
-use Rattle.demands.specs.Pass.{Run, after, deviceAfter, then, until, through, ready, answer, lineSet}
+use Rattle.demands.specs.Handheld.{after, handheld}
+use Rattle.demands.specs.Pass.{Run, deviceAfter, then, until, through, ready, answer, lineSet}
 use Rattle.demands.specs.Split.{Split, Twins}
 use Rattle.demands.specs.Author.{asked, unasked, newPalette, Answered}
 use Rattle.step.proofs.Laws.{frame-passes, frame-memory, stepped-reg, stepped-cram, stepped-command}
 use Rattle.demands.proofs.Steps.{frame-taken, accepts}
 use Rattle.demands.proofs.Lines.{line-next}
-use Rattle.demands.proofs.Demand3.{steps, after-step, line-of}
-use Rattle.demands.proofs.Split.{rising, other-colours, changed-visible}
+use Rattle.demands.proofs.Demand3.{after-step, line-of}
+use Rattle.demands.proofs.Split.{rising}
+use Rattle.demands.proofs.Handheld.{handheld-lawful, steps, other-colours, changed-visible}
 
 -- the palette, the registers of a fresh device, and that no command byte is latched
 record Holds (d : VdpState) (p : List ℕ) : Type 0 where
@@ -42,34 +46,45 @@ record Holds (d : VdpState) (p : List ℕ) : Type 0 where
 
 -- ---- the four writes, on any device with no byte latched
 module _ (m : List ℕ) (w : whole m ≡ true) where
-  command : (d : VdpState) (v : ℕ) → portWrite d m 0xBF v .answer ≡ commandWrite d m v
-  unfolding portWrite
-  command d v = rw w
+  command : (f : Front) (v : ℕ) → frontWrite 64 f m 0xBF v .answer ≡ commandWrite 64 f m v
+  unfolding frontWrite
+  command f v = rw w
 
-  byte : (d : VdpState) (v : ℕ) → portWrite d m 0xBE v .answer ≡ dataWrite d m v .answer
-  unfolding portWrite
-  byte d v = rw w
+  byte : (f : Front) (v : ℕ) → frontWrite 64 f m 0xBE v .answer ≡ dataWrite 64 f m v .answer
+  unfolding frontWrite
+  byte f v = rw w
 
   abbrev told : VdpState → ℕ → ℕ → VdpState
   told d p v = portWrite d m p v .answer .vdp
 
-  abbrev aimed : VdpState → VdpState
-  aimed d = withAddr (withDest (unlatched d) Cram) 6
+  -- what the front answers, on its device
+  by-front : (d : VdpState) (p v : ℕ) {a : FrontWritten} → frontWrite 64 (frontOf d) m p v .answer ≡ a → told d p v ≡ writtenBy d v a .vdp
+  unfolding portWrite
+  by-front d p v e = ap (λ (a : FrontWritten). writtenBy d v a .vdp) e
 
-  first : (d : VdpState) → d .«cmd_byte1» ≡ Empty → told d 0xBF 0x06 ≡ withCommand d (Held 6)
-  first d e = ap (λ (r : Written). r .vdp) (command d 6) ∙ ap (λ (l : Latch). commandBy l d m 6 .vdp) e
+  -- the device with byte 6 latched, and with the palette chosen at 6
+  abbrev waiting : VdpState → VdpState
+  waiting d = withFront d (withCommand (frontOf d) (Held 6))
+
+  abbrev aimed : VdpState → VdpState
+  aimed d = withFront d (choosing (emptied (frontOf d)) Cram 6)
+
+  first : (d : VdpState) → d .«cmd_byte1» ≡ Empty → told d 0xBF 0x06 ≡ waiting d
+  first d e = by-front d 0xBF 6 (command (frontOf d) 6 ∙ ap (λ (l : Latch). commandBy l 64 (frontOf d) m 6) e)
 
   chosen : (d : VdpState) → d .«cmd_byte1» ≡ Empty → told (told d 0xBF 0x06) 0xBF 0xC0 ≡ aimed d
   chosen d e =
-      ap (λ (x : VdpState). told x 0xBF 0xC0) (first d e) ∙ ap (λ (r : Written). r .vdp) (command (withCommand d (Held 6)) 0xC0)
+      ap (λ (x : VdpState). told x 0xBF 0xC0) (first d e) ∙ by-front (waiting d) 0xBF 0xC0 (command (frontOf (waiting d)) 0xC0)
 
   low-byte : (d : VdpState) (low : ℕ) → told (aimed d) 0xBE low ≡ withAddr (withPaletteByte (aimed d) (Held low)) 7
-  low-byte d low = ap (λ (r : Written). r .vdp) (byte (aimed d) low)
+  low-byte d low = by-front (aimed d) 0xBE low (byte (frontOf (aimed d)) low)
 
   high-byte :
       (d : VdpState) (low high : ℕ) → told (withAddr (withPaletteByte (aimed d) (Held low)) 7) 0xBE high
       ≡ withAddr (stored (withAddr (withPaletteByte (aimed d) (Held low)) 7) 7 low (high % 16)) 8
-  high-byte d low high = ap (λ (r : Written). r .vdp) (byte (withAddr (withPaletteByte (aimed d) (Held low)) 7) high)
+  high-byte d low high =
+      let x = withAddr (withPaletteByte (aimed d) (Held low)) 7 in
+      by-front x 0xBE high (byte (frontOf x) high)
 
   recoloured : (d : VdpState) (p : List ℕ) (low high : ℕ) → Holds d p → Holds (told (told (told (told d 0xBF 0x06) 0xBF 0xC0) 0xBE low) 0xBE high) (set (set p 6 low) 7 (high % 16))
   recoloured d p low high k =
@@ -82,7 +97,7 @@ module _ (m : List ℕ) (w : whole m ≡ true) where
       record { cram = ap (λ (q : List ℕ). set (set q 6 low) 7 (high % 16)) (k .cram); reg = k .reg; latch = refl }
 
 -- a step keeps all three
-step-holds : (r : Run VisibleOnly) (i : ℕ) (p : List ℕ) → Holds (ready r i) p → Holds (answer r i .vdp) p
+step-holds : (r : Run handheld VisibleOnly) (i : ℕ) (p : List ℕ) → Holds (ready r i) p → Holds (answer r i .device) p
 step-holds r i p k =
     rw (steps r i)
     record {
@@ -95,7 +110,7 @@ step-holds r i p k =
 module _
     (t : LineTable) (vram : ℕ → List ℕ) (frame : List ℕ) (accepted : (i : ℕ) (d : VdpState) → frameStep VisibleOnly (vram i) (length frame) d .refusal ≡ Accepted) (low high : ℕ)
   where
-    abbrev r : Run VisibleOnly
+    abbrev r : Run handheld VisibleOnly
     r = asked t vram frame accepted low high
 
     abbrev old : List ℕ
@@ -105,9 +120,9 @@ module _
     new = newPalette t vram frame accepted low high
 
     -- but for step 90 nothing is called before a step
-    nothing : (i : ℕ) → suc i ≢ 90 → ready r (suc i) ≡ answer r i .vdp
+    nothing : (i : ℕ) → suc i ≢ 90 → ready r (suc i) ≡ answer r i .device
     unfolding ready until then
-    nothing i n = rw (ne-eqb (suc i) 90 n) (after-step r i)
+    nothing i n = rw (ne-eqb (suc i) 90 n) (after-step handheld-lawful r i)
 
     early : (i : ℕ) → i ≤ 89 → Holds (ready r i) old
     unfolding ready until then deviceAfter
@@ -123,8 +138,8 @@ module _
     written : Holds (ready r 90) new
     unfolding ready until then deviceAfter after
     written =
-        recoloured (vram 90) whole-90 (deviceAfter t (through r 89)) old low high
-        (subst (λ (d : VdpState). Holds d old) (sym (after-step r 89)) (step-holds r 89 old (early 89 (omega arith))))
+        recoloured (vram 90) whole-90 (deviceAfter handheld t (through r 89)) old low high
+        (subst (λ (d : VdpState). Holds d old) (sym (after-step handheld-lawful r 89)) (step-holds r 89 old (early 89 (omega arith))))
 
     late : (k : ℕ) → Holds (ready r (90 + k)) new
     late zero = written
@@ -134,15 +149,18 @@ module _
 
     first-line : lineSet r 0 ≡ 1
     unfolding ready until then deviceAfter
-    first-line = line-of r 0 ∙ line-next (ready r 0 .raster) 0 refl (omega arith)
+    first-line = line-of handheld-lawful r 0 ∙ line-next (ready r 0 .raster) 0 refl (omega arith)
 
     the-split : Split r 90 old new
     the-split =
         record {
-          from-top = inl (omega (arith, first-line), omega (arith, first-line));
-          step = 89;
-          in-pass = omega (arith, pass-is t, jump-back t);
-          sets = rising r 0 89 (omega (arith, first-line)) ∙ ap (λ (n : ℕ). n + 89) first-line;
+          moment =
+              record {
+                from-top = inl (omega (arith, first-line), omega (arith, first-line));
+                step = 89;
+                in-pass = omega (arith, pass-is t, jump-back t);
+                sets = rising handheld-lawful r 0 89 (omega (arith, first-line)) ∙ ap (λ (n : ℕ). n + 89) first-line;
+              };
           until-then = λ i h. early i h .cram;
           from-then = λ i h _.
               let e : 90 + (i - 90) ≡ i = omega arith in
@@ -150,12 +168,12 @@ module _
         }
 
     -- ---- the same without the writes
-    abbrev r₀ : Run VisibleOnly
+    abbrev r₀ : Run handheld VisibleOnly
     r₀ = unasked t vram frame accepted low high
 
-    never : (i : ℕ) → ready r₀ (suc i) ≡ answer r₀ i .vdp
+    never : (i : ℕ) → ready r₀ (suc i) ≡ answer r₀ i .device
     unfolding ready until then
-    never i = after-step r₀ i
+    never i = after-step handheld-lawful r₀ i
 
     always-old : (i : ℕ) → Holds (ready r₀ i) old
     unfolding ready until then deviceAfter

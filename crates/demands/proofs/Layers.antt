@@ -28,9 +28,11 @@ use Rattle.vdp.specs.Refusals.{Line, first, under}
 use Rattle.vdp.proofs.Tables.{Passed, passed, under-either}
 use Rattle.step.specs.declared.DrawnRow.{DrawnRow}
 use Rattle.step.specs.declared.DrawnRow.the-variants.{NoRow, Drawn}
-use Rattle.step.specs.Step.{lineOf, counterUp, rowOn, rowLines, frameLines, refusedStep, stepped, stepWith}
-use Rattle.step.specs.Frame.{rowWith, frameWith, rowAfter, frameAfter}
-use Rattle.step.specs.Layers.{alsoLayers, rowLayers, layersBy, layersAfter}
+use Rattle.step.specs.Step.{rowLines, frameLines, readingOf, refusedStep, stepped, stepWith}
+use Rattle.step.specs.Points.{comingRow}
+use Rattle.step.specs.Bytes.{layersBy, rowFilled, frameFilled, comingLayers, layersFilled}
+use Rattle.step.specs.Frame.{rowAfter, frameAfter}
+use Rattle.step.specs.Layers.{alsoLayers, layersAfter}
 use Rattle.step.proofs.Laws.{row-refusing, frame-refusing}
 use Rattle.step.proofs.Steps.{under-also, not-last}
 use Rattle.demands.specs.Layers.{standsAt, laidOn, columnAt, codeIn, heldAt, some, OneOf, Owned, Aside}
@@ -188,24 +190,24 @@ owned-tells m g v x =
 
 -- ---- a step
 module _ (a : RenderArea) (vram : List ℕ) (d : VdpState) (pixels layers : List ℕ) where
-  abbrev risen : VdpState
-  risen = counterUp d
+  abbrev layersTold : DrawnRow → List ℕ
+  layersTold r = layersBy r a (comingLayers a vram (readingOf d)) layers
 
   -- the layer buffer with a row's layers: its length, and what is behind them
-  length-by : (r : DrawnRow) → length (layersBy r a vram risen layers) ≡ length layers
+  length-by : (r : DrawnRow) → length (layersTold r) ≡ length layers
   unfolding layersBy
   length-by NoRow = refl
-  length-by (Drawn y) = length-layersIn layers (columns a) (rowLayers a vram risen y)
+  length-by (Drawn y) = length-layersIn layers (columns a) (comingLayers a vram (readingOf d) y)
 
   behind : (f : ℕ → ℕ) → drop (columns a) (layersIn layers (columns a) f) ≡ drop (columns a) layers
   unfolding layersIn
   behind f =
       split (leb (columns a) (length layers)) (λ e. rw e (drop-at (table (columns a) f) (drop (columns a) layers) (columns a) (length-table (columns a) f))) (λ e. rw e)
 
-  past-by : (r : DrawnRow) → drop (columns a) (layersBy r a vram risen layers) ≡ drop (columns a) layers
+  past-by : (r : DrawnRow) → drop (columns a) (layersTold r) ≡ drop (columns a) layers
   unfolding layersBy
   past-by NoRow = refl
-  past-by (Drawn y) = behind (rowLayers a vram risen y)
+  past-by (Drawn y) = behind (comingLayers a vram (readingOf d) y)
 
 last-of : (least size : ℕ) (ls : List Line) → size < least → Passed ls → first (alsoLayers least size ls) ≡ LayerLength
 last-of least size [] h p = rw (lt-ltb size least h)
@@ -221,18 +223,18 @@ aside a vram d pixels layers =
     let n = length layers in
     record {
       row-answer = λ h. under-also w n rows (λ r. refusedStep r d) (stepped a vram d) h;
-      row-pixels = λ h. under-also w n rows (λ r. pixels) (rowWith (rowOn a (lineOf (counterUp d))) a vram (counterUp d) pixels) h;
+      row-pixels = λ h. under-also w n rows (λ r. pixels) (rowFilled a vram (readingOf d) pixels) h;
       frame-answer = λ h. under-also w n frames (λ r. refusedStep r d) (stepped a vram d) h;
-      frame-pixels = λ h. under-also w n frames (λ r. pixels) (frameWith (rowOn a (lineOf (counterUp d))) a vram (counterUp d) pixels) h;
+      frame-pixels = λ h. under-also w n frames (λ r. pixels) (frameFilled a vram (readingOf d) pixels) h;
       row-short = λ h e. last-of w n rows h (passed rows (row-refusing a vram (length pixels)) e);
       frame-short = λ h e. last-of w n frames h (passed frames (frame-refusing a vram (length pixels)) e);
       refused = λ ls e. not-last w n ls e;
       size =
           λ ls.
-          under-either (λ (l : List ℕ). length l ≡ length layers) ls (λ r. layers) (layersBy (rowOn a (lineOf (counterUp d))) a vram (counterUp d) layers) (λ r. refl)
-          (λ p. length-by a vram d pixels layers (rowOn a (lineOf (counterUp d))));
+          under-either (λ (l : List ℕ). length l ≡ length layers) ls (λ r. layers) (layersFilled a vram (readingOf d) layers) (λ r. refl)
+          (λ p. length-by a vram d pixels layers (comingRow a (readingOf d)));
       past =
           λ ls.
-          under-either (λ (l : List ℕ). drop (columns a) l ≡ drop (columns a) layers) ls (λ r. layers) (layersBy (rowOn a (lineOf (counterUp d))) a vram (counterUp d) layers) (λ r. refl)
-          (λ p. past-by a vram d pixels layers (rowOn a (lineOf (counterUp d))));
+          under-either (λ (l : List ℕ). drop (columns a) l ≡ drop (columns a) layers) ls (λ r. layers) (layersFilled a vram (readingOf d) layers) (λ r. refl)
+          (λ p. past-by a vram d pixels layers (comingRow a (readingOf d)));
     }

@@ -7,7 +7,6 @@ use native.Mathlib.Omega.{arith}
 use denote.Ref.{now}
 use Rattle.picture.specs.Picture.{topOf}
 use Rattle.sprites.specs.Sprites.{Follows}
-use Rattle.step.proofs.Steps.{reads-so, same-points}
 use Rattle.demands.specs.Outcome.{OneOutcome, OneOutcomeSeen, PaintedRow}
 use Rattle.bitmap.proofs.Bitmap.new as bitmap-new
 use Rattle.bitmap.proofs.Bitmap.set as bitmap-set
@@ -49,6 +48,8 @@ use Rattle.sprites.proofs.next_sprite
 use Rattle.pixel.proofs.spot_at
 use Rattle.row.proofs.render_line
 use Rattle.vdp.proofs.refusal_number
+use Rattle.vdp.proofs.Front.write as front_write
+use Rattle.vdp.proofs.Front.read as front_read
 use Rattle.vdp.proofs.VdpState.new
 use Rattle.vdp.proofs.VdpState.with_raster
 use Rattle.vdp.proofs.VdpState.with_table
@@ -306,6 +307,12 @@ with-raster-once κs a q z z′ w w′ e f = (e ∙ sym f, refl)
 pub with-cache-once : OneOutcome 0 with_cache.Kinds.ps with_cache.Kinds.r with_cache.Reads.Asked with_cache.Reads.Learnt
 with-cache-once κs a q z z′ w w′ e f = (e ∙ sym f, refl)
 
+pub front-write-once : OneOutcome 1 front_write.Kinds.ps front_write.Kinds.r front_write.Reads.Asked front_write.Reads.Learnt
+front-write-once κs a q z z′ w w′ e f = (e .answer ∙ sym (f .answer), λ i. (tt, ((e .memory ∙ sym (f .memory)) i, w .1 .1)))
+
+pub front-read-once : OneOutcome 1 front_read.Kinds.ps front_read.Kinds.r front_read.Reads.Asked front_read.Reads.Learnt
+front-read-once κs a q z z′ w w′ e f = (e ∙ sym f, refl)
+
 pub out-once : OneOutcome 1 out.Kinds.ps out.Kinds.r out.Reads.Asked out.Reads.Learnt
 out-once κs a q z z′ w w′ e f = (e .answer ∙ sym (f .answer), λ i. (tt, ((e .memory ∙ sym (f .memory)) i, w .1 .1)))
 
@@ -319,38 +326,25 @@ interrupt-number-once κs a q z z′ w w′ e f = (e .0 ∙ sym (f .0), refl)
 pub report-number-once : OneOutcome 0 report_number.Kinds.ps report_number.Kinds.r report_number.Reads.Asked report_number.Reads.Learnt
 report-number-once κs a q z z′ w w′ e f = (e .0 ∙ sym (f .0), refl)
 
--- the points of a step: each by the step of one device that reads as the arguments say
 pub row-points-once : OneOutcome 3 row_points.Kinds.ps row_points.Kinds.r row_points.Reads.Asked row_points.Reads.Learnt
 row-points-once κs a q z z′ w w′ e f =
-    let g = reads-so (a .0) (a .1 .0) (a .1 .1 .0) (now (a .1 .1 .1 .0)) in
-    let x = e _ g in
-    let y = f _ g in
-    (same-points _ (x .answer ∙ sym (y .answer)), λ i. (tt, (tt, (tt, (tt, (tt, ((x .bytes ∙ sym (y .bytes)) i, w .1 .1 .1 .1 .1 .1)))))))
+    (e .answer ∙ sym (f .answer), λ i. (tt, (tt, (tt, (tt, (tt, ((e .bytes ∙ sym (f .bytes)) i, w .1 .1 .1 .1 .1 .1)))))))
 
 pub frame-points-once : OneOutcome 3 frame_points.Kinds.ps frame_points.Kinds.r frame_points.Reads.Asked frame_points.Reads.Learnt
 frame-points-once κs a q z z′ w w′ e f =
-    let g = reads-so (a .0) (a .1 .0) (a .1 .1 .0) (now (a .1 .1 .1 .0)) in
-    let x = e _ g in
-    let y = f _ g in
-    (same-points _ (x .answer ∙ sym (y .answer)), λ i. (tt, (tt, (tt, (tt, (tt, ((x .bytes ∙ sym (y .bytes)) i, w .1 .1 .1 .1 .1 .1)))))))
+    (e .answer ∙ sym (f .answer), λ i. (tt, (tt, (tt, (tt, (tt, ((e .bytes ∙ sym (f .bytes)) i, w .1 .1 .1 .1 .1 .1)))))))
 
 pub layer-row-points-once : OneOutcome 4 layer_row_points.Kinds.ps layer_row_points.Kinds.r layer_row_points.Reads.Asked layer_row_points.Reads.Learnt
-layer-row-points-once κs a q z z′ w w′ e f =
-    let g = reads-so (a .0) (a .1 .0) (a .1 .1 .0) (now (a .1 .1 .1 .0)) in
-    let x = e _ g in
-    let y = f _ g in (
-      same-points _ (x .answer ∙ sym (y .answer)),
-      λ i. (tt, (tt, (tt, (tt, (tt, ((x .bytes ∙ sym (y .bytes)) i, ((x .owners ∙ sym (y .owners)) i, w .1 .1 .1 .1 .1 .1 .1))))))),
-    )
+layer-row-points-once κs a q z z′ w w′ e f = (
+  e .points .answer ∙ sym (f .points .answer),
+  λ i. (tt, (tt, (tt, (tt, (tt, ((e .points .bytes ∙ sym (f .points .bytes)) i, ((e .owners ∙ sym (f .owners)) i, w .1 .1 .1 .1 .1 .1 .1))))))),
+)
 
 pub layer-frame-points-once : OneOutcome 4 layer_frame_points.Kinds.ps layer_frame_points.Kinds.r layer_frame_points.Reads.Asked layer_frame_points.Reads.Learnt
-layer-frame-points-once κs a q z z′ w w′ e f =
-    let g = reads-so (a .0) (a .1 .0) (a .1 .1 .0) (now (a .1 .1 .1 .0)) in
-    let x = e _ g in
-    let y = f _ g in (
-      same-points _ (x .answer ∙ sym (y .answer)),
-      λ i. (tt, (tt, (tt, (tt, (tt, ((x .bytes ∙ sym (y .bytes)) i, ((x .owners ∙ sym (y .owners)) i, w .1 .1 .1 .1 .1 .1 .1))))))),
-    )
+layer-frame-points-once κs a q z z′ w w′ e f = (
+  e .points .answer ∙ sym (f .points .answer),
+  λ i. (tt, (tt, (tt, (tt, (tt, ((e .points .bytes ∙ sym (f .points .bytes)) i, ((e .owners ∙ sym (f .owners)) i, w .1 .1 .1 .1 .1 .1 .1))))))),
+)
 
 pub row-step-once : OneOutcome 2 row_step.Kinds.ps row_step.Kinds.r row_step.Reads.Asked row_step.Reads.Learnt
 row-step-once κs a q z z′ w w′ e f = (e .answer ∙ sym (f .answer), λ i. (tt, (tt, ((e .bytes ∙ sym (f .bytes)) i, w .1 .1 .1))))

@@ -36,7 +36,7 @@ use Rattle.pixel.specs.Pixel.{pixelLines}
 use Rattle.step.specs.Step.{rowLines, frameLines, stepWith}
 use Rattle.tiles.specs.Calls.{readTileLines, writeTileLines}
 use Rattle.face.specs.Face.{Called, refused, onArea, newTableCall, outOn, outCall, inputOn, inputCall, stepOn, stepCall, rowStepOn, rowStepCall, dumpCall}
-use Rattle.face.specs.Layers.{layerLines, layerOn, layerCall, rowTable, rowFilled, frameTable, frameFilled}
+use Rattle.face.specs.Layers.{layerLines, layerOn, layerCall, rowTable, rowFills, frameTable, frameFills}
 use Rattle.face.specs.Pixel.{pixelCall}
 use Rattle.face.specs.Repair.{repairCall}
 use Rattle.face.specs.Tiles.{writeTileCall, readTileCall}
@@ -46,10 +46,14 @@ use Rattle.face.proofs.Blocks.{out-on, input-on, step-on, row-on, layer-on}
 use Rattle.face.proofs.Exact.{alone, low-byte, new-exact, step-exact, row-exact, layer-exact, dump-exact, none, never}
 use Rattle.face.proofs.Pixels.{pixel-call-exact}
 use Rattle.face.proofs.Tiles.{write-tile-exact, read-tile-exact}
-use Rattle.demands.specs.Pass.{Call, out, input, frame-step, row-step, layer-frame-step, layer-row-step, History, after, refusalOf, deviceAfter}
+use Rattle.demands.specs.Machine.{Machine}
+use Rattle.demands.specs.Handheld.{Call, out, input, frame-step, row-step, layer-frame-step, layer-row-step, after, refusalOf, handheld}
+use Rattle.demands.specs.Pass.{History, deviceAfter}
 use Rattle.demands.specs.Always.{Always}
 use Rattle.demands.specs.Seven.{highest, NeverSeven, FaceCall, vdp-new, vdp-new-table, vdp-out, vdp-input, vdp-step, vdp-row-step, vdp-layer-step, vdp-layer-row-step, vdp-dump-tileset, vdp-pixel, vdp-repair, vdp-write-tile, vdp-read-tile, called, MadeBlock, by-new, by-new-table, blockAfter, FaceNeverSeven}
+use Rattle.demands.proofs.Lawful.{Lawful}
 use Rattle.demands.proofs.Sound.{table-is}
+use Rattle.demands.proofs.Handheld.{handheld-lawful}
 use Rattle.demands.proofs.Always.{always}
 
 -- ---- a device
@@ -57,24 +61,30 @@ below-jump : (t : LineTable) (n : ℕ) → n < jumpLine t → n ≤ highest t
 below-jump Steps261 n h = omega arith
 below-jump Steps262 n h = omega arith
 
-pub never-seven : (t : LineTable) (h : History) → NeverSeven t h
-never-seven t h =
-    let a = always t h in
+pub never-seven : {M : Machine} (ok : Lawful M) (t : LineTable) (h : History M) → NeverSeven M t h
+never-seven {M} ok t h =
+    let a = always ok t h in
     record {
       no-seven = a .no-seven;
       clean = a .clean;
-      before-jump = λ e. below-jump t (deviceAfter t h .raster .«v_counter») (subst (λ (u : LineTable). deviceAfter t h .raster .«v_counter» < jumpLine u) (table-is t h) (a .before-jump e));
+      before-jump = λ e.
+          below-jump t (M .raster (deviceAfter M t h) .«v_counter»)
+          (subst (λ (u : LineTable). M .raster (deviceAfter M t h) .«v_counter» < jumpLine u) (table-is ok t h) (a .before-jump e));
       after-jump = a .after-jump;
     }
+
+-- the handheld
+pub never-seven-handheld : (t : LineTable) (h : History handheld) → NeverSeven handheld t h
+never-seven-handheld = never-seven handheld-lawful
 
 -- ---- a block that stands for a fresh device after calls
 record Stands (b : List ℕ) : Type 0 where
   room : ℕ
   table : LineTable
-  calls : History
+  calls : History handheld
   fitting : fits table room ≡ true
-  shape : Shape (deviceAfter table calls)
-  is : b ≡ blockOf room (deviceAfter table calls)
+  shape : Shape (deviceAfter handheld table calls)
+  is : b ≡ blockOf room (deviceAfter handheld table calls)
 
 abbrev StandsAfter : Called → Type 0
 StandsAfter c = Stands (c .block)
@@ -88,10 +98,10 @@ without w ls e h = rw e (never 7 ls (λ z. omega arith) h)
 
 module _ {b : List ℕ} (s : Stands b) where
   abbrev d : VdpState
-  d = deviceAfter (s .table) (s .calls)
+  d = deviceAfter handheld (s .table) (s .calls)
 
   fit : fits (d .raster .table) (s .room) ≡ true
-  fit = rw (table-is (s .table) (s .calls)) (s .fitting)
+  fit = rw (table-is handheld-lawful (s .table) (s .calls)) (s .fitting)
 
   -- the device that is in it
   is-in : stateOf b ≡ d
@@ -106,7 +116,7 @@ module _ {b : List ℕ} (s : Stands b) where
   next c g = record { room = s .room; table = s .table; calls = c ∷ s .calls; fitting = s .fitting; shape = g; is = refl }
 
   not-7 : (c : Call) → refusalNumber (refusalOf c d) ≢ 7
-  not-7 c = never-seven (s .table) (s .calls) .no-seven c
+  not-7 c = never-seven-handheld (s .table) (s .calls) .no-seven c
 
   -- a port write and a port read
   module _ (m : List ℕ) (p v : ℕ) where
@@ -163,16 +173,16 @@ module _ {b : List ℕ} (s : Stands b) where
         on-area n x (layerOn ls filled m x layers (s .room) d)
         (ap (λ (y : List ℕ). layerCall ls filled y m x layers n) (s .is) ∙ layer-on (s .room) d (s .shape) fit ls filled m x layers n) f
 
-    layer-step-kept : (layers : List ℕ) → StandsAfter (layerCall (frameTable m x) (frameFilled m x) b m x layers n)
+    layer-step-kept : (layers : List ℕ) → StandsAfter (layerCall (frameTable m x) (frameFills m x) b m x layers n)
     unfolding after
     layer-step-kept layers =
-        layer-kept (frameTable m x) (frameFilled m x) layers
+        layer-kept (frameTable m x) (frameFills m x) layers
         (λ a. next (layer-frame-step a m (length x) (length layers)) (with-shape (layerLines (frameTable m x) layers a) a m d (s .shape)))
 
-    layer-row-kept : (layers : List ℕ) → StandsAfter (layerCall (rowTable m x) (rowFilled m x) b m x layers n)
+    layer-row-kept : (layers : List ℕ) → StandsAfter (layerCall (rowTable m x) (rowFills m x) b m x layers n)
     unfolding after
     layer-row-kept layers =
-        layer-kept (rowTable m x) (rowFilled m x) layers
+        layer-kept (rowTable m x) (rowFills m x) layers
         (λ a. next (layer-row-step a m (length x) (length layers)) (with-shape (layerLines (rowTable m x) layers a) a m d (s .shape)))
 
   -- what only reads the block
@@ -188,8 +198,8 @@ module _ {b : List ℕ} (s : Stands b) where
       (any-none 32 (λ i. not (eqb (at (stateOf b .«color_cache») i) (at (coloursOf (stateOf b .cram)) i)))
       (λ k h. ap not (eq-eqb _ _ (ap (λ (l : List ℕ). at l k) e))))
 
-  abbrev in-block : Always (stateOf b)
-  in-block = subst Always (sym is-in) (always (s .table) (s .calls))
+  abbrev in-block : Always handheld (stateOf b)
+  in-block = subst (Always handheld) (sym is-in) (always handheld-lawful (s .table) (s .calls))
 
   right : nothingWrong b ≡ true
   right =
@@ -213,7 +223,7 @@ module _ {b : List ℕ} (s : Stands b) where
 
   stays : mended b ≡ b
   stays =
-      let h = always (s .table) (s .calls) .in-memory in
+      let h = always handheld-lawful (s .table) (s .calls) .in-memory in
       let t = size-top (d .dest) in
       stays-so b right (omega (arith, address-at .0)) (omega (arith, address-at .1, h, t))
 
@@ -238,11 +248,11 @@ module _ {b : List ℕ} (s : Stands b) where
   answers (vdp-step m x n) = without (stepCall b m x n .word) (stepCallLines b n (frameLines (areaFrom n) m (length x))) (step-exact b m x n) refl
   answers (vdp-row-step m x n) = without (rowStepCall b m x n .word) (stepCallLines b n (rowLines (areaFrom n) m (length x))) (row-exact b m x n) refl
   answers (vdp-layer-step m x layers n) =
-      without (layerCall (frameTable m x) (frameFilled m x) b m x layers n .word) (stepCallLines b n (layerLines (frameTable m x) layers (areaFrom n)))
-      (layer-exact (frameTable m x) (frameFilled m x) b m x layers n) refl
+      without (layerCall (frameTable m x) (frameFills m x) b m x layers n .word) (stepCallLines b n (layerLines (frameTable m x) layers (areaFrom n)))
+      (layer-exact (frameTable m x) (frameFills m x) b m x layers n) refl
   answers (vdp-layer-row-step m x layers n) =
-      without (layerCall (rowTable m x) (rowFilled m x) b m x layers n .word) (stepCallLines b n (layerLines (rowTable m x) layers (areaFrom n)))
-      (layer-exact (rowTable m x) (rowFilled m x) b m x layers n) refl
+      without (layerCall (rowTable m x) (rowFills m x) b m x layers n .word) (stepCallLines b n (layerLines (rowTable m x) layers (areaFrom n)))
+      (layer-exact (rowTable m x) (rowFills m x) b m x layers n) refl
   answers (vdp-dump-tileset m x) = without (dumpCall b m x .word) (dumpCallLines b m (length x)) (dump-exact b m x) refl
   answers (vdp-pixel m n y x) = without (pixelCall b m n y x) (stepCallLines b n (pixelLines m)) (pixel-call-exact b m n y x) refl
   answers (vdp-repair l) = repair-word l

@@ -24,42 +24,45 @@ use Rattle.raster.specs.declared.Raster.{Raster}
 use Rattle.raster.specs.declared.LineTable.{LineTable}
 use Rattle.raster.specs.Raster.{passLength, jumpTo, advanced}
 use Rattle.step.specs.declared.DrawnRow.the-variants.{Drawn}
-use Rattle.step.specs.Step.{register, rowOn}
+use Rattle.step.specs.Step.{rowOn}
 use Rattle.step.proofs.Rows.{row-low, row-line}
+use Rattle.demands.specs.Machine.{Machine, register}
+use Rattle.demands.specs.Handheld.{handheld}
 use Rattle.demands.specs.Pass.{Run, pass, through, ready, latched, answer, lineSet, rowAtEnd, pictureAt}
-use Rattle.demands.specs.Split.{firstNew, Split, ColourSplit, Ninety, pixelAtEnd, fourBytes, OnlyColour, WhichPixels, Twins, Changed}
+use Rattle.demands.specs.Split.{firstNew, Moment, Split, ColourSplit, Ninety, pixelAtEnd, fourBytes, OnlyColour, WhichPixels, Twins, Changed}
 use Rattle.demands.proofs.Counter.{line}
 use Rattle.demands.proofs.Lines.{line-next}
+use Rattle.demands.proofs.Lawful.{Lawful}
 use Rattle.demands.proofs.Demand3.{table-at, line-row, line-of, row-on, lines, lines-later, still, raster-next, scroll-at, demand3}
 
 -- ---- the lines of a pass
-module _ {a : RenderArea} (r : Run a) where
+module _ {M : Machine} (ok : Lawful M) {a : M .Area} (r : Run M a) where
   -- they go up from that of any step
   pub rising : (i k : ℕ) → lineSet r i + k < jumpTo → lineSet r (i + k) ≡ lineSet r i + k
   rising i zero h = rw (add-zero i, add-zero (lineSet r i))
   rising i (suc k) h =
       rw (add-suc i k)
-      (line-of r (suc (i + k))
-      ∙ line-next (ready r (suc (i + k)) .raster) (lineSet r i + k) (still r (i + k) ∙ rising i k (omega arith)) (omega arith)
+      (line-of ok r (suc (i + k))
+      ∙ line-next (M .raster (ready r (suc (i + k)))) (lineSet r i + k) (still ok r (i + k) ∙ rising i k (omega arith)) (omega arith)
       ∙ sym (add-suc (lineSet r i) k))
 
   -- the step after the pass sets the line that its first step set
   round : (q : ℕ) → q < jumpTo → lineSet r (pass r) ≡ q → lineSet r 0 ≡ q
-  round q l e = let o = lines r q (inl l) (omega arith) in go (o .at) (o .below) (o .holds)
+  round q l e = let o = lines ok r q (inl l) (omega arith) in go (o .at) (o .below) (o .holds)
     where
-      go : (k : ℕ) → k < pass r → line (ready r k .raster) ≡ q → lineSet r 0 ≡ q
-      go zero h f = line-of r 0 ∙ f
+      go : (k : ℕ) → k < pass r → line (M .raster (ready r k)) ≡ q → lineSet r 0 ≡ q
+      go zero h f = line-of ok r 0 ∙ f
       go (suc k) h f =
-          let p = lines-later r q l in
+          let p = lines-later ok r q l in
           let only-k : k ≡ p .at = p .only k (omega arith) f in
           let last : suc (pass r - 1) ≡ pass r = omega arith in
-          let again : line (ready r (suc (pass r - 1)) .raster) ≡ q =
-          subst (λ (n : ℕ). line (ready r n .raster) ≡ q) (sym last) (sym (line-of r (pass r)) ∙ e) in
+          let again : line (M .raster (ready r (suc (pass r - 1)))) ≡ q =
+          subst (λ (n : ℕ). line (M .raster (ready r n)) ≡ q) (sym last) (sym (line-of ok r (pass r)) ∙ e) in
           let only-last : pass r - 1 ≡ p .at = p .only (pass r - 1) (omega arith) again in
           absurd (omega arith)
 
   -- so where the pass does not begin after line p and up to line q, from the step of the pass that sets p it goes on to q
-  goes-on :
+  pub goes-on :
       (i p q : ℕ) → i < pass r → lineSet r i ≡ p → p ≤ q → q < jumpTo → (lineSet r 0 ≤ p) ⊎ (q < lineSet r 0) → i + (q - p) < pass r
   goes-on i p q h e f l out =
       split (ltb (i + (q - p)) (pass r)) (λ t. ltb-true (i + (q - p)) (pass r) t)
@@ -77,20 +80,20 @@ module _ {a : RenderArea} (r : Run a) where
       (i j p q : ℕ) → i < pass r → j < pass r → lineSet r i ≡ p → lineSet r j ≡ q → p ≤ q → q < jumpTo →
       (lineSet r 0 ≤ p) ⊎ (q < lineSet r 0) → j ≡ i + (q - p)
   apart i j p q h g e d f l out =
-      let o = lines r q (inl l) (omega arith) in
+      let o = lines ok r q (inl l) (omega arith) in
       let k : ℕ = q - p in
       let up : lineSet r (i + k) ≡ q = rising i k (omega arith) ∙ omega arith in
-      let only-j : j ≡ o .at = o .only j g (sym (line-of r j) ∙ d) in
-      let only-k : i + k ≡ o .at = o .only (i + k) (goes-on i p q h e f l out) (sym (line-of r (i + k)) ∙ up) in
+      let only-j : j ≡ o .at = o .only j g (sym (line-of ok r j) ∙ d) in
+      let only-k : i + k ≡ o .at = o .only (i + k) (goes-on i p q h e f l out) (sym (line-of ok r (i + k)) ∙ up) in
       only-j ∙ sym only-k
 
-  row-set : (i y : ℕ) → answer r i .row ≡ Drawn y → (lineSet r i ≡ y + firstLine a) × (y < rows a)
+  row-set : (i y : ℕ) → answer r i .row ≡ Drawn y → (lineSet r i ≡ y + firstLine (M .screen a)) × (y < rows (M .screen a))
   row-set i y e =
-      let o = sym (row-on r i) ∙ e in
-      (line-of r i ∙ row-line a (line (ready r i .raster)) y o ∙ add-comm (firstLine a) y, row-low a (line (ready r i .raster)) y o)
+      let o = sym (row-on ok r i) ∙ e in
+      (line-of ok r i ∙ row-line (M .screen a) (line (M .raster (ready r i))) y o ∙ add-comm (firstLine (M .screen a)) y, row-low (M .screen a) (line (M .raster (ready r i))) y o)
 
-  set-row : (i y : ℕ) → y < rows a → lineSet r i ≡ y + firstLine a → answer r i .row ≡ Drawn y
-  set-row i y h e = row-on r i ∙ line-row a (line (ready r i .raster)) y h (sym (line-of r i) ∙ e)
+  pub set-row : (i y : ℕ) → y < rows (M .screen a) → lineSet r i ≡ y + firstLine (M .screen a) → answer r i .row ≡ Drawn y
+  set-row i y h e = row-on ok r i ∙ line-row (M .screen a) (line (M .raster (ready r i))) y h (sym (line-of ok r i) ∙ e)
 
 -- ---- the pixels of a row
 four-at : (c i : ℕ) → i < 4 → getD (fourBytes c) i 0 ≡ byteOfColour c i
@@ -111,29 +114,6 @@ pixel p colours w x h =
     getD-take 4 (drop (4 * x) row) i 0 l′ ∙ getD-drop (4 * x) row i 0 ∙ pixel-byte colours w p x i h l′
     ∙ sym (four-at (at colours (p .colour x)) i l′))
 
--- the two palette bytes of colour c make no other colour
-past-colours : (p : List ℕ) (n : ℕ) → 32 ≤ n → at (coloursOf p) n ≡ 0
-past-colours p n h = List·getD-eq-default (coloursOf p) 0 (omega (arith, length-colours p))
-
-pub other-colours : (c : ℕ) (p : List ℕ) (low high : ℕ) → OnlyColour c p (set (set p (2 * c) low) (2 * c + 1) high)
-other-colours c p low high n d =
-    split (ltb n 32)
-    (λ t.
-    let h : n < 32 = ltb-true n 32 t in
-    colours-at new n h
-    ∙ ap (λ (b : ℕ). colour b (at new (2 * n + 1))) (same (2 * n) (λ e. omega arith) (λ e. omega arith))
-    ∙ ap (λ (b : ℕ). colour (at p (2 * n)) b) (same (2 * n + 1) (λ e. omega arith) (λ e. omega arith))
-    ∙ sym (colours-at p n h))
-    (λ t.
-    let h : 32 ≤ n = ltb-false n 32 t in
-    past-colours new n h ∙ sym (past-colours p n h))
-  where
-    new : List ℕ
-    new = set (set p (2 * c) low) (2 * c + 1) high
-
-    same : (k : ℕ) → k ≢ 2 * c → k ≢ 2 * c + 1 → at new k ≡ at p k
-    same k a b = getD-set-other (set p (2 * c) low) (2 * c + 1) k high 0 b ∙ getD-set-other p (2 * c) k low 0 a
-
 -- ---- the first new row
 -- a row y has its line after L exactly when it is the first new one or below it
 module _ (a : RenderArea) (L y : ℕ) where
@@ -149,171 +129,146 @@ module _ (a : RenderArea) (L y : ℕ) where
       (λ t. let f = rw t at l in omega (arith, f))
       (λ t. omega (arith, ltb-false L (firstLine a + rows a) t))
 
--- ---- the split
-module _ {a : RenderArea} {r : Run a} {L : ℕ} {old new : List ℕ} (s : Split r L old new) (once : firstLine a + rows a ≤ jumpTo) where
+-- ---- the rows before a moment of a pass, and those after it
+module _ {M : Machine} (ok : Lawful M) {a : M .Area} {r : Run M a} {L : ℕ} (s : Moment r L) (once : firstLine (M .screen a) + rows (M .screen a) ≤ jumpTo) where
   -- where L is at the jump's end or after it, the pass began no later than its first row, and the rows have been drawn
-  far : (i n : ℕ) → i < pass r → lineSet r i ≡ n → firstLine a ≤ n → n < firstLine a + rows a → jumpTo ≤ L → i ≤ s .step
+  far : (i n : ℕ) → i < pass r → lineSet r i ≡ n → firstLine (M .screen a) ≤ n → n < firstLine (M .screen a) + rows (M .screen a) → jumpTo ≤ L → i ≤ s .step
   far i n h e f l j =
       let b : ℕ = lineSet r 0 in
-      let up : b ≤ firstLine a = ⊎-elim (λ o. o .0) (λ o. absurd (omega (arith, o .2))) (s .from-top) in
-      let k : i ≡ 0 + (n - b) = apart r 0 i b n (omega arith) h refl e (omega arith) (omega arith) (inl (omega arith)) in
+      let up : b ≤ firstLine (M .screen a) = ⊎-elim (λ o. o .0) (λ o. absurd (omega (arith, o .2))) (s .from-top) in
+      let k : i ≡ 0 + (n - b) = apart ok r 0 i b n (omega arith) h refl e (omega arith) (omega arith) (inl (omega arith)) in
       split (ltb (s .step) i)
       (λ t.
       let g : s .step < i = ltb-true (s .step) i t in
       let low : lineSet r (s .step) ≡ b + s .step =
-      subst (λ (m : ℕ). lineSet r m ≡ b + s .step) (zero-add (s .step)) (rising r 0 (s .step) (omega arith)) in
+      subst (λ (m : ℕ). lineSet r m ≡ b + s .step) (zero-add (s .step)) (rising ok r 0 (s .step) (omega arith)) in
       absurd (omega (arith, low, s .sets)))
       (λ t. ltb-false (s .step) i t)
 
   -- a row up to that of line L is drawn no later than the step that sets L, a row below it later
-  no-later : (i y : ℕ) → i < pass r → answer r i .row ≡ Drawn y → y < firstNew a L → i ≤ s .step
+  pub no-later : (i y : ℕ) → i < pass r → answer r i .row ≡ Drawn y → y < firstNew (M .screen a) L → i ≤ s .step
   no-later i y h e f =
-      let n : ℕ = y + firstLine a in
-      let w = row-set r i y e in
-      let l : n ≤ L = old-above a L y (w .1) f in
+      let n : ℕ = y + firstLine (M .screen a) in
+      let w = row-set ok r i y e in
+      let l : n ≤ L = old-above (M .screen a) L y (w .1) f in
       split (ltb L jumpTo)
       (λ t.
       let j : L < jumpTo = ltb-true L jumpTo t in
       let out : (lineSet r 0 ≤ n) ⊎ (L < lineSet r 0) = ⊎-elim (λ o. inl (omega (arith, o .0))) (λ o. inr (o .1)) (s .from-top) in
-      let k = apart r i (s .step) n L h (s .in-pass) (w .0) (s .sets) l j out in
+      let k = apart ok r i (s .step) n L h (s .in-pass) (w .0) (s .sets) l j out in
       omega (arith, k))
       (λ t. far i n h (w .0) (omega arith) (omega (arith, w .1)) (ltb-false L jumpTo t))
 
-  later : (i y : ℕ) → i < pass r → answer r i .row ≡ Drawn y → firstNew a L ≤ y → s .step < i
+  pub later : (i y : ℕ) → i < pass r → answer r i .row ≡ Drawn y → firstNew (M .screen a) L ≤ y → s .step < i
   later i y h e f =
-      let n : ℕ = y + firstLine a in
-      let w = row-set r i y e in
-      let l : L < n = new-below a L y (w .1) f in
+      let n : ℕ = y + firstLine (M .screen a) in
+      let w = row-set ok r i y e in
+      let l : L < n = new-below (M .screen a) L y (w .1) f in
       let out : (lineSet r 0 ≤ L) ⊎ (n < lineSet r 0) =
       ⊎-elim (λ o. inl (o .1)) (λ o. inr (omega (arith, o .0, w .1))) (s .from-top) in
-      let k = apart r (s .step) i L n (s .in-pass) h (s .sets) (w .0) (omega arith) (omega (arith, w .1)) out in
+      let k = apart ok r (s .step) i L n (s .in-pass) h (s .sets) (w .0) (omega arith) (omega (arith, w .1)) out in
       omega (arith, k)
 
+-- ---- the split
+module _ {M : Machine} (ok : Lawful M) {a : M .Area} {r : Run M a} {L : ℕ} {old new : List ℕ} (s : Split r L old new) (once : firstLine (M .screen a) + rows (M .screen a) ≤ jumpTo) where
+  -- row y by another palette
+  by : (i y : ℕ) {p q : List ℕ} → p ≡ q
+      → rowBytes (M .coloursOf p) (columns (M .screen a)) (pictureAt r i y) ≡ rowBytes (M .coloursOf q) (columns (M .screen a)) (pictureAt r i y)
+  by i y e = ap (λ (p : List ℕ). rowBytes (M .coloursOf p) (columns (M .screen a)) (pictureAt r i y)) e
+
   old-rows :
-      (i y : ℕ) → i < pass r → answer r i .row ≡ Drawn y → y < firstNew a L →
-      rowAtEnd r y ≡ rowBytes (coloursOf old) (columns a) (pictureAt r i y)
-  old-rows i y h e l = rw (s .until-then i (no-later i y h e l)) at (demand3 r once .row-bytes i y h e)
+      (i y : ℕ) → i < pass r → answer r i .row ≡ Drawn y → y < firstNew (M .screen a) L →
+      rowAtEnd r y ≡ rowBytes (M .coloursOf old) (columns (M .screen a)) (pictureAt r i y)
+  old-rows i y h e l = demand3 ok r once .row-bytes i y h e ∙ by i y (s .until-then i (no-later ok (s .moment) once i y h e l))
 
   new-rows :
-      (i y : ℕ) → i < pass r → answer r i .row ≡ Drawn y → firstNew a L ≤ y →
-      rowAtEnd r y ≡ rowBytes (coloursOf new) (columns a) (pictureAt r i y)
-  new-rows i y h e l = rw (s .from-then i (later i y h e l) h) at (demand3 r once .row-bytes i y h e)
+      (i y : ℕ) → i < pass r → answer r i .row ≡ Drawn y → firstNew (M .screen a) L ≤ y →
+      rowAtEnd r y ≡ rowBytes (M .coloursOf new) (columns (M .screen a)) (pictureAt r i y)
+  new-rows i y h e l = demand3 ok r once .row-bytes i y h e ∙ by i y (s .from-then i (later ok (s .moment) once i y h e l) h)
 
   pub colour-split : ColourSplit s
   colour-split =
       record {
-        reads = still r (s .step) ∙ s .sets;
-        drew = row-on r (s .step) ∙ ap (rowOn a) (sym (line-of r (s .step)) ∙ s .sets);
+        reads = still ok r (s .moment .step) ∙ s .moment .sets;
+        drew = row-on ok r (s .moment .step) ∙ ap (rowOn (M .screen a)) (sym (line-of ok r (s .moment .step)) ∙ s .moment .sets);
         keeps = old-rows;
         changes = new-rows;
       }
 
-  module _ (c : ℕ) (only : OnlyColour c old new) where
+  module _ (c : ℕ) (only : OnlyColour M c old new) where
     new-pixel :
-        (i x y : ℕ) → i < pass r → answer r i .row ≡ Drawn y → x < columns a → firstNew a L ≤ y →
-        pixelAtEnd r x y ≡ fourBytes (at (coloursOf new) (pictureAt r i y .colour x))
-    new-pixel i x y h e w l = ap (rowOf 4 x) (new-rows i y h e l) ∙ pixel (pictureAt r i y) (coloursOf new) (columns a) x w
+        (i x y : ℕ) → i < pass r → answer r i .row ≡ Drawn y → x < columns (M .screen a) → firstNew (M .screen a) L ≤ y →
+        pixelAtEnd r x y ≡ fourBytes (at (M .coloursOf new) (pictureAt r i y .colour x))
+    new-pixel i x y h e w l = ap (rowOf 4 x) (new-rows i y h e l) ∙ pixel (pictureAt r i y) (M .coloursOf new) (columns (M .screen a)) x w
 
     old-pixel :
-        (i x y : ℕ) → i < pass r → answer r i .row ≡ Drawn y → x < columns a → y < firstNew a L →
-        pixelAtEnd r x y ≡ fourBytes (at (coloursOf old) (pictureAt r i y .colour x))
-    old-pixel i x y h e w l = ap (rowOf 4 x) (old-rows i y h e l) ∙ pixel (pictureAt r i y) (coloursOf old) (columns a) x w
+        (i x y : ℕ) → i < pass r → answer r i .row ≡ Drawn y → x < columns (M .screen a) → y < firstNew (M .screen a) L →
+        pixelAtEnd r x y ≡ fourBytes (at (M .coloursOf old) (pictureAt r i y .colour x))
+    old-pixel i x y h e w l = ap (rowOf 4 x) (old-rows i y h e l) ∙ pixel (pictureAt r i y) (M .coloursOf old) (columns (M .screen a)) x w
 
     pub which-pixels : WhichPixels s c
     which-pixels =
         record {
-          these = λ i x y h e w l n. new-pixel i x y h e w l ∙ ap (λ (k : ℕ). fourBytes (at (coloursOf new) k)) n;
+          these = λ i x y h e w l n. new-pixel i x y h e w l ∙ ap (λ (k : ℕ). fourBytes (at (M .coloursOf new) k)) n;
           not-above = old-pixel;
           not-others = λ i x y h e w n.
-              split (ltb y (firstNew a L))
-              (λ t. old-pixel i x y h e w (ltb-true y (firstNew a L) t))
-              (λ t. new-pixel i x y h e w (ltb-false y (firstNew a L) t) ∙ ap fourBytes (only (pictureAt r i y .colour x) n));
+              split (ltb y (firstNew (M .screen a) L))
+              (λ t. old-pixel i x y h e w (ltb-true y (firstNew (M .screen a) L) t))
+              (λ t. new-pixel i x y h e w (ltb-false y (firstNew (M .screen a) L) t) ∙ ap fourBytes (only (pictureAt r i y .colour x) n));
         }
 
 -- ---- with the change and without it
-module _ {a : RenderArea} {r r₀ : Run a} (t : Twins r r₀) (once : firstLine a + rows a ≤ jumpTo) where
+module _ {M : Machine} (ok : Lawful M) {a : M .Area} {r r₀ : Run M a} (t : Twins r r₀) (once : firstLine (M .screen a) + rows (M .screen a) ≤ jumpTo) where
   -- both devices have the same table, and so passes of one length
   one-table : r .table ≡ r₀ .table
-  one-table = sym (table-at r 0) ∙ ap (λ (x : Raster). x .table) (t .start) ∙ table-at r₀ 0
+  one-table = sym (table-at ok r 0) ∙ ap (λ (x : Raster). x .table) (t .start) ∙ table-at ok r₀ 0
 
   in-both : (i : ℕ) → i < pass r → i < pass r₀
   in-both i h = subst (λ (u : LineTable). i < passLength u) one-table h
 
-  same-register : (i : ℕ) → i < pass r → register (ready r i) ≡ register (ready r₀ i)
+  same-register : (i : ℕ) → i < pass r → register M (ready r i) ≡ register M (ready r₀ i)
   same-register i h = ap (λ (g : List ℕ). at g) (t .registers i h)
 
-  same-raster : (i : ℕ) → i < pass r → ready r i .raster ≡ ready r₀ i .raster
+  same-raster : (i : ℕ) → i < pass r → M .raster (ready r i) ≡ M .raster (ready r₀ i)
   same-raster zero h = t .start
   same-raster (suc i) h =
       let h′ : i < pass r = omega arith in
-      raster-next r i ∙ rw (same-register i h′, same-raster i h′) (sym (raster-next r₀ i))
+      raster-next ok r i ∙ rw (same-register i h′, same-raster i h′) (sym (raster-next ok r₀ i))
 
   same-row : (i : ℕ) → i < pass r → answer r i .row ≡ answer r₀ i .row
-  same-row i h = row-on r i ∙ ap (λ (x : Raster). rowOn a (line x)) (same-raster i h) ∙ sym (row-on r₀ i)
+  same-row i h = row-on ok r i ∙ ap (λ (x : Raster). rowOn (M .screen a) (line x)) (same-raster i h) ∙ sym (row-on ok r₀ i)
 
-  same-scroll : (i : ℕ) → i < pass r → latched (r .table) (through r i) ≡ latched (r₀ .table) (through r₀ i)
+  same-scroll : (i : ℕ) → i < pass r → latched M (r .table) (through r i) ≡ latched M (r₀ .table) (through r₀ i)
   same-scroll i h =
-      sym (scroll-at r i)
-      ∙ ap (λ (g : List ℕ). advanced (at g) (ready r i .raster) .«vertical_scroll») (t .registers i h)
-      ∙ ap (λ (x : Raster). advanced (register (ready r₀ i)) x .«vertical_scroll») (same-raster i h)
-      ∙ scroll-at r₀ i
+      sym (scroll-at ok r i)
+      ∙ ap (λ (g : List ℕ). advanced (at g) (M .raster (ready r i)) .«vertical_scroll») (t .registers i h)
+      ∙ ap (λ (x : Raster). advanced (register M (ready r₀ i)) x .«vertical_scroll») (same-raster i h)
+      ∙ scroll-at ok r₀ i
 
   same-picture : (i y : ℕ) → i < pass r → pictureAt r i y ≡ pictureAt r₀ i y
   same-picture i y h = rw (same-scroll i h, t .registers i h, t .memory i h)
 
-  module _ {L : ℕ} {old new : List ℕ} (s : Split r L old new) (kept : (i : ℕ) → i < pass r → ready r₀ i .cram ≡ old) where
+  module _ {L : ℕ} {old new : List ℕ} (s : Split r L old new) (kept : (i : ℕ) → i < pass r → M .palette (ready r₀ i) ≡ old) where
     unchanged :
-        (i x y : ℕ) → i < pass r → answer r i .row ≡ Drawn y → x < columns a →
-        pixelAtEnd r₀ x y ≡ fourBytes (at (coloursOf old) (pictureAt r i y .colour x))
+        (i x y : ℕ) → i < pass r → answer r i .row ≡ Drawn y → x < columns (M .screen a) →
+        pixelAtEnd r₀ x y ≡ fourBytes (at (M .coloursOf old) (pictureAt r i y .colour x))
     unchanged i x y h e w =
-        let b = demand3 r₀ once .row-bytes i y (in-both i h) (sym (same-row i h) ∙ e) in
-        ap (rowOf 4 x) b
-        ∙ rw (kept i h, ← same-picture i y h) (pixel (pictureAt r i y) (coloursOf old) (columns a) x w)
+        let b = demand3 ok r₀ once .row-bytes i y (in-both i h) (sym (same-row i h) ∙ e) in
+        ap (rowOf 4 x)
+        (b
+        ∙ ap (λ (p : List ℕ). rowBytes (M .coloursOf p) (columns (M .screen a)) (pictureAt r₀ i y)) (kept i h)
+        ∙ ap (rowBytes (M .coloursOf old) (columns (M .screen a))) (sym (same-picture i y h)))
+        ∙ pixel (pictureAt r i y) (M .coloursOf old) (columns (M .screen a)) x w
 
-    pub changed : (c : ℕ) → OnlyColour c old new → Changed r r₀ L c old new
+    pub changed : (c : ℕ) → OnlyColour M c old new → Changed r r₀ L c old new
     changed c only =
-        let p = which-pixels s once c only in
+        let p = which-pixels ok s once c only in
         record {
           these = λ i x y h e w l n.
-              (p .these i x y h e w l n, unchanged i x y h e w ∙ ap (λ (k : ℕ). fourBytes (at (coloursOf old) k)) n);
+              (p .these i x y h e w l n, unchanged i x y h e w ∙ ap (λ (k : ℕ). fourBytes (at (M .coloursOf old) k)) n);
           no-others = λ i x y h e w n.
-              split (ltb y (firstNew a L))
-              (λ b. p .not-above i x y h e w (ltb-true y (firstNew a L) b))
-              (λ b. p .not-others i x y h e w (n (ltb-false y (firstNew a L) b)))
+              split (ltb y (firstNew (M .screen a) L))
+              (λ b. p .not-above i x y h e w (ltb-true y (firstNew (M .screen a) L) b))
+              (λ b. p .not-others i x y h e w (n (ltb-false y (firstNew (M .screen a) L) b)))
               ∙ sym (unchanged i x y h e w);
         }
-
--- ---- the visible area
-visible-once : firstLine VisibleOnly + rows VisibleOnly ≤ jumpTo
-visible-once = omega arith
-
-pub colour-split-visible : {r : Run VisibleOnly} {L : ℕ} {old new : List ℕ} (s : Split r L old new) → ColourSplit s
-colour-split-visible s = colour-split s visible-once
-
-pub changed-visible :
-    {r r₀ : Run VisibleOnly} {L : ℕ} {old new : List ℕ} → Twins r r₀ → Split r L old new → ((i : ℕ) → i < pass r → ready r₀ i .cram ≡ old) →
-    (c : ℕ) → OnlyColour c old new → Changed r r₀ L c old new
-changed-visible t s kept c only = changed t visible-once s kept c only
-
--- the same with true edges
-pub colour-split-edges : {r : Run TrueEdges} {L : ℕ} {old new : List ℕ} (s : Split r L old new) → ColourSplit s
-colour-split-edges s = colour-split s visible-once
-
-pub changed-edges :
-    {r r₀ : Run TrueEdges} {L : ℕ} {old new : List ℕ} → Twins r r₀ → Split r L old new → ((i : ℕ) → i < pass r → ready r₀ i .cram ≡ old) →
-    (c : ℕ) → OnlyColour c old new → Changed r r₀ L c old new
-changed-edges t s kept c only = changed t visible-once s kept c only
-
--- the author's own line
-pub ninety : {r : Run VisibleOnly} {old new : List ℕ} (s : Split r 90 old new) → Ninety s
-ninety {r} s =
-    let c = colour-split-visible s in
-    let out : (lineSet r 0 ≤ 90) ⊎ (91 < lineSet r 0) = ⊎-elim (λ o. inl (o .1)) (λ o. inr (omega (arith, o .0))) (s .from-top) in
-    let on : s .step + 1 < pass r = goes-on r (s .step) 90 91 (s .in-pass) (s .sets) (omega arith) (omega arith) out in
-    let n : suc (s .step) < pass r = omega arith in
-    let next : lineSet r (suc (s .step)) ≡ 91 =
-    line-of r (suc (s .step)) ∙ line-next (ready r (suc (s .step)) .raster) 90 (c .reads) (omega arith) in
-    record {
-      row-66 = c .keeps (s .step) 66 (s .in-pass) (set-row r (s .step) 66 (omega arith) (s .sets)) (omega arith);
-      row-67 = c .changes (suc (s .step)) 67 n (set-row r (suc (s .step)) 67 (omega arith) next) (omega arith);
-    }

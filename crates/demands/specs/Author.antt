@@ -15,22 +15,23 @@ use Rattle.vdp.specs.declared.VdpState.{VdpState}
 use Rattle.vdp.specs.declared.Refusal.the-variants.{Accepted}
 use Rattle.vdp.specs.Device.{made}
 use Rattle.step.specs.Step.{frameStep}
-use Rattle.demands.specs.Pass.{out, Between, Run}
+use Rattle.demands.specs.Handheld.{out, handheld}
+use Rattle.demands.specs.Pass.{Between, Run}
 use Rattle.demands.specs.Split.{Split, Changed}
 
 -- a port write between two steps
-abbrev pub write : ℕ → ℕ → List ℕ → Between
+abbrev pub write : ℕ → ℕ → List ℕ → Between handheld
 write port value vram = record { call = out port value vram; no-step = λ d s e. e }
 
 -- BF 06, BF C0, and the two bytes of colour 3
-abbrev pub recolour : ℕ → ℕ → List ℕ → List Between
+abbrev pub recolour : ℕ → ℕ → List ℕ → List (Between handheld)
 recolour low high vram = write 0xBF 0x06 vram ∷ write 0xBF 0xC0 vram ∷ write 0xBE low vram ∷ write 0xBE high vram ∷ []
 
 module _
     (t : LineTable) (vram : ℕ → List ℕ) (frame : List ℕ) (accepted : (i : ℕ) (d : VdpState) → frameStep VisibleOnly (vram i) (length frame) d .refusal ≡ Accepted) (low high : ℕ)
   where
     -- step 0 sets line 1, so that step 89 sets line 90, and the writes come before step 90
-    abbrev pub asked : Run VisibleOnly
+    abbrev pub asked : Run handheld VisibleOnly
     asked =
         record {
           table = t;
@@ -42,7 +43,7 @@ module _
         }
 
     -- the same without the writes
-    abbrev pub unasked : Run VisibleOnly
+    abbrev pub unasked : Run handheld VisibleOnly
     unasked = record { table = t; before = []; between = λ i. []; vram = vram; frame = frame; accepted = accepted }
 
     abbrev pub newPalette : List ℕ

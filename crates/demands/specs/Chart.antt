@@ -10,8 +10,9 @@ use Rattle.raster.specs.declared.LineTable.the-variants.{Steps261, Steps262}
 use Rattle.raster.specs.Raster.{passLength, jumps, starts, advanced, counted}
 use Rattle.vdp.specs.declared.VdpState.{VdpState}
 use Rattle.vdp.specs.Device.{made}
-use Rattle.vdp.specs.Ports.{portRead}
-use Rattle.step.specs.Step.{rowOn, drawnBy, endScreen, stepped}
+use Rattle.vdp.specs.Ports.{frontRead, portRead}
+use Rattle.step.specs.Points.{rowOn, bitsOf, endedBy, pointsOf}
+use Rattle.step.specs.Step.{stepped}
 use Rattle.demands.specs.Examples.{zeroed}
 
 -- what port 7E reads on device d and after each of the next n steps
@@ -30,5 +31,5 @@ chart t = readings (passLength t) (made t)
 pub charted :
     (chart Steps261 ≡ lines 0x00 0xD9 ++ lines 0xD5 0xFF ++ lines 0x00 0x00)
     × (chart Steps262 ≡ lines 0x00 0xDA ++ lines 0xD5 0xFF ++ lines 0x00 0x00)
-unfolding readings table tableFrom portRead jumps starts advanced counted rowOn drawnBy endScreen stepped
+unfolding readings table tableFrom portRead frontRead jumps starts advanced counted rowOn bitsOf endedBy pointsOf stepped
 charted = (refl, refl)

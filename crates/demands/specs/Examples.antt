@@ -21,9 +21,10 @@ use Rattle.raster.specs.Raster.{passLength, jumps, starts, advanced, lineInterr
 use Rattle.vdp.specs.declared.VdpState.{VdpState}
 use Rattle.vdp.specs.Device.{made, fresh}
 use Rattle.vdp.specs.Refusals.{refusalNumber}
-use Rattle.vdp.specs.Ports.{portWrite, portRead}
+use Rattle.vdp.specs.Ports.{frontWrite, frontRead, portWrite, portRead}
 use Rattle.vdp.specs.Calls.{Call, write, read, Answer, w, r, after, answer, afterAll, answers, start}
-use Rattle.step.specs.Step.{interruptNumber, lineOf, rowOn, drawnBy, endScreen, reportOf, interruptOf, stepped, stepWith, frameStep}
+use Rattle.step.specs.Points.{rowOn, bitsOf, endedBy, reportBy, interruptBy, pointsOf}
+use Rattle.step.specs.Step.{interruptNumber, lineOf, stepped, stepWith, frameStep}
 use Rattle.demands.specs.Split.{fourBytes}
 
 -- ---- port calls on a fresh device with zeroed memory: the bytes that they read, and the numbers of their refusals
@@ -122,5 +123,5 @@ pub table :
     ∷ (2 ∷ 6 ∷ 10 ∷ [])
     ∷ (9 ∷ 0 ∷ [])
     ∷ []
-unfolding examples stepsOn interruptLines portWrite portRead after answer answers afterAll start colour coloursOf tableFrom tableOf jumps starts advanced lineInterrupt counted bit rowOn drawnBy endScreen reportOf interruptOf stepped stepWith visibleEnd visibleSeen visibleStand solid heldBack marked struck drawn laid bare any
+unfolding examples stepsOn interruptLines portWrite portRead frontWrite frontRead after answer answers afterAll start colour coloursOf tableFrom tableOf jumps starts advanced lineInterrupt counted bit rowOn bitsOf endedBy reportBy interruptBy pointsOf stepped stepWith visibleEnd visibleSeen visibleStand solid heldBack marked struck drawn laid bare any
 table = refl

@@ -17,11 +17,12 @@ use Rattle.raster.specs.declared.LineTable.the-variants.{Steps261, Steps262}
 use Rattle.raster.specs.Raster.{passLength, jumps, starts, advanced, lineInterrupt, counted}
 use Rattle.vdp.specs.declared.VdpState.{VdpState}
 use Rattle.vdp.specs.Device.{made}
-use Rattle.vdp.specs.Ports.{portWrite}
+use Rattle.vdp.specs.Ports.{frontWrite, portWrite}
 use Rattle.vdp.specs.Calls.{write, after, afterAll, start}
 use Rattle.step.specs.declared.DrawnRow.{DrawnRow}
 use Rattle.step.specs.declared.DrawnRow.the-variants.{NoRow, Drawn}
-use Rattle.step.specs.Step.{rowOn, drawnBy, endScreen, interruptOf, stepped}
+use Rattle.step.specs.Points.{rowOn, bitsOf, endedBy, interruptBy, pointsOf}
+use Rattle.step.specs.Step.{stepped}
 use Rattle.demands.specs.Split.{firstNew}
 use Rattle.demands.specs.Examples.{zeroed, stepsOn, interruptLines, every, beforeLine0}
 
@@ -109,5 +110,5 @@ found steps up =
     ∷ []
 
 pub computed : (further Steps261 ≡ found 261 217) × (further Steps262 ≡ found 262 218)
-unfolding further stepsOn interruptLines rowsBy portWrite after afterAll start colour coloursOf tableFrom table jumps starts advanced lineInterrupt counted bit rowOn drawnBy endScreen interruptOf stepped
+unfolding further stepsOn interruptLines rowsBy portWrite frontWrite after afterAll start colour coloursOf tableFrom table jumps starts advanced lineInterrupt counted bit rowOn bitsOf endedBy interruptBy pointsOf stepped
 computed = (refl, refl)

@@ -17,8 +17,9 @@ use Rattle.picture.specs.Layers.{stopped, layers}
 use Rattle.vdp.specs.declared.VdpState.{VdpState}
 use Rattle.vdp.specs.declared.Refusal.the-variants.{Accepted, LayerLength}
 use Rattle.vdp.specs.Refusals.{Line, first, under}
-use Rattle.step.specs.Step.{lineOf, counterUp, rowOn, rowLines, frameLines, stepWith, rowStep, frameStep}
-use Rattle.step.specs.Frame.{rowWith, frameWith, rowAfter, frameAfter}
+use Rattle.step.specs.Step.{rowLines, frameLines, readingOf, stepWith, rowStep, frameStep}
+use Rattle.step.specs.Bytes.{rowFilled, frameFilled}
+use Rattle.step.specs.Frame.{rowAfter, frameAfter}
 use Rattle.step.specs.Layers.{alsoLayers, layersAfter}
 
 -- ---- one column
@@ -69,12 +70,12 @@ pub record Aside (a : RenderArea) (vram : List ℕ) (d : VdpState) (pixels layer
   pub row-answer : columns a ≤ length layers
       → stepWith (alsoLayers (columns a) (length layers) (rowLines a vram (length pixels))) a vram d ≡ rowStep a vram (length pixels) d
   pub row-pixels : columns a ≤ length layers
-      → under (alsoLayers (columns a) (length layers) (rowLines a vram (length pixels))) (λ r. pixels) (rowWith (rowOn a (lineOf (counterUp d))) a vram (counterUp d) pixels)
+      → under (alsoLayers (columns a) (length layers) (rowLines a vram (length pixels))) (λ r. pixels) (rowFilled a vram (readingOf d) pixels)
       ≡ rowAfter a vram d pixels
   pub frame-answer : columns a ≤ length layers
       → stepWith (alsoLayers (columns a) (length layers) (frameLines a vram (length pixels))) a vram d ≡ frameStep a vram (length pixels) d
   pub frame-pixels : columns a ≤ length layers
-      → under (alsoLayers (columns a) (length layers) (frameLines a vram (length pixels))) (λ r. pixels) (frameWith (rowOn a (lineOf (counterUp d))) a vram (counterUp d) pixels)
+      → under (alsoLayers (columns a) (length layers) (frameLines a vram (length pixels))) (λ r. pixels) (frameFilled a vram (readingOf d) pixels)
       ≡ frameAfter a vram d pixels
   -- without room it is refused: by 16 exactly where the step without layers is accepted, else as that one is
   pub row-short : length layers < columns a → first (rowLines a vram (length pixels)) ≡ Accepted

@@ -1,10 +1,13 @@
 -- The demands, as statements.
+pub mod Machine
+pub mod Handheld
 pub mod Pass
 pub mod Rows
 pub mod Interrupts
 pub mod Always
 pub mod Seven
 pub mod Split
+pub mod Shows
 pub mod Author
 pub mod Layers
 pub mod Outcome

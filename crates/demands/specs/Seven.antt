@@ -6,18 +6,19 @@ use mathlib.Core.Logic.{_≢_}
 use mathlib.Core.Bool.{true, false}
 use mathlib.Core.List.{List, [], _∷_}
 use Prim.Native.Nat.{ℕ, _≤_, _<_}
-use Rattle.colour.specs.Colour.{coloursOf}
 use Rattle.raster.specs.declared.LineTable.{LineTable}
 use Rattle.raster.specs.declared.LineTable.the-variants.{Steps261, Steps262}
 use Rattle.vdp.specs.Refusals.{refusalNumber}
 use Rattle.block.specs.Block.{stateOf}
 use Rattle.face.specs.Face.{Called, newTableCall, newCall, outCall, inputCall, stepCall, rowStepCall, dumpCall}
-use Rattle.face.specs.Layers.{layerCall, rowTable, rowFilled, frameTable, frameFilled}
+use Rattle.face.specs.Layers.{layerCall, rowTable, rowFills, frameTable, frameFills}
 use Rattle.face.specs.Pixel.{pixelCall}
 use Rattle.face.specs.Repair.{repairCall}
 use Rattle.face.specs.Tiles.{writeTileCall, readTileCall}
 use Rattle.face.specs.Refused.{refusalIn}
-use Rattle.demands.specs.Pass.{Call, refusalOf, History, deviceAfter}
+use Rattle.demands.specs.Machine.{Machine}
+use Rattle.demands.specs.Handheld.{handheld}
+use Rattle.demands.specs.Pass.{History, deviceAfter}
 
 -- ---- a device
 -- the highest value of the counter before its jump
@@ -26,14 +27,14 @@ highest Steps261 = 0xD9
 highest Steps262 = 0xDA
 
 -- After any calls `h` on a device that was made with table t (so of every call on the way, too: it is the next one after those before it):
-pub record NeverSeven (t : LineTable) (h : History) : Type 0 where
+pub record NeverSeven (M : Machine) (t : LineTable) (h : History M) : Type 0 where
   -- whatever is called next is not refused by 7
-  pub no-seven : (c : Call) → refusalNumber (refusalOf c (deviceAfter t h)) ≢ 7
+  pub no-seven : (c : M .Call) → refusalNumber (M .refusalOf c (deviceAfter M t h)) ≢ 7
   -- the cached colours are those of the current palette whenever the record is not dirty
-  pub clean : deviceAfter t h .«cram_dirty» ≡ false → deviceAfter t h .«color_cache» ≡ coloursOf (deviceAfter t h .cram)
+  pub clean : M .dirty (deviceAfter M t h) ≡ false → M .cache (deviceAfter M t h) ≡ M .coloursOf (M .palette (deviceAfter M t h))
   -- the counter is at most D9 before its jump (table 1: DA), and at least D5 after
-  pub before-jump : deviceAfter t h .raster .«v_counter_jumped» ≡ false → deviceAfter t h .raster .«v_counter» ≤ highest t
-  pub after-jump : deviceAfter t h .raster .«v_counter_jumped» ≡ true → 0xD5 ≤ deviceAfter t h .raster .«v_counter»
+  pub before-jump : M .raster (deviceAfter M t h) .«v_counter_jumped» ≡ false → M .raster (deviceAfter M t h) .«v_counter» ≤ highest t
+  pub after-jump : M .raster (deviceAfter M t h) .«v_counter_jumped» ≡ true → 0xD5 ≤ M .raster (deviceAfter M t h) .«v_counter»
 
 -- ---- the C face
 -- A call of the face on one state block, with its other arguments. Buffers are the bytes that they hold at the call, and a port write's value is a byte.
@@ -67,8 +68,8 @@ called (vdp-out m p v byte) b = outCall b m p v
 called (vdp-input m p) b = inputCall b m p
 called (vdp-step m frame n) b = stepCall b m frame n
 called (vdp-row-step m row n) b = rowStepCall b m row n
-called (vdp-layer-step m frame layers n) b = layerCall (frameTable m frame) (frameFilled m frame) b m frame layers n
-called (vdp-layer-row-step m row layers n) b = layerCall (rowTable m row) (rowFilled m row) b m row layers n
+called (vdp-layer-step m frame layers n) b = layerCall (frameTable m frame) (frameFills m frame) b m frame layers n
+called (vdp-layer-row-step m row layers n) b = layerCall (rowTable m row) (rowFills m row) b m row layers n
 called (vdp-dump-tileset m pixels) b = dumpCall b m pixels
 called (vdp-pixel m n y x) b = record { word = pixelCall b m n y x; block = b; lent = [] }
 called (vdp-repair list) b = repairCall b list
@@ -91,5 +92,5 @@ pub record FaceNeverSeven (b : List ℕ) (h : List FaceCall) : Type 0 where
   pub no-seven : (c : FaceCall) → refusalIn (called c (blockAfter b h) .word) ≢ 7
   -- the device in the block is one that was made fresh, after calls on it: all that `NeverSeven` says holds of it
   pub table : LineTable
-  pub calls : History
-  pub device : stateOf (blockAfter b h) ≡ deviceAfter table calls
+  pub calls : History handheld
+  pub device : stateOf (blockAfter b h) ≡ deviceAfter handheld table calls

@@ -18,7 +18,7 @@ use Rattle.vdp.specs.declared.VdpState.{VdpState}
 use Rattle.vdp.specs.declared.Refusal.{Refusal}
 use Rattle.vdp.specs.declared.Refusal.the-variants.{Accepted, UnknownPort, HorizontalCounter, HighRegister, NothingChosen, PaletteRead, NoPaletteByte, OutsideMemory, VramLength, PixelLength, BlockMalformed, UnknownArea, FrameTooLong, UnknownTile, CodesLength, HighCode, LayerLength, ListLength, RecordRoom}
 use Rattle.vdp.specs.Device.{unlatched}
-use Rattle.vdp.specs.Refusals.{refusalNumber, leftBehind, Line, under, whole}
+use Rattle.vdp.specs.Refusals.{refusalNumber, deviceLeft, Line, under, whole}
 use Rattle.vdp.specs.Ports.{portWrite, portRead}
 use Rattle.vdp.proofs.Behind.{write-behind, read-behind}
 use Rattle.block.specs.Block.{fits, wellFormed, stateOf, head, small, last, colourBytes, blockOf}
@@ -58,8 +58,7 @@ not-accepted r e h q = h (e ∙ ap refusalNumber q)
 
 -- an accepted step has refusal 0 in its word
 all-well : (a : RenderArea) (m : List ℕ) (s : VdpState) → refusalIn (stepWord (stepped a m s)) ≡ 0
-unfolding stepped
-all-well a m s = step-byte (stepped a m s)
+all-well a m s = step-byte (stepped a m s) ∙ ap refusalNumber (Steps.stepped-refusal a m s)
 
 module _ (b : List ℕ) (bytes : (i : ℕ) → at b i < 256) where
   registers : wellFormed b ≡ true → length (stateOf b .reg) ≡ 11
@@ -70,7 +69,7 @@ module _ (b : List ℕ) (bytes : (i : ℕ) → at b i < 256) where
   emptied w = unlatched-block (length b) (stateOf b) (registers w) ∙ ap (λ (l : List ℕ). set (set l 21 0) 22 0) (block-back b w bytes)
 
   -- R2.2 of a device and of its block
-  behind : wellFormed b ≡ true → (r : Refusal) → blockOf (length b) (leftBehind r (stateOf b)) ≡ blockLeft (refusalNumber r) b
+  behind : wellFormed b ≡ true → (r : Refusal) → blockOf (length b) (deviceLeft r (stateOf b)) ≡ blockLeft (refusalNumber r) b
   behind w HighRegister = emptied w
   behind w NothingChosen = emptied w
   behind w PaletteRead = emptied w
@@ -91,7 +90,7 @@ module _ (b : List ℕ) (bytes : (i : ℕ) → at b i < 256) where
   behind w ListLength = block-back b w bytes
   behind w RecordRoom = block-back b w bytes
 
-  pub left-by : wellFormed b ≡ true → (r : Refusal) {n : ℕ} → n ≡ refusalNumber r → blockOf (length b) (leftBehind r (stateOf b)) ≡ blockLeft n b
+  pub left-by : wellFormed b ≡ true → (r : Refusal) {n : ℕ} → n ≡ refusalNumber r → blockOf (length b) (deviceLeft r (stateOf b)) ≡ blockLeft n b
   left-by w r e = behind w r ∙ ap (λ (n : ℕ). blockLeft n b) (sym e)
 
   -- refused before the device is asked: all unchanged

@@ -26,17 +26,18 @@ use Rattle.block.proofs.RoundTrip.{block-back}
 use Rattle.block.proofs.Stores.{sized-state}
 use Rattle.step.specs.declared.Stepped.{Stepped}
 use Rattle.step.specs.declared.Points.{Points}
-use Rattle.step.specs.Points.{Reads, cleaned, joined}
-use Rattle.step.specs.Step.{coloursNow, rowLines, frameLines, stepWith}
+use Rattle.step.specs.Points.{Reading}
+use Rattle.step.specs.Bytes.{RowPointsLeave, FramePointsLeave, RowLayerPointsLeave, FrameLayerPointsLeave}
+use Rattle.step.specs.Step.{coloursNow, rowLines, frameLines, readingOf, cleaned, joined, stepWith}
 use Rattle.step.specs.Layers.{LayersLeave}
 use Rattle.step.proofs.Laws.{step-table}
+use Rattle.step.proofs.Steps.{row-joined, frame-joined, row-layers-joined, frame-layers-joined}
 use Rattle.step.proofs.Kept.{write-keeps, read-keeps}
 use Rattle.step.specs.declared.DrawnRow.{DrawnRow}
 use Rattle.step.specs.declared.DrawnRow.the-variants.{NoRow, Drawn}
 use Rattle.step.specs.Dump.{DumpLeaves}
-use Rattle.step.specs.Frame.{RowStepLeaves, FrameStepLeaves}
 use Rattle.picture.specs.Area.{areaFrom, columns}
-use Rattle.face.specs.Layers.{layerLines, layerOn, layerCall, layersLeft, LayerLeaves}
+use Rattle.face.specs.Layers.{layerLines, layerOn, layerCall, layersLeft, LayerLeaves, LayerRowLeaves, LayerFrameLeaves}
 use Rattle.face.specs.Face.{Called, Leaves, stepWord, onBlock, onArea, newTableCall, outOn, outCall, inputOn, inputCall, steppedTo, stepOn, stepCall, rowStepOn, rowStepCall, dumpOn, dumpCall}
 
 -- what is left, by a path from it to what the definition says
@@ -170,9 +171,9 @@ module _ (b m x : List ℕ) (n : ℕ) where
 
   -- a step, by what its points answer and leave, the block that they are stored in, and their word
   module _
-      {a : RenderArea} {points : Points} {reg : List ℕ} {raster : Raster} {status : ℕ} {colours b′ x′ : List ℕ} {r : ℕ}
-      (bytes : (i : ℕ) → at b i < 256) (w : wellFormed b ≡ true) (h : n ≤ 2) (ea : a ≡ areaFrom n) (g : Reads (stateOf b) reg raster status colours)
-      (es : (k : ℕ) (s : VdpState) → Sized s → points .raster .table ≡ s .raster .table → colours ≡ coloursNow s → b ≡ blockOf k s → b′ ≡ blockOf k (joined s points .vdp))
+      {a : RenderArea} {points : Points} {k : Reading} {b′ x′ : List ℕ} {r : ℕ}
+      (bytes : (i : ℕ) → at b i < 256) (w : wellFormed b ≡ true) (h : n ≤ 2) (ea : a ≡ areaFrom n) (g : k ≡ readingOf (stateOf b))
+      (es : (j : ℕ) (s : VdpState) → Sized s → points .raster .table ≡ s .raster .table → k .colours ≡ coloursNow s → b ≡ blockOf j s → b′ ≡ blockOf j (joined s points .vdp))
       (er : (d : VdpState) → r ≡ stepWord (joined d points))
     where
       stored :
@@ -183,30 +184,35 @@ module _ (b m x : List ℕ) (n : ℕ) where
           (record {
             word = er (stateOf b) ∙ ap stepWord e;
             block =
-                es (length b) (stateOf b) (sized-state b (long b w)) (ap (λ (s : Stepped). s .vdp .raster .table) e ∙ step-table ls a m (stateOf b)) (g .cache) (sym (block-back b w bytes))
+                es (length b) (stateOf b) (sized-state b (long b w)) (ap (λ (s : Stepped). s .vdp .raster .table) e ∙ step-table ls a m (stateOf b)) (ap (λ (q : Reading). q .colours) g) (sym (block-back b w bytes))
                 ∙ ap (λ (s : Stepped). blockOf (length b) (s .vdp)) e;
             lent = ey;
           })
 
-      pub step-kept : ((d : VdpState) → Reads d reg raster status colours → FrameStepLeaves a m d x (joined d points) x′) → Leaves (stepCall b m x n) r b′ x′
+      pub step-kept : FramePointsLeave a m k x points x′ → Leaves (stepCall b m x n) r b′ x′
       unfolding stepCall
-      step-kept l = let k = l (stateOf b) g in stored (stepOn m x (length b)) (frameLines a m (length x)) refl (k .answer) (k .bytes)
+      step-kept l = let q = frame-joined a m (stateOf b) g refl x l in stored (stepOn m x (length b)) (frameLines a m (length x)) refl (q .answer) (q .bytes)
 
-      pub row-kept : ((d : VdpState) → Reads d reg raster status colours → RowStepLeaves a m d x (joined d points) x′) → Leaves (rowStepCall b m x n) r b′ x′
+      pub row-kept : RowPointsLeave a m k x points x′ → Leaves (rowStepCall b m x n) r b′ x′
       unfolding rowStepCall
-      row-kept l = let k = l (stateOf b) g in stored (rowStepOn m x (length b)) (rowLines a m (length x)) refl (k .answer) (k .bytes)
+      row-kept l = let q = row-joined a m (stateOf b) g refl x l in stored (rowStepOn m x (length b)) (rowLines a m (length x)) refl (q .answer) (q .bytes)
 
-      pub layer-kept :
+      layer-kept :
           (lines : RenderArea → List Line) (filled : VdpState → RenderArea → List ℕ) (layers : List ℕ) {layers′ : List ℕ}
-          → ((d : VdpState) → Reads d reg raster status colours → LayersLeave (columns a) (lines a) a m d x (filled d a) layers (joined d points) x′ layers′)
+          → LayersLeave (columns a) (lines a) a m (stateOf b) x (filled (stateOf b) a) layers (joined (stateOf b) points) x′ layers′
           → LayerLeaves lines filled b m x layers n r b′ x′ layers′
       unfolding layerCall layersLeft
       layer-kept lines filled layers l =
-          let k = l (stateOf b) g in
           record {
-            call = stored (layerOn lines filled m x layers (length b)) (layerLines lines layers a) refl (k .answer) (k .bytes);
-            owners = k .owners ∙ rw (w, le-leb n 2 h, ea);
+            call = stored (layerOn lines filled m x layers (length b)) (layerLines lines layers a) refl (l .answer) (l .bytes);
+            owners = l .owners ∙ rw (w, le-leb n 2 h, ea);
           }
+
+      pub layer-row-kept : (layers : List ℕ) {layers′ : List ℕ} → RowLayerPointsLeave a m k x layers points x′ layers′ → LayerRowLeaves b m x layers n r b′ x′ layers′
+      layer-row-kept layers l = layer-kept _ _ layers (row-layers-joined a m (stateOf b) g refl x layers l)
+
+      pub layer-frame-kept : (layers : List ℕ) {layers′ : List ℕ} → FrameLayerPointsLeave a m k x layers points x′ layers′ → LayerFrameLeaves b m x layers n r b′ x′ layers′
+      layer-frame-kept layers l = layer-kept _ _ layers (frame-layers-joined a m (stateOf b) g refl x layers l)
 
 -- a step's colours keep the sizes
 pub cleaned-sized : (r : DrawnRow) (s : VdpState) (colours : List ℕ) → Sized s → Sized (cleaned r s colours)

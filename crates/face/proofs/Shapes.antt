@@ -19,7 +19,8 @@ use Rattle.block.proofs.Shapes.{carried}
 use Rattle.step.specs.declared.DrawnRow.{DrawnRow}
 use Rattle.step.specs.declared.DrawnRow.the-variants.{NoRow, Drawn}
 use Rattle.step.specs.declared.Stepped.{Stepped}
-use Rattle.step.specs.Step.{lineOf, counterUp, rowOn, coloursNow, drawnBy, rowDrawn, endScreen, stepped, refusedStep, stepWith}
+use Rattle.step.specs.Points.{pointsOf}
+use Rattle.step.specs.Step.{coloursNow, readingOf, cleaned, stepped, refusedStep, stepWith}
 
 -- a colour of two bytes fits 32 bits
 colour-low : (a b : ℕ) → a < 256 → colour a b < 4294967296
@@ -44,20 +45,15 @@ coloured d g =
     (λ _. record { size = length-colours (d .cram); low = colours-low (d .cram) (g .byte) })
     (λ _. record { size = g .cache; low = g .colour })
 
-drawn-shape : (r : DrawnRow) (a : RenderArea) (m : List ℕ) (d : VdpState) → Shape d → Shape (drawnBy r a m d)
-unfolding drawnBy
-drawn-shape NoRow a m d g = g
-drawn-shape (Drawn y) a m d g =
+cleaned-shape : (r : DrawnRow) (d : VdpState) → Shape d → Shape (cleaned r d (coloursNow d))
+cleaned-shape NoRow d g = g
+cleaned-shape (Drawn y) d g =
     let c = coloured d g in
     record { registers = g .registers; palette = g .palette; cache = c .size; byte = g .byte; latched = g .latched; colour = c .low }
 
-ended-shape : (d : VdpState) → Shape d → Shape (endScreen d)
-unfolding endScreen
-ended-shape d g = carried g _ _ _ _ _ _ _
-
 pub step-shape : (a : RenderArea) (m : List ℕ) (d : VdpState) → Shape d → Shape (stepped a m d .vdp)
 unfolding stepped
-step-shape a m d g = carried (ended-shape (rowDrawn a m (counterUp d)) (drawn-shape (rowOn a (lineOf (counterUp d))) a m (counterUp d) (carried g _ _ _ _ _ _ _))) _ _ _ _ _ _ _
+step-shape a m d g = carried (cleaned-shape (pointsOf a m (readingOf d) .row) d g) _ _ _ _ _ _ _
 
 abbrev ShapeS : Stepped → Type 0
 ShapeS s = Shape (s .vdp)

@@ -11,8 +11,8 @@ use Rattle.picture.specs.Area.{areaFrom, columns}
 use Rattle.vdp.specs.declared.VdpState.{VdpState}
 use Rattle.vdp.specs.Refusals.{Line, under}
 use Rattle.block.specs.Block.{wellFormed, stateOf}
-use Rattle.step.specs.Step.{lineOf, counterUp, rowOn, rowLines, frameLines, stepWith}
-use Rattle.step.specs.Frame.{rowWith, frameWith}
+use Rattle.step.specs.Step.{rowLines, frameLines, readingOf, stepWith}
+use Rattle.step.specs.Bytes.{rowFilled, frameFilled}
 use Rattle.step.specs.Layers.{alsoLayers, layersAfter}
 use Rattle.face.specs.Face.{Called, onBlock, onArea, steppedTo, Leaves}
 
@@ -42,17 +42,17 @@ pub record LayerLeaves (lines : RenderArea → List Line) (filled : VdpState →
 abbrev pub rowTable : List ℕ → List ℕ → RenderArea → List Line
 rowTable m row a = rowLines a m (length row)
 
-abbrev pub rowFilled : List ℕ → List ℕ → VdpState → RenderArea → List ℕ
-rowFilled m row s a = rowWith (rowOn a (lineOf (counterUp s))) a m (counterUp s) row
+abbrev pub rowFills : List ℕ → List ℕ → VdpState → RenderArea → List ℕ
+rowFills m row s a = rowFilled a m (readingOf s) row
 
 abbrev pub frameTable : List ℕ → List ℕ → RenderArea → List Line
 frameTable m frame a = frameLines a m (length frame)
 
-abbrev pub frameFilled : List ℕ → List ℕ → VdpState → RenderArea → List ℕ
-frameFilled m frame s a = frameWith (rowOn a (lineOf (counterUp s))) a m (counterUp s) frame
+abbrev pub frameFills : List ℕ → List ℕ → VdpState → RenderArea → List ℕ
+frameFills m frame s a = frameFilled a m (readingOf s) frame
 
 abbrev pub LayerRowLeaves : List ℕ → List ℕ → List ℕ → List ℕ → ℕ → ℕ → List ℕ → List ℕ → List ℕ → Type 0
-LayerRowLeaves b m row layers n r b′ row′ layers′ = LayerLeaves (rowTable m row) (rowFilled m row) b m row layers n r b′ row′ layers′
+LayerRowLeaves b m row layers n r b′ row′ layers′ = LayerLeaves (rowTable m row) (rowFills m row) b m row layers n r b′ row′ layers′
 
 abbrev pub LayerFrameLeaves : List ℕ → List ℕ → List ℕ → List ℕ → ℕ → ℕ → List ℕ → List ℕ → List ℕ → Type 0
-LayerFrameLeaves b m frame layers n r b′ frame′ layers′ = LayerLeaves (frameTable m frame) (frameFilled m frame) b m frame layers n r b′ frame′ layers′
+LayerFrameLeaves b m frame layers n r b′ frame′ layers′ = LayerLeaves (frameTable m frame) (frameFills m frame) b m frame layers n r b′ frame′ layers′

@@ -5,21 +5,18 @@ use mathlib.Core.Path.{_≡_, refl, sym, ap, _∙_}
 use mathlib.Core.List.{List, [], _++_}
 use Prim.Native.Nat.{ℕ, zero, suc, _+_, _*_, _≤_}
 use native.Mathlib.Omega.{arith}
-use lib.Dec.{ltb}
-use lib.ListN.{length, length-set}
+use lib.ListN.{length}
 use Rattle.laws.proofs.Paint.{length-painted}
-use Rattle.laws.proofs.Tests.{either}
 use Rattle.picture.specs.declared.RenderArea.{RenderArea}
 use Rattle.picture.specs.declared.RenderArea.the-variants.{VisibleOnly, EffectiveArea, TrueEdges}
 use Rattle.picture.specs.Area.{rowSize, frameSize}
 use Rattle.vdp.specs.declared.VdpState.{VdpState}
 use Rattle.vdp.specs.declared.ReadBack.{ReadBack}
-use Rattle.vdp.specs.declared.WriteDest.{WriteDest}
-use Rattle.vdp.specs.declared.WriteDest.the-variants.{None, Vram, Cram}
-use Rattle.vdp.specs.Refusals.{Line, whole, isPort}
+use Rattle.vdp.specs.Refusals.{Line}
 use Rattle.vdp.proofs.Tables.{Passed}
-use Rattle.vdp.specs.Device.{unlatched}
-use Rattle.vdp.specs.Ports.{After, dataBy, portWrite, portRead}
+use Rattle.vdp.proofs.Kept.{write-kept}
+use Rattle.vdp.specs.Device.{frontOf}
+use Rattle.vdp.specs.Ports.{After, portWrite, portRead}
 use Rattle.step.specs.declared.DrawnRow.{DrawnRow}
 use Rattle.step.specs.declared.DrawnRow.the-variants.{NoRow, Drawn}
 use Rattle.step.specs.declared.Stepped.{Stepped}
@@ -38,19 +35,9 @@ use Rattle.recording.specs.Text.{lineOf}
 use Rattle.recording.specs.Run.{World, Turn, held, start, on, stepAnswer, rowTurn, intoFrame, frameTurn, layersPainted, layersInto, layerTurn, turnFor, turnBy, turnOf, after, lines}
 
 -- video memory keeps its length
-data-length : (d : WriteDest) (s : VdpState) (m : List ℕ) (v : ℕ) → length (dataBy d s m v .vram) ≡ length m
-data-length None s m v = refl
-data-length Vram s m v = either (λ (a : After). length (a .vram) ≡ length m) (ltb (s .addr) 16384) (λ _. simp length-set) (λ _. refl)
-data-length Cram s m v = refl
-
 write-length : (s : VdpState) (m : List ℕ) (p v : ℕ) → length (portWrite s m p v .vram) ≡ length m
 unfolding portWrite
-write-length s m p v =
-    let P : After → Type 0 = λ a. length (a .vram) ≡ length m in
-    either P (whole m)
-    (λ _.
-    either P (isPort 0xBF p) (λ _. refl) (λ _. either P (isPort 0xBE p) (λ _. data-length (s .dest) (unlatched s) m v) (λ _. refl)))
-    (λ _. refl)
+write-length s m p v = write-kept 64 (frontOf s) m p v .memory
 
 -- two worlds with the same device and video memory, and buffers of a size to draw in
 pub record Alike (t w : World) : Type 0 where

@@ -21,9 +21,10 @@ use Rattle.step.specs.declared.DrawnRow.{DrawnRow}
 use Rattle.step.specs.declared.DrawnRow.the-variants.{NoRow, Drawn}
 use Rattle.step.specs.declared.Stepped.{Stepped}
 use Rattle.step.specs.Step.{lineOf, counterUp, rowOn, stepped, rowLines, stepWith, rowStep}
-use Rattle.step.specs.Points.{RowIn}
+use Rattle.step.specs.Points.{RowIn, pointsOf}
 use Rattle.step.specs.Frame.{rowAfter, RowStepLeaves, FrameStepLeaves}
-use Rattle.step.specs.Layers.{alsoLayers, rowLayers, layersBy, layersAfter, RowLayersLeave}
+use Rattle.step.specs.Bytes.{layersBy}
+use Rattle.step.specs.Layers.{alsoLayers, rowLayers, layersAfter, RowLayersLeave}
 use Rattle.step.proofs.Rows.{row-in}
 use Rattle.step.proofs.Steps.{aside}
 use Rattle.record.specs.declared.Record.{Record}
@@ -65,8 +66,8 @@ frame-stepped a w {k} {frame} {t} g ea er =
 told-or-not :
     (ls : List Line) (a : RenderArea) (vram : List ℕ) (d : VdpState) (layers : List ℕ)
     → (stepWith ls a vram d .row ≡ NoRow)
-    ⊎ ((stepWith ls a vram d .row ≡ rowOn a (lineOf (counterUp d))) × (layersAfter ls a vram d layers ≡ layersBy (rowOn a (lineOf (counterUp d))) a vram (counterUp d) layers))
-unfolding stepWith layersAfter stepped
+    ⊎ ((stepWith ls a vram d .row ≡ rowOn a (lineOf (counterUp d))) × (layersAfter ls a vram d layers ≡ layersBy (rowOn a (lineOf (counterUp d))) a (rowLayers a vram (counterUp d)) layers))
+unfolding stepWith layersAfter stepped pointsOf
 told-or-not [] a vram d layers = inr (refl, refl)
 told-or-not (l ∷ ls) a vram d layers = split (l .holds) (λ t. inl (rw t)) (λ t. rw t (told-or-not ls a vram d layers))
 
@@ -77,14 +78,14 @@ same-rows EffectiveArea c = absurd (omega arith)
 same-rows TrueEdges c = refl
 
 module _ (a : RenderArea) (c : columns a ≡ 160) (vram : List ℕ) (d : VdpState) (frame layers : List ℕ) (n : length layers ≡ 160) where
-  shown-layers : (y : ℕ) → painted frame (160 * y) 160 (λ x. layerColour (at (layersBy (Drawn y) a vram (counterUp d) layers) x))
+  shown-layers : (y : ℕ) → painted frame (160 * y) 160 (λ x. layerColour (at (layersBy (Drawn y) a (rowLayers a vram (counterUp d)) layers) x))
       ≡ painted frame (160 * y) 160 (λ x. layerColour (rowLayers a vram (counterUp d) y x))
   unfolding layersBy
   shown-layers y =
       let h : 160 ≤ length layers = omega arith in
       painted-cong frame (160 * y) 160 _ _ (λ x i. ap layerColour (rw c (layersIn-at layers 160 (rowLayers a vram (counterUp d) y) h x i)))
 
-  painted-by : (r : DrawnRow) → layersPainted r (λ y. at (layersBy r a vram (counterUp d) layers)) frame ≡ layersPainted r (rowLayers a vram (counterUp d)) frame
+  painted-by : (r : DrawnRow) → layersPainted r (λ y. at (layersBy r a (rowLayers a vram (counterUp d)) layers)) frame ≡ layersPainted r (rowLayers a vram (counterUp d)) frame
   painted-by NoRow = refl
   painted-by (Drawn y) = shown-layers y
 

@@ -10,8 +10,9 @@ use Rattle.raster.specs.declared.LineTable.{LineTable}
 use Rattle.raster.specs.declared.LineTable.the-variants.{Steps261, Steps262}
 use Rattle.raster.specs.Raster.{jumps, starts, advanced, lineInterrupt, counted}
 use Rattle.vdp.specs.Device.{made}
-use Rattle.vdp.specs.Ports.{portWrite, portRead}
-use Rattle.step.specs.Step.{rowOn, drawnBy, endScreen, reportOf, interruptOf, stepped, stepWith}
+use Rattle.vdp.specs.Ports.{frontWrite, frontRead, portWrite, portRead}
+use Rattle.step.specs.Points.{rowOn, bitsOf, endedBy, reportBy, interruptBy, pointsOf}
+use Rattle.step.specs.Step.{stepped, stepWith}
 use Rattle.record.specs.Record.{recordAt, marked}
 use Rattle.recording.specs.Text.{decimal, lineOf, endLine, badLine, longLine}
 use Rattle.recording.specs.Run.{start, rowTurn, turnBy, turnOf, after, lines, ran}
@@ -32,7 +33,7 @@ output =
 
 -- the one is printed for the other, by either table, from 16,384 zeroed bytes of video memory and a row buffer of 1,024
 pub worked : (printed input (start (made Steps261) (replicate vramSize 0) (replicate 1024 0) []) ≡ output) × (printed input (start (made Steps262) (replicate vramSize 0) (replicate 1024 0) []) ≡ output)
-unfolding input output recordAt marked decimal lineOf endLine badLine longLine rowTurn turnBy turnOf after lines ran lastLine text printed portWrite portRead jumps starts advanced lineInterrupt counted bit rowOn drawnBy endScreen reportOf interruptOf stepped stepWith
+unfolding input output recordAt marked decimal lineOf endLine badLine longLine rowTurn turnBy turnOf after lines ran lastLine text printed portWrite portRead frontWrite frontRead jumps starts advanced lineInterrupt counted bit rowOn bitsOf endedBy reportBy interruptBy pointsOf stepped stepWith
 worked = (refl, refl)
 
 -- no input: `end 0`

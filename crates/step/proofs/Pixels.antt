@@ -30,8 +30,9 @@ use Rattle.laws.proofs.Tests.{split}
 use Rattle.step.specs.declared.DrawnRow.the-variants.{NoRow, Drawn}
 use Rattle.step.specs.declared.Pixel.{Pixel}
 use Rattle.step.specs.declared.Stepped.{Stepped}
-use Rattle.step.specs.Step.{lineOf, register, counterUp, rowOn, coloursNow, rowPicture, rowLines, refusedStep, stepped, stepWith, rowStep}
-use Rattle.step.specs.Frame.{drawnBytes, rowAfter, RowStepLeaves}
+use Rattle.step.specs.Points.{rowOn, rowLines}
+use Rattle.step.specs.Step.{lineOf, coloursNow, rowPicture, counterUp, refusedStep, stepped, stepWith}
+use Rattle.step.specs.Frame.{rowAfter, RowStepLeaves}
 use Rattle.step.specs.Pixel.{pixelOf}
 use Rattle.step.proofs.Rows.{row-low}
 use Rattle.step.proofs.Laws.{row-fits, row-step-here, stepped-row, stepped-reg, stepped-raster, stepped-cache, stepped-dirty}
@@ -89,7 +90,6 @@ module _ (a : RenderArea) (vram : List ℕ) (d : VdpState) (y x : ℕ) where
 
       pixel-left : length vram ≡ vramSize → (buffer : List ℕ) → rowSize a ≤ length buffer
           → byteOfColour (pixelOf a vram (stepped a vram d .vdp) y x .colour) b ≡ at (rowAfter a vram d buffer) (4 * x + b)
-      unfolding drawnBytes
       pixel-left m buffer h =
           let k : 4 * x + b < rowSize a = omega (arith, row-size a) in
           ap (λ (p : Pixel). byteOfColour (p .colour) b) (inside a vram y x (stepped a vram d .vdp) m (row-low a (lineOf (counterUp d)) y e) l)

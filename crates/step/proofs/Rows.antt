@@ -12,9 +12,8 @@ use Rattle.picture.specs.declared.RenderArea.the-variants.{VisibleOnly, Effecti
 use Rattle.picture.specs.Area.{rows, firstLine, rowSize, frameSize}
 use Rattle.step.specs.declared.DrawnRow.{DrawnRow}
 use Rattle.step.specs.declared.DrawnRow.the-variants.{NoRow, Drawn}
-use Rattle.step.specs.Step.{rowOn}
-use Rattle.step.specs.Points.{RowIn}
-use Rattle.step.specs.Frame.{startOf}
+use Rattle.step.specs.Points.{rowOn, RowIn}
+use Rattle.step.specs.Bytes.{startOf}
 
 -- a row is drawn: its number is below the area's, and its line is known
 told : (a : RenderArea) (l y : ℕ) (t : Bool) → (leb (firstLine a) l && ltb l (firstLine a + rows a)) ≡ t → cond t (Drawn (l - firstLine a)) NoRow ≡ Drawn y → (y < rows a) × (l ≡ firstLine a + y)

@@ -14,8 +14,8 @@ use Rattle.raster.specs.declared.Raster.{Raster}
 use Rattle.raster.specs.Raster.{advanced}
 use Rattle.vdp.specs.Refusals.{refusalNumber, first}
 use Rattle.step.specs.declared.Lent.{Lent}
-use Rattle.step.specs.Step.{rowOn, frameLines}
-use Rattle.step.specs.Frame.{startOf}
+use Rattle.step.specs.Points.{rowOn, frameLines}
+use Rattle.step.specs.Bytes.{startOf}
 
 -- A frame of `size` bytes for a step on these registers and this raster: refused by the first line that holds; or the part of it that the coming row has.
 pub record LentOut (a : RenderArea) (reg : List ℕ) (raster : Raster) (vram : List ℕ) (size : ℕ) (r : Lent) : Type 0 where

@@ -1,6 +1,7 @@
 -- What the contracts of `step` cite.
-pub mod Step
 pub mod Points
+pub mod Bytes
+pub mod Step
 pub mod Frame
 pub mod Layers
 pub mod Lend

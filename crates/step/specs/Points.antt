@@ -1,67 +1,125 @@
--- R4.1 to R4.5: the five points of a step by what they read and leave of a device, and not by the whole device.
+-- R4.1 to R4.5, the five points of a step, over what they read and what they leave. No device is named: each machine makes its own step from them.
 -- Assumes nothing.
 use mathlib.Core.Path.{_≡_}
-use mathlib.Core.List.{List, _++_}
-use Prim.Native.Nat.{ℕ, _<_}
-use lib.ListN.{drop}
+use mathlib.Core.Bool.{Bool, cond, not, _&&_, _||_}
+use mathlib.Core.List.{List, [], _∷_}
+use Prim.Native.Nat.{ℕ, _+_, _-_, _<_}
+use lib.Bits.{bitOr}
+use lib.Dec.{eqb, ltb, leb}
+use Rattle.laws.specs.Bits.{bit}
+use Rattle.laws.specs.Lists.{at}
 use Rattle.picture.specs.declared.RenderArea.{RenderArea}
 use Rattle.picture.specs.Picture.{Row}
-use Rattle.picture.specs.Area.{columns, rows, rowSize, rowBytes, statusBits}
-use Rattle.picture.specs.Layers.{layersIn}
+use Rattle.picture.specs.Area.{firstLine, rows, rowSize, frameSize, pictureOf, statusBits}
 use Rattle.raster.specs.declared.Raster.{Raster}
-use Rattle.vdp.specs.declared.VdpState.{VdpState}
+use Rattle.raster.specs.Raster.{advanced, lineInterrupt, counted}
 use Rattle.vdp.specs.declared.Refusal.{Refusal}
-use Rattle.vdp.specs.Device.{withRaster, withStatus, withCache}
-use Rattle.step.specs.declared.VdpInt.the-variants.{NoInterrupt}
-use Rattle.step.specs.declared.DisplayRefresh.the-variants.{NoDisplay}
+use Rattle.vdp.specs.declared.Refusal.the-variants.{Accepted, VramLength, PixelLength, FrameTooLong}
+use Rattle.vdp.specs.Refusals.{whole, Line, line, under}
+use Rattle.step.specs.declared.VdpInt.{VdpInt}
+use Rattle.step.specs.declared.VdpInt.the-variants.{NoInterrupt, InterruptGenerated}
+use Rattle.step.specs.declared.DisplayRefresh.{DisplayRefresh}
+use Rattle.step.specs.declared.DisplayRefresh.the-variants.{NoDisplay, ScreenDone, ScreenDoneNoRefresh}
 use Rattle.step.specs.declared.DrawnRow.{DrawnRow}
 use Rattle.step.specs.declared.DrawnRow.the-variants.{NoRow, Drawn}
 use Rattle.step.specs.declared.Points.{Points}
-use Rattle.step.specs.declared.Stepped.{Stepped}
-use Rattle.step.specs.Step.{coloursNow}
+
+-- R11.11: the numbers of the answers, as R7.7 has them
+abbrev pub interruptNumber : VdpInt → ℕ
+interruptNumber NoInterrupt = 0
+interruptNumber InterruptGenerated = 1
+
+abbrev pub reportNumber : DisplayRefresh → ℕ
+reportNumber NoDisplay = 0
+reportNumber ScreenDone = 1
+reportNumber ScreenDoneNoRefresh = 2
+
+-- what the points read of a device: registers, raster, status, and the colours that a row is drawn with
+pub record Reading : Type 0 where
+  pub reg : List ℕ
+  pub raster : Raster
+  pub status : ℕ
+  pub colours : List ℕ
+
+abbrev pub reading : List ℕ → Raster → ℕ → List ℕ → Reading
+reading reg raster status colours = record { reg = reg; raster = raster; status = status; colours = colours }
+
+-- R4.1: the raster with its counter up, and what line 0 and the jump do
+abbrev pub risen : Reading → Raster
+risen k = advanced (at (k .reg)) (k .raster)
+
+-- R4.2: the row of a line, if it has one
+unfoldable pub rowOn : RenderArea → ℕ → DrawnRow
+rowOn a l = cond (leb (firstLine a) l && ltb l (firstLine a + rows a)) (Drawn (l - firstLine a)) NoRow
 
 -- the row, if there is one, is one of the area's
 abbrev pub RowIn : RenderArea → DrawnRow → Type 0
 RowIn a r = (y : ℕ) → r ≡ Drawn y → y < rows a
 
--- the status bits that the row sets, and the bytes that it leaves, where `picture` gives the picture of each row
+-- the row that this step draws, and what row y looks like now, for the registers, the latched scroll and the video memory
+abbrev pub comingRow : RenderArea → Reading → DrawnRow
+comingRow a k = rowOn a (risen k .«v_counter»)
+
+abbrev pub comingPicture : RenderArea → List ℕ → Reading → ℕ → Row
+comingPicture a vram k y = pictureOf a (k .reg) (risen k .«vertical_scroll») vram y
+
+-- R4.2: the status bits that the row sets, where `picture` gives the picture of each row
 unfoldable pub bitsOf : DrawnRow → (ℕ → Row) → ℕ
 bitsOf NoRow picture = 0
 bitsOf (Drawn y) picture = statusBits (picture y)
 
-unfoldable pub bytesOf : DrawnRow → RenderArea → List ℕ → (ℕ → Row) → List ℕ → List ℕ
-bytesOf NoRow a colours picture buffer = buffer
-bytesOf (Drawn y) a colours picture buffer = rowBytes colours (columns a) (picture y) ++ drop (rowSize a) buffer
+-- R4.3: the end of the screen at line l, its status bit and its report
+abbrev pub atEnd : ℕ → Bool
+atEnd l = eqb l 0xC1
 
--- the layer buffer that it leaves, where `layer` gives the layers of each row
-unfoldable pub ownersOf : DrawnRow → RenderArea → (ℕ → ℕ → ℕ) → List ℕ → List ℕ
-ownersOf NoRow a layer buffer = buffer
-ownersOf (Drawn y) a layer buffer = layersIn buffer (columns a) (layer y)
+unfoldable pub endedBy : ℕ → ℕ → ℕ
+endedBy l status = cond (atEnd l) (bitOr status 0x80) status
 
--- what is answered and left where the step is refused before its points
+unfoldable pub reportBy : List ℕ → ℕ → DisplayRefresh
+reportBy reg l = cond (atEnd l) (cond (bit (at reg 1) 6) ScreenDone ScreenDoneNoRefresh) NoDisplay
+
+-- R4.4: an interrupt of the frame or of the line
+unfoldable pub interruptBy : List ℕ → ℕ → Raster → VdpInt
+interruptBy reg status raster =
+    cond ((bit (at reg 1) 5 && bit status 7) || lineInterrupt (at reg) raster) InterruptGenerated NoInterrupt
+
+-- an accepted step: R4.1 to R4.5 in order
+unfoldable pub pointsOf : RenderArea → List ℕ → Reading → Points
+pointsOf a vram k =
+    let up = risen k in
+    let row = comingRow a k in
+    let last = endedBy (up .«v_counter») (bitOr (k .status) (bitsOf row (comingPicture a vram k))) in
+    record {
+      refusal = Accepted;
+      interrupt = interruptBy (k .reg) last up;
+      report = reportBy (k .reg) (up .«v_counter»);
+      row = row;
+      status = last;
+      raster = counted (at (k .reg)) up;
+    }
+
+-- R2.3: a refused step tells and changes nothing
 abbrev pub refusedPoints : Refusal → ℕ → Raster → Points
 refusedPoints r status raster =
     record { refusal = r; interrupt = NoInterrupt; report = NoDisplay; row = NoRow; status = status; raster = raster }
 
--- the device d reads as these registers, raster, status and colours to draw with
-pub record Reads (d : VdpState) (reg : List ℕ) (raster : Raster) (status : ℕ) (colours : List ℕ) : Type 0 where
-  pub registers : reg ≡ d .reg
-  pub lines : raster ≡ d .raster
-  pub bits : status ≡ d .status
-  pub cache : colours ≡ coloursNow d
+-- R2.6: a row buffer of `size` bytes has at least `need`, a frame exactly so many
+abbrev pub atLeast : ℕ → ℕ → List Line
+atLeast need size = line (ltb size need) PixelLength ∷ []
 
--- the device with clean colours, if a row was drawn with them
-abbrev pub cleaned : DrawnRow → VdpState → List ℕ → VdpState
-cleaned NoRow d colours = d
-cleaned (Drawn y) d colours = withCache d colours
+abbrev pub exactly : ℕ → ℕ → List Line
+exactly need size = line (ltb size need) PixelLength ∷ line (ltb need size) FrameTooLong ∷ []
 
--- the answer of the device's own step, from what the points answer and leave
-abbrev pub joined : VdpState → Points → Stepped
-joined d points =
-    record {
-      refusal = points .refusal;
-      interrupt = points .interrupt;
-      report = points .report;
-      row = points .row;
-      vdp = withRaster (withStatus (cleaned (points .row) d (coloursNow d)) (points .status)) (points .raster);
-    }
+-- R2.4: the lines of the table that a step can meet: 8, and those of its buffer's size
+abbrev pub stepLines : List ℕ → List Line → List Line
+stepLines vram sizes = line (not (whole vram)) VramLength ∷ sizes
+
+abbrev pub rowLines : RenderArea → List ℕ → ℕ → List Line
+rowLines a vram size = stepLines vram (atLeast (rowSize a) size)
+
+abbrev pub frameLines : RenderArea → List ℕ → ℕ → List Line
+frameLines a vram size = stepLines vram (exactly (frameSize a) size)
+
+-- R6.3, R6.7: the points of a step that these lines refuse, whatever its line
+unfoldable pub pointsWith : List Line → RenderArea → List ℕ → Reading → Points
+pointsWith lines a vram k = under lines (λ r. refusedPoints r (k .status) (k .raster)) (pointsOf a vram k)

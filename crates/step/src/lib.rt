@@ -1,29 +1,22 @@
 // The step: its five points by what they read and leave of a device, and the step of a whole device, into a row buffer or into a frame of which it lends one row.
 // And the view of a frame's row, the dump of all tiles, and one pixel on its own.
 ghost use mathlib.Core.Path.{_≡_};
-ghost use mathlib.Core.Bool.{false, cond, _&&_, _||_};
+ghost use mathlib.Core.Bool.{false, cond};
 ghost use Prim.Native.Nat.{_≤_, _<_};
-ghost use lib.Bits.{bitOr};
-ghost use lib.Dec.{eqb};
 ghost use lib.ListN.{length};
-ghost use Rattle.laws.specs.Bits.{bit};
-ghost use Rattle.laws.specs.Lists.{at};
 ghost use Rattle.laws.specs.Sizes.{vramSize};
 ghost use Rattle.colour.specs.Colour.{coloursOf};
 ghost use Rattle.picture.specs.declared.RenderArea.the-variants.{VisibleOnly};
 ghost use Rattle.picture.specs.Area.{columns, rows, rowSize, frameSize, pictureOf};
 ghost use Rattle.picture.specs.Layers.{layersOf};
-ghost use Rattle.raster.specs.Raster.{lineInterrupt};
-ghost use Rattle.vdp.specs.declared.VdpState.{VdpState};
-ghost use Rattle.step.specs.declared.VdpInt.the-variants.{NoInterrupt, InterruptGenerated};
-ghost use Rattle.step.specs.declared.DisplayRefresh.the-variants.{NoDisplay, ScreenDone, ScreenDoneNoRefresh};
-ghost use Rattle.step.specs.Step.{interruptNumber, reportNumber, rowOn, coloursNow};
+ghost use Rattle.step.specs.Points.{interruptNumber, reportNumber, reading, rowOn, RowIn, bitsOf, endedBy, reportBy, interruptBy, refusedPoints, rowLines};
+ghost use Rattle.step.specs.Bytes.{rowWith, layersBy, startOf, layersUnder, RowPointsLeave, FramePointsLeave, RowLayerPointsLeave, FrameLayerPointsLeave};
+ghost use Rattle.step.specs.Step.{coloursNow, cleaned, joined};
 ghost use Rattle.step.specs.Layers.{RowLayersLeave, FrameLayersLeave};
 ghost use Rattle.step.specs.Lend.{LentOut};
-ghost use Rattle.step.specs.Points.{RowIn, bitsOf, bytesOf, ownersOf, refusedPoints, Reads, cleaned, joined};
 ghost use Rattle.step.specs.Dump.{DumpLeaves};
 ghost use Rattle.step.specs.Pixel.{pixelOf};
-ghost use Rattle.step.specs.Frame.{startOf, RowStepLeaves, FrameStepLeaves, rowView};
+ghost use Rattle.step.specs.Frame.{RowStepLeaves, FrameStepLeaves, rowView};
 use picture::RenderArea;
 use raster::Raster;
 use vdp::Refusal;
@@ -153,8 +146,8 @@ fn draw(
 ) -> u8
     requires { ⌜ (length (now vram) ≡ vramSize) × (rowSize area ≤ length (now row)) × RowIn area drawn ⌝ }
     ensures { λ r. ⌜ r ≡ bitsOf drawn (pictureOf area reg scroll (now (vram .entry))) ⌝ }
-    ensures { λ r. ⌜ now (row .exit) ≡ bytesOf drawn area (now (colours .entry)) (pictureOf area reg scroll (now (vram .entry))) (now (row .entry)) ⌝ }
-    ensures { λ r. ⌜ now (layers .exit) ≡ ownersOf drawn area (layersOf area reg scroll (now (vram .entry))) (now (layers .entry)) ⌝ }
+    ensures { λ r. ⌜ now (row .exit) ≡ rowWith drawn area (now (colours .entry)) (pictureOf area reg scroll (now (vram .entry))) (now (row .entry)) ⌝ }
+    ensures { λ r. ⌜ now (layers .exit) ≡ layersBy drawn area (layersOf area reg scroll (now (vram .entry))) (now (layers .entry)) ⌝ }
 {
     let DrawnRow::Drawn(line) = drawn else {
         return 0;
@@ -164,13 +157,13 @@ fn draw(
 
 // R4.3: the screen ends at line C1.
 fn ended(status: u8, line: u8) -> u8
-    ensures { λ r. ⌜ r ≡ cond (eqb line 0xC1) (bitOr status 0x80) status ⌝ }
+    ensures { λ r. ⌜ r ≡ endedBy line status ⌝ }
 {
     if line == 0xC1 { status | 0x80 } else { status }
 }
 
 fn report_of(reg: [u8; 11], line: u8) -> DisplayRefresh
-    ensures { λ r. ⌜ r ≡ cond (eqb line 0xC1) (cond (bit (at reg 1) 6) ScreenDone ScreenDoneNoRefresh) NoDisplay ⌝ }
+    ensures { λ r. ⌜ r ≡ reportBy reg line ⌝ }
 {
     if line != 0xC1 {
         return DisplayRefresh::NoDisplay;
@@ -183,7 +176,7 @@ fn report_of(reg: [u8; 11], line: u8) -> DisplayRefresh
 
 // R4.4: the end of the screen or the line count asks for an interrupt.
 fn interrupt_of(reg: [u8; 11], status: u8, raster: Raster) -> VdpInt
-    ensures { λ r. ⌜ r ≡ cond ((bit (at reg 1) 5 && bit status 7) || lineInterrupt (at reg) raster) InterruptGenerated NoInterrupt ⌝ }
+    ensures { λ r. ⌜ r ≡ interruptBy reg status raster ⌝ }
 {
     let line_interrupt = raster.line_interrupt_is_up(reg);
     if ((reg[1] / 32 % 2 == 1) & (status / 128 % 2 == 1)) | line_interrupt {
@@ -256,7 +249,7 @@ fn start_of(area: RenderArea, row: DrawnRow) -> usize
     }
 }
 
-// Points 1 to 5 of a step of any device that has these registers, raster, status and colours. The row goes to the first bytes of the row buffer, and its
+// Points 1 to 5 of a step of a machine with these registers, raster, status and colours. The row goes to the first bytes of the row buffer, and its
 // layers to the first bytes of `layers`; a layer buffer with fewer bytes than the row has columns asks for none.
 fn row_points_into(
     reg: [u8; 11],
@@ -268,7 +261,8 @@ fn row_points_into(
     layers: &mut [u8],
     area: RenderArea,
 ) -> Points
-    ensures { λ r. ⌜ ((d : VdpState) → Reads d reg raster status (now (colours .entry)) → RowLayersLeave 0 area (now (vram .entry)) d (now (row .entry)) (now (layers .entry)) (joined d r) (now (row .exit)) (now (layers .exit))) ⌝ }
+    ensures { λ r. ⌜ RowPointsLeave area (now (vram .entry)) (reading reg raster status (now (colours .entry))) (now (row .entry)) r (now (row .exit)) ⌝ }
+    ensures { λ r. ⌜ now (layers .exit) ≡ layersUnder (rowLines area (now (vram .entry)) (length (now (row .entry)))) area (now (vram .entry)) (reading reg raster status (now (colours .entry))) (now (layers .entry)) ⌝ }
 {
     if vram.len() != VRAM_SIZE {
         return refused(Refusal::VramLength, status, raster);
@@ -311,7 +305,7 @@ pub fn row_points(
     row: &mut [u8],
     area: RenderArea,
 ) -> Points
-    ensures { λ r. ⌜ ((d : VdpState) → Reads d reg raster status (now (colours .entry)) → RowStepLeaves area (now (vram .entry)) d (now (row .entry)) (joined d r) (now (row .exit))) ⌝ }
+    ensures { λ r. ⌜ RowPointsLeave area (now (vram .entry)) (reading reg raster status (now (colours .entry))) (now (row .entry)) r (now (row .exit)) ⌝ }
 {
     let mut none = [0u8; 0];
     row_points_into(reg, raster, status, colours, vram, row, &mut none, area)
@@ -328,7 +322,7 @@ pub fn layer_row_points(
     layers: &mut [u8],
     area: RenderArea,
 ) -> Points
-    ensures { λ r. ⌜ ((d : VdpState) → Reads d reg raster status (now (colours .entry)) → RowLayersLeave (columns area) area (now (vram .entry)) d (now (row .entry)) (now (layers .entry)) (joined d r) (now (row .exit)) (now (layers .exit))) ⌝ }
+    ensures { λ r. ⌜ RowLayerPointsLeave area (now (vram .entry)) (reading reg raster status (now (colours .entry))) (now (row .entry)) (now (layers .entry)) r (now (row .exit)) (now (layers .exit)) ⌝ }
 {
     if vram.len() != VRAM_SIZE {
         return refused(Refusal::VramLength, status, raster);
@@ -397,7 +391,7 @@ pub fn frame_points(
     frame: &mut [u8],
     area: RenderArea,
 ) -> Points
-    ensures { λ r. ⌜ ((d : VdpState) → Reads d reg raster status (now (colours .entry)) → FrameStepLeaves area (now (vram .entry)) d (now (frame .entry)) (joined d r) (now (frame .exit))) ⌝ }
+    ensures { λ r. ⌜ FramePointsLeave area (now (vram .entry)) (reading reg raster status (now (colours .entry))) (now (frame .entry)) r (now (frame .exit)) ⌝ }
 {
     let part = lend(reg, raster, vram, frame, area);
     let refusal = part.refusal;
@@ -430,7 +424,7 @@ pub fn layer_frame_points(
     layers: &mut [u8],
     area: RenderArea,
 ) -> Points
-    ensures { λ r. ⌜ ((d : VdpState) → Reads d reg raster status (now (colours .entry)) → FrameLayersLeave (columns area) area (now (vram .entry)) d (now (frame .entry)) (now (layers .entry)) (joined d r) (now (frame .exit)) (now (layers .exit))) ⌝ }
+    ensures { λ r. ⌜ FrameLayerPointsLeave area (now (vram .entry)) (reading reg raster status (now (colours .entry))) (now (frame .entry)) (now (layers .entry)) r (now (frame .exit)) (now (layers .exit)) ⌝ }
 {
     let part = lend(reg, raster, vram, frame, area);
     let refusal = part.refusal;

@@ -1,12 +1,14 @@
 -- What a refused port call leaves is what the table's column says, and video memory stays; a refused read gives byte 0.
 -- Assumes nothing.
 use Prim.Native.Nat.{ℕ, _%_, _/_}
-use mathlib.Core.Path.{_≡_, refl}
+use mathlib.Core.Path.{_≡_, refl, ap}
 use mathlib.Core.Logic.{_≢_}
 use mathlib.Core.List.{List}
-use mathlib.Core.Bool.{Bool, true, false, cond}
 use lib.Dec.{ltb, eqb}
 use Rattle.laws.proofs.Tests.{either}
+use Rattle.vdp.specs.declared.Front.{Front}
+use Rattle.vdp.specs.declared.FrontWritten.{FrontWritten}
+use Rattle.vdp.specs.declared.FrontRead.{FrontRead}
 use Rattle.vdp.specs.declared.VdpState.{VdpState}
 use Rattle.vdp.specs.declared.WriteDest.{WriteDest}
 use Rattle.vdp.specs.declared.WriteDest.the-variants.{None, Vram, Cram}
@@ -15,71 +17,101 @@ use Rattle.vdp.specs.declared.Latch.the-variants.{Empty, Held}
 use Rattle.vdp.specs.declared.Written.{Written}
 use Rattle.vdp.specs.declared.ReadBack.{ReadBack}
 use Rattle.vdp.specs.declared.Refusal.the-variants.{Accepted}
-use Rattle.vdp.specs.Device.{unlatched}
-use Rattle.vdp.specs.Refusals.{leftBehind, whole, isPort}
-use Rattle.vdp.specs.Ports.{After, secondByte, commandBy, oddPalette, paletteWrite, dataBy, readBy, portWrite, portRead}
+use Rattle.vdp.specs.Front.{FrontAfter, emptied, commandBy, dataBy, readBy}
+use Rattle.vdp.specs.Device.{frontOf, withFront, unlatched}
+use Rattle.vdp.specs.Refusals.{leftBehind, deviceLeft, whole, isPort}
+use Rattle.vdp.specs.Ports.{frontWrite, frontRead, oddPalette, paletteWrite, After, portWrite, portRead}
+use Rattle.vdp.proofs.Kept.{write-kept}
 
+accepted : {G : Type 0} → Accepted ≢ Accepted → G
+accepted n = absurd (n refl)
+
+-- ---- of a front: where an answer is a refusal, it leaves what the column says
+module _ (f : Front) where
+  abbrev LeftF : FrontWritten → Type 0
+  LeftF a = a .refusal ≢ Accepted → a .front ≡ leftBehind (a .refusal) f
+
+  pub record FrontLeft (m : List ℕ) (a : FrontAfter) : Type 0 where
+    pub front : LeftF (a .answer)
+    pub memory : a .answer .refusal ≢ Accepted → a .vram ≡ m
+
+  pub record FrontReadLeft (a : FrontRead) : Type 0 where
+    pub front : a .refusal ≢ Accepted → a .front ≡ leftBehind (a .refusal) f
+    pub zero : a .refusal ≢ Accepted → a .byte ≡ 0
+
+  command : (l : Latch) (n : ℕ) (m : List ℕ) (v : ℕ) → LeftF (commandBy l n f m v)
+  command Empty n m v = accepted
+  command (Held d) n m v =
+      either LeftF (eqb (v / 64) 0) (λ _. accepted)
+      (λ _. either LeftF (eqb (v / 64) 1) (λ _. accepted)
+      (λ _. either LeftF (eqb (v / 64) 2) (λ _. either LeftF (ltb 10 (v % 128)) (λ _ _. refl) (λ _. accepted)) (λ _. accepted)))
+
+  to-chosen : (d : WriteDest) (n : ℕ) (m : List ℕ) (v : ℕ) → FrontLeft m (dataBy d n (emptied f) m v)
+  to-chosen None n m v = record { front = λ _. refl; memory = λ _. refl }
+  to-chosen Vram n m v =
+      either (FrontLeft m) (ltb (f .addr) 16384) (λ _. record { front = accepted; memory = accepted })
+      (λ _. record { front = λ _. refl; memory = λ _. refl })
+  to-chosen Cram n m v = record { front = either LeftF (ltb (f .addr) n) (λ _. accepted) (λ _ _. refl); memory = λ _. refl }
+
+  pub front-write-behind : (n : ℕ) (m : List ℕ) (p v : ℕ) → FrontLeft m (frontWrite n f m p v)
+  unfolding frontWrite
+  front-write-behind n m p v =
+      either (FrontLeft m) (whole m)
+      (λ _. either (FrontLeft m) (isPort 0xBF p) (λ _. record { front = command (f .«cmd_byte1») n m v; memory = λ _. refl })
+      (λ _. either (FrontLeft m) (isPort 0xBE p) (λ _. to-chosen (f .dest) n m v) (λ _. record { front = λ _. refl; memory = λ _. refl })))
+      (λ _. record { front = λ _. refl; memory = λ _. refl })
+
+  from-chosen : (d : WriteDest) (m : List ℕ) → FrontReadLeft (readBy d (emptied f) m)
+  from-chosen None m = record { front = λ _. refl; zero = λ _. refl }
+  from-chosen Cram m = record { front = λ _. refl; zero = λ _. refl }
+  from-chosen Vram m =
+      either FrontReadLeft (ltb (f .addr) 16384) (λ _. record { front = accepted; zero = accepted })
+      (λ _. record { front = λ _. refl; zero = λ _. refl })
+
+  pub front-read-behind : (m : List ℕ) (p counter : ℕ) → FrontReadLeft (frontRead f m p counter)
+  unfolding frontRead
+  front-read-behind m p counter =
+      either FrontReadLeft (whole m)
+      (λ _. either FrontReadLeft (isPort 0x7E p) (λ _. record { front = accepted; zero = accepted })
+      (λ _. either FrontReadLeft (isPort 0x7F p) (λ _. record { front = λ _. refl; zero = λ _. refl })
+      (λ _. either FrontReadLeft (isPort 0xBF p) (λ _. record { front = accepted; zero = accepted })
+      (λ _. either FrontReadLeft (isPort 0xBE p) (λ _. from-chosen (f .dest) m) (λ _. record { front = λ _. refl; zero = λ _. refl })))))
+      (λ _. record { front = λ _. refl; zero = λ _. refl })
+
+-- ---- of the device
 module _ (s : VdpState) where
-  -- where an answer is a refusal, it leaves what the column says
   abbrev LeftW : Written → Type 0
-  LeftW a = a .refusal ≢ Accepted → a .vdp ≡ leftBehind (a .refusal) s
+  LeftW a = a .refusal ≢ Accepted → a .vdp ≡ deviceLeft (a .refusal) s
 
   pub record LeftA (m : List ℕ) (a : After) : Type 0 where
     pub device : LeftW (a .answer)
     pub memory : a .answer .refusal ≢ Accepted → a .vram ≡ m
 
   pub record LeftR (a : ReadBack) : Type 0 where
-    pub device : a .refusal ≢ Accepted → a .vdp ≡ leftBehind (a .refusal) s
+    pub device : a .refusal ≢ Accepted → a .vdp ≡ deviceLeft (a .refusal) s
     pub zero : a .refusal ≢ Accepted → a .byte ≡ 0
-
-  accepted : {G : Type 0} → Accepted ≢ Accepted → G
-  accepted n = absurd (n refl)
-
-  command : (l : Latch) (m : List ℕ) (v : ℕ) → LeftW (commandBy l s m v)
-  command Empty m v = accepted
-  command (Held d) m v =
-      either LeftW (eqb (v / 64) 0) (λ _. accepted)
-      (λ _. either LeftW (eqb (v / 64) 1) (λ _. accepted)
-      (λ _. either LeftW (eqb (v / 64) 2) (λ _. either LeftW (ltb 10 (v % 128)) (λ _ _. refl) (λ _. accepted)) (λ _. accepted)))
 
   odd : (l : Latch) (v : ℕ) → LeftW (oddPalette l (unlatched s) v)
   odd Empty v = λ _. refl
   odd (Held b) v = accepted
 
   palette : (v : ℕ) → LeftW (paletteWrite (unlatched s) v)
-  palette v =
-      either LeftW (ltb (s .addr) 64)
-      (λ _. either LeftW (eqb (s .addr % 2) 0) (λ _. accepted) (λ _. odd (s .«cram_byte1») v))
-      (λ _ _. refl)
-
-  to-chosen : (d : WriteDest) (m : List ℕ) (v : ℕ) → LeftA m (dataBy d (unlatched s) m v)
-  to-chosen None m v = record { device = λ _. refl; memory = λ _. refl }
-  to-chosen Vram m v =
-      either (LeftA m) (ltb (s .addr) 16384) (λ _. record { device = accepted; memory = accepted })
-      (λ _. record { device = λ _. refl; memory = λ _. refl })
-  to-chosen Cram m v = record { device = palette v; memory = λ _. refl }
+  palette v = either LeftW (eqb (s .addr % 2) 0) (λ _. accepted) (λ _. odd (s .«cram_byte1») v)
 
   pub write-behind : (m : List ℕ) (p v : ℕ) → LeftA m (portWrite s m p v)
   unfolding portWrite
   write-behind m p v =
-      either (LeftA m) (whole m)
-      (λ _. either (LeftA m) (isPort 0xBF p) (λ _. record { device = command (s .«cmd_byte1») m v; memory = λ _. refl })
-      (λ _. either (LeftA m) (isPort 0xBE p) (λ _. to-chosen (s .dest) m v) (λ _. record { device = λ _. refl; memory = λ _. refl })))
-      (λ _. record { device = λ _. refl; memory = λ _. refl })
-
-  from-chosen : (d : WriteDest) (m : List ℕ) → LeftR (readBy d (unlatched s) m)
-  from-chosen None m = record { device = λ _. refl; zero = λ _. refl }
-  from-chosen Cram m = record { device = λ _. refl; zero = λ _. refl }
-  from-chosen Vram m =
-      either LeftR (ltb (s .addr) 16384) (λ _. record { device = accepted; zero = accepted })
-      (λ _. record { device = λ _. refl; zero = λ _. refl })
+      let f = frontOf s in
+      let a = frontWrite 64 f m p v in
+      let k = write-kept 64 f m p v in
+      let b = front-write-behind f 64 m p v in
+      record {
+        device = either LeftW (a .answer .palette) (λ t. rw (k .palette t .answer) (palette v)) (λ _ n. ap (withFront s) (b .front n));
+        memory = either (λ (w : Written). w .refusal ≢ Accepted → a .vram ≡ m) (a .answer .palette) (λ t _. k .palette t .memory) (λ _ n. b .memory n);
+      }
 
   pub read-behind : (m : List ℕ) (p : ℕ) → LeftR (portRead s m p)
   unfolding portRead
   read-behind m p =
-      either LeftR (whole m)
-      (λ _. either LeftR (isPort 0x7E p) (λ _. record { device = accepted; zero = accepted })
-      (λ _. either LeftR (isPort 0x7F p) (λ _. record { device = λ _. refl; zero = λ _. refl })
-      (λ _. either LeftR (isPort 0xBF p) (λ _. record { device = accepted; zero = accepted })
-      (λ _. either LeftR (isPort 0xBE p) (λ _. from-chosen (s .dest) m) (λ _. record { device = λ _. refl; zero = λ _. refl })))))
-      (λ _. record { device = λ _. refl; zero = λ _. refl })
+      let b = front-read-behind (frontOf s) m p (s .raster .«v_counter») in
+      record { device = λ n. ap (withFront s) (b .front n); zero = b .zero }

@@ -1,84 +1,107 @@
 -- From a fresh device, after any port calls, the address is below 16,384, and below 64 where the palette is chosen.
 -- Assumes nothing.
-use Prim.Native.Nat.{ℕ, _+_, _%_, _/_, _<_}
-use mathlib.Core.Path.{_≡_, refl, sym}
+use Prim.Native.Nat.{ℕ, _%_, _/_, _<_}
+use mathlib.Core.Path.{_≡_, refl}
 use mathlib.Core.List.{List, [], _∷_}
-use mathlib.Core.Bool.{Bool, true, false}
 use lib.Dec.{ltb, eqb}
-use lib.ListN.{length}
+use native.Mathlib.Nat.{mod-lt}
 use native.Mathlib.Omega.{arith}
 use Rattle.laws.proofs.Tests.{either}
+use Rattle.vdp.specs.declared.Front.{Front}
+use Rattle.vdp.specs.declared.FrontWritten.{FrontWritten}
+use Rattle.vdp.specs.declared.FrontRead.{FrontRead}
 use Rattle.vdp.specs.declared.VdpState.{VdpState}
 use Rattle.vdp.specs.declared.Written.{Written}
-use Rattle.vdp.specs.declared.ReadBack.{ReadBack}
 use Rattle.vdp.specs.declared.WriteDest.{WriteDest}
 use Rattle.vdp.specs.declared.WriteDest.the-variants.{None, Vram, Cram}
 use Rattle.vdp.specs.declared.Latch.{Latch}
 use Rattle.vdp.specs.declared.Latch.the-variants.{Empty, Held}
-use Rattle.vdp.specs.Device.{unlatched}
-use Rattle.vdp.specs.Refusals.{size, whole, isPort}
-use Rattle.vdp.specs.Ports.{After, secondByte, commandBy, oddPalette, paletteWrite, dataBy, readBy, portWrite, portRead}
+use Rattle.vdp.specs.Front.{FrontAfter, emptied, secondByte, commandBy, dataBy, readBy}
+use Rattle.vdp.specs.Device.{frontOf, unlatched}
+use Rattle.vdp.specs.Refusals.{sizeOf, size, whole, isPort}
+use Rattle.vdp.specs.Ports.{frontWrite, frontRead, oddPalette, paletteWrite, portWrite, portRead}
+use Rattle.vdp.proofs.Kept.{write-kept}
 use Rattle.vdp.specs.Calls.{Call, write, read, World, after, afterAll, start}
 
 -- the address lies in the memory that is chosen
 abbrev pub Aimed : VdpState → Type 0
 Aimed s = s .addr < size (s .dest)
 
-abbrev Left : Written → Type 0
-Left a = Aimed (a .vdp)
+-- ---- of a front, with n bytes of palette
+abbrev pub AimedFront : ℕ → Front → Type 0
+AimedFront n f = f .addr < sizeOf n (f .dest)
 
-abbrev LeftRead : ReadBack → Type 0
-LeftRead a = Aimed (a .vdp)
+module _ (n : ℕ) (some : 0 < n) where
+  abbrev Left : FrontWritten → Type 0
+  Left a = AimedFront n (a .front)
 
-abbrev LeftAfter : After → Type 0
-LeftAfter a = Aimed (a .answer .vdp)
+  abbrev LeftRead : FrontRead → Type 0
+  LeftRead a = AimedFront n (a .front)
 
-second-byte : (s : VdpState) (m : List ℕ) (d v : ℕ) → Aimed s → Left (secondByte s m d v)
-second-byte s m d v h =
-    either Left (eqb (v / 64) 0) (λ _. omega arith)
-    (λ _. either Left (eqb (v / 64) 1) (λ _. omega arith)
-    (λ _. either Left (eqb (v / 64) 2) (λ _. either Left (ltb 10 (v % 128)) (λ _. h) (λ _. h)) (λ _. omega arith)))
+  abbrev LeftAfter : FrontAfter → Type 0
+  LeftAfter a = AimedFront n (a .answer .front)
 
-command-by : (l : Latch) (s : VdpState) (m : List ℕ) (v : ℕ) → Aimed s → Left (commandBy l s m v)
-command-by Empty s m v h = h
-command-by (Held d) s m v h = second-byte (unlatched s) m d v h
+  second-byte : (f : Front) (m : List ℕ) (d v : ℕ) → AimedFront n f → Left (secondByte n f m d v)
+  second-byte f m d v h =
+      either Left (eqb (v / 64) 0) (λ _. omega arith)
+      (λ _. either Left (eqb (v / 64) 1) (λ _. omega arith)
+      (λ _. either Left (eqb (v / 64) 2) (λ _. either Left (ltb 10 (v % 128)) (λ _. h) (λ _. h)) (λ _. mod-lt d some)))
 
-odd-palette : (l : Latch) (s : VdpState) (v : ℕ) → s .dest ≡ Cram → Aimed s → Left (oddPalette l s v)
+  command-by : (l : Latch) (f : Front) (m : List ℕ) (v : ℕ) → AimedFront n f → Left (commandBy l n f m v)
+  command-by Empty f m v h = h
+  command-by (Held d) f m v h = second-byte (emptied f) m d v h
+
+  data-by : (d : WriteDest) (f : Front) (m : List ℕ) (v : ℕ) → f .dest ≡ d → AimedFront n f → LeftAfter (dataBy d n f m v)
+  data-by None f m v e h = h
+  data-by Vram f m v e h = either LeftAfter (ltb (f .addr) 16384) (λ _. rw e (omega arith)) (λ _. h)
+  data-by Cram f m v e h = either Left (ltb (f .addr) n) (λ _. h) (λ _. h)
+
+  read-by : (d : WriteDest) (f : Front) (m : List ℕ) → f .dest ≡ d → AimedFront n f → LeftRead (readBy d f m)
+  read-by None f m e h = h
+  read-by Cram f m e h = h
+  read-by Vram f m e h = either LeftRead (ltb (f .addr) 16384) (λ _. rw e (omega arith)) (λ _. h)
+
+  pub front-write-aimed : (f : Front) (m : List ℕ) (p v : ℕ) → AimedFront n f → AimedFront n (frontWrite n f m p v .answer .front)
+  unfolding frontWrite
+  front-write-aimed f m p v h =
+      either LeftAfter (whole m)
+      (λ _. either LeftAfter (isPort 0xBF p) (λ _. command-by (f .«cmd_byte1») f m v h)
+      (λ _. either LeftAfter (isPort 0xBE p) (λ _. data-by (f .dest) (emptied f) m v refl h) (λ _. h)))
+      (λ _. h)
+
+  pub front-read-aimed : (f : Front) (m : List ℕ) (p counter : ℕ) → AimedFront n f → AimedFront n (frontRead f m p counter .front)
+  unfolding frontRead
+  front-read-aimed f m p counter h =
+      either LeftRead (whole m)
+      (λ _. either LeftRead (isPort 0x7E p) (λ _. h)
+      (λ _. either LeftRead (isPort 0x7F p) (λ _. h)
+      (λ _. either LeftRead (isPort 0xBF p) (λ _. h)
+      (λ _. either LeftRead (isPort 0xBE p) (λ _. read-by (f .dest) (emptied f) m refl h) (λ _. h)))))
+      (λ _. h)
+
+-- ---- of the device
+abbrev LeftBy : Written → Type 0
+LeftBy a = Aimed (a .vdp)
+
+odd-palette : (l : Latch) (s : VdpState) (v : ℕ) → s .dest ≡ Cram → Aimed s → LeftBy (oddPalette l s v)
 odd-palette Empty s v e h = h
 odd-palette (Held low) s v e h = rw e (omega arith)
 
-palette-write : (s : VdpState) (v : ℕ) → s .dest ≡ Cram → Aimed s → Left (paletteWrite s v)
-palette-write s v e h =
-    either Left (ltb (s .addr) 64)
-    (λ _. either Left (eqb (s .addr % 2) 0) (λ _. rw e (omega arith)) (λ _. odd-palette (s .«cram_byte1») s v e h)) (λ _. h)
-
-data-by : (d : WriteDest) (s : VdpState) (m : List ℕ) (v : ℕ) → s .dest ≡ d → Aimed s → LeftAfter (dataBy d s m v)
-data-by None s m v e h = h
-data-by Vram s m v e h = either LeftAfter (ltb (s .addr) 16384) (λ _. rw e (omega arith)) (λ _. h)
-data-by Cram s m v e h = palette-write s v e h
-
-read-by : (d : WriteDest) (s : VdpState) (m : List ℕ) → s .dest ≡ d → Aimed s → LeftRead (readBy d s m)
-read-by None s m e h = h
-read-by Cram s m e h = h
-read-by Vram s m e h = either LeftRead (ltb (s .addr) 16384) (λ _. rw e (omega arith)) (λ _. h)
+palette-write : (s : VdpState) (v : ℕ) → s .dest ≡ Cram → Aimed s → LeftBy (paletteWrite s v)
+palette-write s v e h = either LeftBy (eqb (s .addr % 2) 0) (λ _. rw e (omega arith)) (λ _. odd-palette (s .«cram_byte1») s v e h)
 
 pub write-aimed : (s : VdpState) (m : List ℕ) (p v : ℕ) → Aimed s → Aimed (portWrite s m p v .answer .vdp)
 unfolding portWrite
 write-aimed s m p v h =
-    either LeftAfter (whole m)
-    (λ _. either LeftAfter (isPort 0xBF p) (λ _. command-by (s .«cmd_byte1») s m v h)
-    (λ _. either LeftAfter (isPort 0xBE p) (λ _. data-by (s .dest) (unlatched s) m v refl h) (λ _. h)))
-    (λ _. h)
+    let f = frontOf s in
+    let k = write-kept 64 f m p v in
+    either LeftBy (frontWrite 64 f m p v .answer .palette)
+    (λ t. rw (k .palette t .answer) (palette-write (unlatched s) v (k .palette t .chosen) h))
+    (λ _. front-write-aimed 64 (omega arith) f m p v h)
 
 pub read-aimed : (s : VdpState) (m : List ℕ) (p : ℕ) → Aimed s → Aimed (portRead s m p .vdp)
 unfolding portRead
-read-aimed s m p h =
-    either LeftRead (whole m)
-    (λ _. either LeftRead (isPort 0x7E p) (λ _. h)
-    (λ _. either LeftRead (isPort 0x7F p) (λ _. h)
-    (λ _. either LeftRead (isPort 0xBF p) (λ _. h)
-    (λ _. either LeftRead (isPort 0xBE p) (λ _. read-by (s .dest) (unlatched s) m refl h) (λ _. h)))))
-    (λ _. h)
+read-aimed s m p h = front-read-aimed 64 (omega arith) (frontOf s) m p (s .raster .«v_counter») h
 
 one-call : (k : World) (c : Call) → Aimed (k .device) → Aimed (after k c .device)
 unfolding after

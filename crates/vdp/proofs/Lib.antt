@@ -1,4 +1,5 @@
 -- The laws of the ports.
+pub mod Kept
 pub mod Exact
 pub mod Behind
 pub mod Invariant

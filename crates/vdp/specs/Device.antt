@@ -8,11 +8,13 @@ use Rattle.raster.specs.declared.Raster.{Raster}
 use Rattle.raster.specs.declared.LineTable.{LineTable}
 use Rattle.raster.specs.declared.LineTable.the-variants.{Steps262}
 use Rattle.laws.specs.Sizes.{cramSize}
+use Rattle.vdp.specs.declared.Front.{Front}
 use Rattle.vdp.specs.declared.VdpState.{VdpState}
 use Rattle.vdp.specs.declared.WriteDest.{WriteDest}
 use Rattle.vdp.specs.declared.WriteDest.the-variants as Chosen
 use Rattle.vdp.specs.declared.Latch.{Latch}
-use Rattle.vdp.specs.declared.Latch.the-variants.{Empty, Held}
+use Rattle.vdp.specs.declared.Latch.the-variants.{Empty}
+use Rattle.vdp.specs.Front.{front, emptied}
 
 -- R3.1: the record of these fields, in the order of the Rust's `VdpState`
 abbrev pub device : ℕ → List ℕ → Raster → ℕ → ℕ → WriteDest → List ℕ → Latch → Latch → Bool → List ℕ → VdpState
@@ -42,31 +44,26 @@ made t =
 abbrev pub fresh : VdpState
 fresh = made Steps262
 
--- ---- the same device with another command latch, and so on
-abbrev pub withCommand : VdpState → Latch → VdpState
-withCommand d l = device (d .status) (d .reg) (d .raster) (d .addr) (d .«vram_buffer») (d .dest) (d .cram) l (d .«cram_byte1») (d .«cram_dirty») (d .«color_cache»)
+-- ---- the part of it that the ports work on, and the same device with another
+abbrev pub frontOf : VdpState → Front
+frontOf d = front (d .status) (d .reg) (d .addr) (d .«vram_buffer») (d .dest) (d .«cmd_byte1»)
 
--- R2.2: what a refused command or data call leaves
+abbrev pub withFront : VdpState → Front → VdpState
+withFront d f = device (f .status) (f .reg) (d .raster) (f .addr) (f .«vram_buffer») (f .dest) (d .cram) (f .«cmd_byte1») (d .«cram_byte1») (d .«cram_dirty») (d .«color_cache»)
+
+-- R2.2: with its command latch empty
 abbrev pub unlatched : VdpState → VdpState
-unlatched d = withCommand d Empty
+unlatched d = withFront d (emptied (frontOf d))
 
-abbrev pub withDest : VdpState → WriteDest → VdpState
-withDest d m = device (d .status) (d .reg) (d .raster) (d .addr) (d .«vram_buffer») m (d .cram) (d .«cmd_byte1») (d .«cram_byte1») (d .«cram_dirty») (d .«color_cache»)
-
+-- ---- the same device with another palette latch, and so on
 abbrev pub withPaletteByte : VdpState → Latch → VdpState
 withPaletteByte d l = device (d .status) (d .reg) (d .raster) (d .addr) (d .«vram_buffer») (d .dest) (d .cram) (d .«cmd_byte1») l (d .«cram_dirty») (d .«color_cache»)
 
 abbrev pub withAddr : VdpState → ℕ → VdpState
 withAddr d a = device (d .status) (d .reg) (d .raster) a (d .«vram_buffer») (d .dest) (d .cram) (d .«cmd_byte1») (d .«cram_byte1») (d .«cram_dirty») (d .«color_cache»)
 
-abbrev pub withBuffer : VdpState → ℕ → VdpState
-withBuffer d b = device (d .status) (d .reg) (d .raster) (d .addr) b (d .dest) (d .cram) (d .«cmd_byte1») (d .«cram_byte1») (d .«cram_dirty») (d .«color_cache»)
-
 abbrev pub withStatus : VdpState → ℕ → VdpState
 withStatus d s = device s (d .reg) (d .raster) (d .addr) (d .«vram_buffer») (d .dest) (d .cram) (d .«cmd_byte1») (d .«cram_byte1») (d .«cram_dirty») (d .«color_cache»)
-
-abbrev pub withReg : VdpState → List ℕ → VdpState
-withReg d g = device (d .status) g (d .raster) (d .addr) (d .«vram_buffer») (d .dest) (d .cram) (d .«cmd_byte1») (d .«cram_byte1») (d .«cram_dirty») (d .«color_cache»)
 
 abbrev pub withRaster : VdpState → Raster → VdpState
 withRaster d x = device (d .status) (d .reg) x (d .addr) (d .«vram_buffer») (d .dest) (d .cram) (d .«cmd_byte1») (d .«cram_byte1») (d .«cram_dirty») (d .«color_cache»)

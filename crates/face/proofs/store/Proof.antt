@@ -1,7 +1,6 @@
 use borrow.Author.Needs.{needs}
 use mathlib.Core.Path.{sym, _∙_}
-use Rattle.step.specs.Points.{cleaned}
-use Rattle.step.specs.Step.{coloursNow}
+use Rattle.step.specs.Step.{coloursNow, cleaned}
 use Rattle.block.proofs.Stores.{raster-stored}
 use Rattle.face.proofs.Laws.{cleaned-sized, cleaned-table}
 use Rattle.face.proofs.store.Statement.{statement}

@@ -4,7 +4,8 @@ use borrow.Author.Tests.{not-true, not-false}
 use native.Mathlib.Omega.{arith}
 use Rattle.block.specs.Block.{stateOf}
 use Rattle.block.proofs.Whole.{long}
-use Rattle.face.proofs.Laws.{layer-bad, layer-unknown, layer-kept}
+use Rattle.step.proofs.Steps.{reading-of}
+use Rattle.face.proofs.Laws.{layer-bad, layer-unknown, layer-frame-kept}
 use Rattle.face.proofs.vdp_layer_step.Statement.{statement}
 use Rattle.face.proofs.vdp_layer_step.Tie as tie
 use Rattle.face.proofs.vdp_layer_step.Reads as reads
@@ -95,20 +96,15 @@ same-length-5 c = search needs
 returns-3 : tie.Need-returns-3
 unfolding stateOf
 returns-3 c =
-    layer-kept (c .before .before .before .before .before .before .before .before .before .before .before .before .before .before .before .before .before .before .before .before .before .before .before .before .before .before .before .before .before .before .args .state .now) (c .before .before .before .before .before .before .before .before .before .before .before .before .before .before .before .before .before .before .before .before .before .before .before .before .before .before .before .before .before .before .args .vram .now) (c .before .before .before .before .before .before .before .before .before .before .before .before .before .before .before .before .before .before .before .before .before .before .before .before .before .before .before .before .before .before .args .frame .now) (c .before .before .before .before .before .before .before .before .before .before .before .before .before .before .before .before .before .before .before .before .before .before .before .before .before .before .before .before .before .before .args .area)
+    layer-frame-kept (c .before .before .before .before .before .before .before .before .before .before .before .before .before .before .before .before .before .before .before .before .before .before .before .before .before .before .before .before .before .before .args .state .now) (c .before .before .before .before .before .before .before .before .before .before .before .before .before .before .before .before .before .before .before .before .before .before .before .before .before .before .before .before .before .before .args .vram .now) (c .before .before .before .before .before .before .before .before .before .before .before .before .before .before .before .before .before .before .before .before .before .before .before .before .before .before .before .before .before .before .args .frame .now) (c .before .before .before .before .before .before .before .before .before .before .before .before .before .before .before .before .before .before .before .before .before .before .before .before .before .before .before .before .before .before .args .area)
     (λ i. omega (arith, c .before .before .before .before .before .before .before .before .before .before .before .before .before .before .before .before .before .before .before .before .before .before .before .before .before .before .before .before .before .slice-known .given i))
     (sym (c .before .before .before .before .before .before .before .before .before .before .before .before .before .before .before .before .before .before .before .before .before .before .before .before .well-formed .ensures) ∙ not-false _ (c .before .before .before .before .before .before .before .before .before .before .before .before .before .before .before .before .before .before .before .before .before .before .before .if1 .left))
     (c .before .before .before .before .before .before .before .before .before .before .before .before .before .before .before .before .before .before .before .before .before .before .if2 .left)
     (c .before .before .before .before .before .before .before .before .before .before .before .area-from .ensures)
-    (record {
-      registers = c .before .before .before .before .before .before .before .before .before .before .before .before .before .before .before .before .before .before .registers .ensures;
-      lines = c .before .before .before .before .before .before .before .before .before .before .before .before .before .before .before .before .raster-in .ensures;
-      bits = refl;
-      cache = c .before .before .before .before .before .before .before .before .before .before .before .before .before .before .before .before .before .before .before .before .colours-of .ensures;
-    })
+    (reading-of (stateOf (c .before .before .before .before .before .before .before .before .before .before .before .before .before .before .before .before .before .before .before .before .before .before .before .before .before .before .before .before .before .before .args .state .now)) (c .before .before .before .before .before .before .before .before .before .before .before .before .before .before .before .before .before .before .registers .ensures) (c .before .before .before .before .before .before .before .before .before .before .before .before .before .before .before .before .raster-in .ensures) refl (c .before .before .before .before .before .before .before .before .before .before .before .before .before .before .before .before .before .before .before .before .colours-of .ensures))
     (c .before .before .before .store .ensures)
     (c .word-of .ensures)
-    _ _ (c .before .before .before .before .before .before .before .before .before .before .before .before .before .before .before .before .before .before .before .before .before .before .before .before .before .before .before .before .before .before .args .layers .now)
+    (c .before .before .before .before .before .before .before .before .before .before .before .before .before .before .before .before .before .before .before .before .before .before .before .before .before .before .before .before .before .before .args .layers .now)
     (c .before .before .before .before .before .before .before .before .before .before .layer-frame-points .ensures)
 
 pub vdp-layer-step-spec : {M : Type 1} → statement M

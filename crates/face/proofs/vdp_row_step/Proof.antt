@@ -4,6 +4,7 @@ use borrow.Author.Tests.{not-true, not-false}
 use native.Mathlib.Omega.{arith}
 use Rattle.block.specs.Block.{stateOf}
 use Rattle.block.proofs.Whole.{long}
+use Rattle.step.proofs.Steps.{reading-of}
 use Rattle.face.proofs.Laws.{row-bad, row-unknown, row-kept}
 use Rattle.face.proofs.vdp_row_step.Statement.{statement}
 use Rattle.face.proofs.vdp_row_step.Tie as tie
@@ -96,12 +97,7 @@ returns-3 c =
     (sym (c .before .before .before .before .before .before .before .before .before .before .before .before .before .before .before .before .before .before .before .before .before .well-formed .ensures) ∙ not-false _ (c .before .before .before .before .before .before .before .before .before .before .before .before .before .before .before .before .before .before .before .before .if1 .left))
     (c .before .before .before .before .before .before .before .before .before .before .before .before .before .before .before .before .before .before .before .if2 .left)
     (c .before .before .before .before .before .before .before .before .before .area-from .ensures)
-    (record {
-      registers = c .before .before .before .before .before .before .before .before .before .before .before .before .before .before .before .registers .ensures;
-      lines = c .before .before .before .before .before .before .before .before .before .before .before .before .before .raster-in .ensures;
-      bits = refl;
-      cache = c .before .before .before .before .before .before .before .before .before .before .before .before .before .before .before .before .before .colours-of .ensures;
-    })
+    (reading-of (stateOf (c .before .before .before .before .before .before .before .before .before .before .before .before .before .before .before .before .before .before .before .before .before .before .before .before .before .before .args .state .now)) (c .before .before .before .before .before .before .before .before .before .before .before .before .before .before .before .registers .ensures) (c .before .before .before .before .before .before .before .before .before .before .before .before .before .raster-in .ensures) refl (c .before .before .before .before .before .before .before .before .before .before .before .before .before .before .before .before .before .colours-of .ensures))
     (c .before .before .before .store .ensures)
     (c .word-of .ensures)
     (c .before .before .before .before .before .before .before .before .row-points .ensures)

@@ -1,9 +1,9 @@
 use borrow.Author.Needs.{needs}
 use native.Mathlib.Omega.{arith}
-use mathlib.Core.Path.{_≡_, sym, _∙_}
 use mathlib.Core.List.{[]}
 use borrow.Author.Tests.{not-true, not-false}
-use Rattle.step.proofs.Steps.{frame-refuses, frame-accepts, frame-plain}
+use Rattle.step.specs.Points.{reading}
+use Rattle.step.proofs.Steps.{frame-refuses, frame-accepts}
 use Rattle.step.proofs.frame_points.Statement.{statement}
 use Rattle.step.proofs.frame_points.Tie as tie
 use Rattle.step.proofs.frame_points.Reads as reads
@@ -26,7 +26,7 @@ same-length c = search needs
 
 -- src/lib.rt:396:9
 returns : tie.Need-returns
-returns c = λ d f. frame-plain _ _ d _ [] (frame-refuses f (c .before .before .before .before .before .before .before .args .area) (c .before .before .before .before .before .before .before .args .vram .now) (c .before .before .before .before .before .before .before .args .frame .now) [] 0 (c .before .before .before .lend .ensures .refused (not-true _ (c .before .if1 .taken))) (c .refused .ensures))
+returns c = frame-refuses (c .before .before .before .before .before .before .before .args .area) (c .before .before .before .before .before .before .before .args .vram .now) (reading (c .before .before .before .before .before .before .before .args .reg) (c .before .before .before .before .before .before .before .args .raster) (c .before .before .before .before .before .before .before .args .status) (c .before .before .before .before .before .before .before .args .colours .now)) (c .before .before .before .before .before .before .before .args .frame .now) [] (c .before .before .before .lend .ensures .refused (not-true _ (c .before .if1 .taken))) (c .refused .ensures)
 
 -- src/lib.rt:405:9
 sub-row-points-into : tie.Need-sub-row-points-into
@@ -55,10 +55,9 @@ same-length-2 c = search needs
 -- src/lib.rt:380:1
 returns-2 : tie.Need-returns-2
 returns-2 c =
-    λ d f.
     let g = not-false _ (c .before .before .before .before .before .before .if1 .left) in
     let l = c .before .before .before .before .before .before .before .before .lend .ensures in
-    frame-plain _ _ d _ _ (frame-accepts f (c .before .before .before .before .before .before .before .before .before .before .before .before .args .area) (c .before .before .before .before .before .before .before .before .before .before .before .before .args .vram .now) (c .before .before .before .before .before .before .before .before .before .before .before .before .args .frame .now) _ (l .memory g) (l .exact g) (l .place g) (l .part g) (c .before .before .before .row-points-into .ensures d f))
+    frame-accepts (c .before .before .before .before .before .before .before .before .before .before .before .before .args .area) (c .before .before .before .before .before .before .before .before .before .before .before .before .args .vram .now) (reading (c .before .before .before .before .before .before .before .before .before .before .before .before .args .reg) (c .before .before .before .before .before .before .before .before .before .before .before .before .args .raster) (c .before .before .before .before .before .before .before .before .before .before .before .before .args .status) (c .before .before .before .before .before .before .before .before .before .before .before .before .args .colours .now)) (c .before .before .before .before .before .before .before .before .before .before .before .before .args .frame .now) _ (l .memory g) (l .exact g) (l .place g) (l .part g) (c .before .before .before .row-points-into .ensures) .0
 
 pub frame-points-spec : {M : Type 1} → statement M
 frame-points-spec =

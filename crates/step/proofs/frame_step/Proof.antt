@@ -1,5 +1,6 @@
 use borrow.Author.Needs.{needs}
 use mathlib.Core.Path.{refl}
+use Rattle.step.proofs.Steps.{reading-of, frame-joined}
 use Rattle.step.proofs.frame_step.Statement.{statement}
 use Rattle.step.proofs.frame_step.Tie as tie
 use Rattle.step.proofs.frame_step.Reads as reads
@@ -26,7 +27,7 @@ same-length c = search needs
 
 -- src/lib.rt:345:1
 returns : tie.Need-returns
-returns c = rw (c .join .ensures) (c .before .before .before .frame-points .ensures (c .before .before .before .before .before .before .before .before .before .before .before .args .vdp) record { registers = refl; lines = refl; bits = refl; cache = c .before .before .before .before .before .before .colours-of .ensures })
+returns c = frame-joined (c .before .before .before .before .before .before .before .before .before .before .before .args .area) (c .before .before .before .before .before .before .before .before .before .before .before .args .vram .now) (c .before .before .before .before .before .before .before .before .before .before .before .args .vdp) (reading-of (c .before .before .before .before .before .before .before .before .before .before .before .args .vdp) refl refl refl (c .before .before .before .before .before .before .colours-of .ensures)) (c .join .ensures) (c .before .before .before .before .before .before .before .before .before .before .before .args .frame .now) (c .before .before .before .frame-points .ensures)
 
 pub frame-step-spec : {M : Type 1} → statement M
 frame-step-spec =

@@ -1,6 +1,7 @@
 use borrow.Author.Needs.{needs}
 use mathlib.Core.Path.{sym}
 use Rattle.laws.specs.Bits.{bit}
+use Rattle.step.specs.Points.{interruptBy}
 use Rattle.step.proofs.interrupt_of.Statement.{statement}
 use Rattle.step.proofs.interrupt_of.Tie as tie
 use Rattle.step.proofs.interrupt_of.Reads as reads
@@ -17,12 +18,12 @@ array-read-if1 c = search needs
 
 -- src/lib.rt:144:9
 returns : tie.Need-returns
-unfolding bit
+unfolding bit interruptBy
 returns c = simp (sym (c .before .line-interrupt-is-up .ensures), c .if1 .taken)
 
 -- src/lib.rt:139:1
 returns-2 : tie.Need-returns-2
-unfolding bit
+unfolding bit interruptBy
 returns-2 c = simp (sym (c .before .line-interrupt-is-up .ensures), c .if1 .left)
 
 pub interrupt-of-spec : {M : Type 1} → statement M

@@ -1,5 +1,6 @@
 use borrow.Author.Needs.{needs}
 use mathlib.Core.Path.{refl}
+use Rattle.step.proofs.Steps.{reading-of, row-layers-joined}
 use Rattle.step.proofs.layer_row_step.Statement.{statement}
 use Rattle.step.proofs.layer_row_step.Tie as tie
 use Rattle.step.proofs.layer_row_step.Reads as reads
@@ -30,7 +31,7 @@ same-length-2 c = search needs
 
 -- src/lib.rt:459:1
 returns : tie.Need-returns
-returns c = rw (c .join .ensures) (c .before .before .before .before .before .layer-row-points .ensures (c .before .before .before .before .before .before .before .before .before .before .before .before .before .before .before .args .vdp) record { registers = refl; lines = refl; bits = refl; cache = c .before .before .before .before .before .before .before .before .before .colours-of .ensures })
+returns c = row-layers-joined (c .before .before .before .before .before .before .before .before .before .before .before .before .before .before .before .args .area) (c .before .before .before .before .before .before .before .before .before .before .before .before .before .before .before .args .vram .now) (c .before .before .before .before .before .before .before .before .before .before .before .before .before .before .before .args .vdp) (reading-of (c .before .before .before .before .before .before .before .before .before .before .before .before .before .before .before .args .vdp) refl refl refl (c .before .before .before .before .before .before .before .before .before .colours-of .ensures)) (c .join .ensures) (c .before .before .before .before .before .before .before .before .before .before .before .before .before .before .before .args .row .now) (c .before .before .before .before .before .before .before .before .before .before .before .before .before .before .before .args .layers .now) (c .before .before .before .before .before .layer-row-points .ensures)
 
 pub layer-row-step-spec : {M : Type 1} → statement M
 layer-row-step-spec =

@@ -7,8 +7,8 @@ use lib.ListN.{length}
 use Rattle.laws.proofs.Tests.{clash}
 use Rattle.raster.specs.declared.Raster.{Raster}
 use Rattle.picture.specs.Area.{frameSize}
-use Rattle.step.specs.Step.{rowOn, exactly}
-use Rattle.step.specs.Frame.{startOf}
+use Rattle.step.specs.Points.{rowOn, exactly}
+use Rattle.step.specs.Bytes.{startOf}
 use Rattle.step.proofs.Rows.{row-in, part-end, frame-small}
 use Rattle.step.proofs.Steps.{first-8, first-size, short-frame, long-frame, not-lent-is}
 use Rattle.step.proofs.lend.Statement.{statement}

@@ -1,5 +1,4 @@
 use borrow.Author.Needs.{needs}
-use Rattle.step.proofs.Steps.{row-plain}
 use Rattle.step.proofs.row_points.Statement.{statement}
 use Rattle.step.proofs.row_points.Tie as tie
 use Rattle.step.proofs.row_points.Reads as reads
@@ -20,7 +19,7 @@ same-length c = search needs
 
 -- src/lib.rt:294:1
 returns : tie.Need-returns
-returns c = λ d f. row-plain _ _ d _ _ (c .before .before .before .row-points-into .ensures d f)
+returns c = c .before .before .before .row-points-into .ensures .0
 
 pub row-points-spec : {M : Type 1} → statement M
 row-points-spec =

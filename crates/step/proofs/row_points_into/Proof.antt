@@ -1,6 +1,7 @@
 use borrow.Author.Needs.{needs}
 use native.Mathlib.Omega.{arith}
 use Rattle.step.proofs.Steps.{row-refuses-8, row-refuses-9, row-accepts}
+use Rattle.step.specs.Points.{reading}
 use Rattle.step.proofs.Rows.{row-in}
 use Rattle.step.proofs.row_points_into.Statement.{statement}
 use Rattle.step.proofs.row_points_into.Tie as tie
@@ -22,7 +23,7 @@ refused-requires c κs = search needs
 
 -- src/lib.rt:263:9
 returns : tie.Need-returns
-returns c = λ d f. row-refuses-8 f (c .before .before .before .before .before .args .area) (c .before .before .before .before .before .args .vram .now) (c .before .before .before .before .before .args .row .now) (c .before .before .before .before .before .args .layers .now) 0 (c .before .if1 .taken) (c .refused .ensures)
+returns c = row-refuses-8 (c .before .before .before .before .before .args .area) (c .before .before .before .before .before .args .vram .now) (reading (c .before .before .before .before .before .args .reg) (c .before .before .before .before .before .args .raster) (c .before .before .before .before .before .args .status) (c .before .before .before .before .before .args .colours .now)) (c .before .before .before .before .before .args .row .now) (c .before .before .before .before .before .args .layers .now) (c .before .if1 .taken) (c .refused .ensures)
 
 -- src/lib.rt:265:9
 row-size-requires : tie.Need-row-size-requires
@@ -34,7 +35,7 @@ refused-requires-2 c κs = search needs
 
 -- src/lib.rt:267:9
 returns-2 : tie.Need-returns-2
-returns-2 c = λ d f. row-refuses-9 f (c .before .before .before .before .before .before .before .args .area) (c .before .before .before .before .before .before .before .args .vram .now) (c .before .before .before .before .before .before .before .args .row .now) (c .before .before .before .before .before .before .before .args .layers .now) 0 (c .before .before .before .if1 .left) (c .before .before .row-size .ensures) (c .before .if2 .taken) (c .refused2 .ensures)
+returns-2 c = row-refuses-9 (c .before .before .before .before .before .before .before .args .area) (c .before .before .before .before .before .before .before .args .vram .now) (reading (c .before .before .before .before .before .before .before .args .reg) (c .before .before .before .before .before .before .before .args .raster) (c .before .before .before .before .before .before .before .args .status) (c .before .before .before .before .before .before .before .args .colours .now)) (c .before .before .before .before .before .before .before .args .row .now) (c .before .before .before .before .before .before .before .args .layers .now) (c .before .before .before .if1 .left) (c .before .before .row-size .ensures) (c .before .if2 .taken) (c .refused2 .ensures)
 
 -- src/lib.rt:269:9
 advance-requires : tie.Need-advance-requires
@@ -74,7 +75,7 @@ same-length-2 c = search needs
 
 -- src/lib.rt:250:1
 returns-3 : tie.Need-returns-3
-returns-3 c = λ d f. row-accepts f (c .before .before .before .before .before .before .before .before .before .before .before .before .before .before .before .before .before .before .before .args .area) (c .before .before .before .before .before .before .before .before .before .before .before .before .before .before .before .before .before .before .before .args .vram .now) (c .before .before .before .before .before .before .before .before .before .before .before .before .before .before .before .before .before .before .before .args .row .now) (c .before .before .before .before .before .before .before .before .before .before .before .before .before .before .before .before .before .before .before .args .layers .now) 0 (c .before .before .before .before .before .before .before .before .before .before .before .before .before .before .before .if1 .left) (c .before .before .before .before .before .before .before .before .before .before .before .before .before .before .row-size .ensures) (c .before .before .before .before .before .before .before .before .before .before .before .before .before .if2 .left) (omega arith) (c .before .before .before .before .before .before .before .before .before .before .before .before .advance .ensures) (c .before .before .before .before .before .before .before .before .before .before .before .row-on .ensures) (c .before .before .before .before .before .before .before .before .draw .ensures .0) (c .before .before .before .before .before .before .before .before .draw .ensures .1 .0) (c .before .before .before .before .before .before .before .before .draw .ensures .1 .1) (c .before .before .before .ended .ensures) (c .before .before .interrupt-of .ensures) (c .before .report-of .ensures) (c .line-interrupt-update .ensures)
+returns-3 c = row-accepts (c .before .before .before .before .before .before .before .before .before .before .before .before .before .before .before .before .before .before .before .args .area) (c .before .before .before .before .before .before .before .before .before .before .before .before .before .before .before .before .before .before .before .args .vram .now) (reading (c .before .before .before .before .before .before .before .before .before .before .before .before .before .before .before .before .before .before .before .args .reg) (c .before .before .before .before .before .before .before .before .before .before .before .before .before .before .before .before .before .before .before .args .raster) (c .before .before .before .before .before .before .before .before .before .before .before .before .before .before .before .before .before .before .before .args .status) (c .before .before .before .before .before .before .before .before .before .before .before .before .before .before .before .before .before .before .before .args .colours .now)) (c .before .before .before .before .before .before .before .before .before .before .before .before .before .before .before .before .before .before .before .args .row .now) (c .before .before .before .before .before .before .before .before .before .before .before .before .before .before .before .before .before .before .before .args .layers .now) (c .before .before .before .before .before .before .before .before .before .before .before .before .before .before .before .if1 .left) (c .before .before .before .before .before .before .before .before .before .before .before .before .before .before .row-size .ensures) (c .before .before .before .before .before .before .before .before .before .before .before .before .before .if2 .left) (c .before .before .before .before .before .before .before .before .before .before .before .before .advance .ensures) (c .before .before .before .before .before .before .before .before .before .before .before .row-on .ensures) (c .before .before .before .before .before .before .before .before .draw .ensures .0) (c .before .before .before .before .before .before .before .before .draw .ensures .1 .0) (c .before .before .before .before .before .before .before .before .draw .ensures .1 .1) (c .before .before .before .ended .ensures) (c .before .before .interrupt-of .ensures) (c .before .report-of .ensures) (c .line-interrupt-update .ensures)
 
 pub row-points-into-spec : {M : Type 1} → statement M
 row-points-into-spec =

@@ -1,73 +1,29 @@
 use borrow.Author.Needs.{needs}
-use borrow.Author.Tests.{eq-eqb, ne-eqb}
 use Rattle.vdp.specs.Ports.{portRead}
 use Rattle.vdp.proofs.VdpState.input.Statement.{statement}
 use Rattle.vdp.proofs.VdpState.input.Tie as tie
 use Rattle.vdp.proofs.VdpState.input.Reads as reads
 use Rattle.vdp.proofs.VdpState.input.Lts as lts
-use Rattle.vdp.proofs.VdpState.read_ram.Reads as read-ram-reads
-use Rattle.vdp.proofs.VdpState.read_status.Reads as read-status-reads
+use Rattle.vdp.proofs.Front.read.Reads as read-reads
+use Rattle.vdp.proofs.VdpState.front.Reads as front-reads
+use Rattle.vdp.proofs.VdpState.with_front.Reads as with-front-reads
 
--- src/lib.rt
-cast-if1 : tie.Need-cast-if1
-cast-if1 c = search needs
+-- src/lib.rt:601:13
+front-requires : tie.Need-front-requires
+front-requires c κs = search needs
 
--- src/lib.rt:384:13
+-- src/lib.rt:602:13
+read-requires : tie.Need-read-requires
+read-requires c κs = search needs
+
+-- src/lib.rt:608:18
+with-front-requires : tie.Need-with-front-requires
+with-front-requires c κs = search needs
+
+-- src/lib.rt:597:5
 returns : tie.Need-returns
 unfolding portRead
-returns c = simp (ne-eqb _ _ (c .if1 .taken))
-
--- src/lib.rt:401:21
-read-status-requires : tie.Need-read-status-requires
-read-status-requires c κs = search needs
-
--- src/lib.rt:402:21
-read-ram-requires : tie.Need-read-ram-requires
-read-ram-requires c κs = search needs
-
--- src/lib.rt:380:5
-returns-2 : tie.Need-returns-2
-unfolding portRead
-returns-2 c = simp (eq-eqb _ _ (c .before .before .if1 .left), c .before .match .keys1)
-
--- src/lib.rt:380:5
-returns-3 : tie.Need-returns-3
-unfolding portRead
-returns-3 c = simp (eq-eqb _ _ (c .before .if1 .left), c .match .keys2)
-
--- src/lib.rt:380:5
-returns-4 : tie.Need-returns-4
-unfolding portRead
-returns-4 c = simp (eq-eqb _ _ (c .before .before .if1 .left), c .before .match .keys3, c .read-status .ensures)
-
--- src/lib.rt:380:5
-returns-5 : tie.Need-returns-5
-unfolding portRead
-returns-5 c = simp (eq-eqb _ _ (c .before .before .if1 .left), c .before .match .keys4, c .read-ram .ensures)
-
--- src/lib.rt:380:5
-returns-6 : tie.Need-returns-6
-unfolding portRead
-returns-6 c =
-    let none = c .match .rest in
-    simp (
-      eq-eqb _ _ (c .before .if1 .left),
-      ne-eqb _ _ (none .0 .0 .0 .1),
-      ne-eqb _ _ (none .0 .0 .1),
-      ne-eqb _ _ (none .0 .1),
-      ne-eqb _ _ (none .1),
-    )
+returns c = simp (c .with-front .ensures, c .before .before .read .ensures, c .before .before .before .front .ensures)
 
 pub input-spec : {M : Type 1} → statement M
-input-spec =
-    tie.close
-    (tie.spec
-    cast-if1
-    returns
-    read-status-requires
-    read-ram-requires
-    returns-2
-    returns-3
-    returns-4
-    returns-5
-    returns-6)
+input-spec = tie.close (tie.spec front-requires read-requires with-front-requires returns)

@@ -1,76 +1,90 @@
 use borrow.Author.Needs.{needs}
-use borrow.Author.Tests.{eq-eqb, ne-eqb}
-use Rattle.vdp.specs.Ports.{portWrite}
+use Prim.Native.Nat.{ℕ}
+use mathlib.Core.Path.{_≡_, ap, _∙_}
+use mathlib.Core.Bool.{true, false}
+use mathlib.Core.List.{List}
+use Rattle.vdp.specs.declared.VdpState.{VdpState}
+use Rattle.vdp.specs.declared.Front.{Front}
+use Rattle.vdp.specs.declared.FrontWritten.{FrontWritten}
+use Rattle.vdp.specs.Device.{frontOf, withFront}
+use Rattle.vdp.specs.Ports.{frontWrite, answered, paletteWrite, writtenBy, portWrite}
+use Rattle.vdp.proofs.Kept.{inside}
 use Rattle.vdp.proofs.VdpState.out.Statement.{statement}
 use Rattle.vdp.proofs.VdpState.out.Tie as tie
 use Rattle.vdp.proofs.VdpState.out.Reads as reads
 use Rattle.vdp.proofs.VdpState.out.Lts as lts
-use Rattle.vdp.proofs.VdpState.write_cmd.Reads as write-cmd-reads
-use Rattle.vdp.proofs.VdpState.write_ram.Reads as write-ram-reads
+use Rattle.vdp.proofs.Front.write.Reads as write-reads
+use Rattle.vdp.proofs.VdpState.front.Reads as front-reads
+use Rattle.vdp.proofs.VdpState.with_front.Reads as with-front-reads
+use Rattle.vdp.proofs.VdpState.write_palette.Reads as write-palette-reads
 
--- src/lib.rt
-cast-if1 : tie.Need-cast-if1
-cast-if1 c = search needs
+-- the front's answer, on the device: for the palette, and not
+module _ (s : VdpState) (m : List ℕ) (p v : ℕ) {f : Front} {r : FrontWritten} (e : f ≡ frontOf s) (w : r ≡ frontWrite 64 f m p v .answer) where
+  told : writtenBy s v r ≡ portWrite s m p v .answer
+  unfolding portWrite
+  told = ap (writtenBy s v) (w ∙ ap (λ (g : Front). frontWrite 64 g m p v .answer) e)
 
--- src/lib.rt:364:13
-returns : tie.Need-returns
-unfolding portWrite
-returns c =
-    let n = ne-eqb _ _ (c .if1 .taken) in
-    record { answer = simp n; memory = simp n }
+  memory : {m′ : List ℕ} → m′ ≡ frontWrite 64 f m p v .vram → m′ ≡ portWrite s m p v .vram
+  unfolding portWrite
+  memory h = h ∙ ap (λ (g : Front). frontWrite 64 g m p v .vram) e
 
--- src/lib.rt:370:21
-write-cmd-requires : tie.Need-write-cmd-requires
-write-cmd-requires c κs = search needs
+  to-palette : r .palette ≡ true → paletteWrite (withFront s (r .front)) v ≡ portWrite s m p v .answer
+  to-palette t = rw t at told
 
--- src/lib.rt:371:21
-write-ram-requires : tie.Need-write-ram-requires
-write-ram-requires c κs = search needs
+  to-front : r .palette ≡ false → answered (r .refusal) (withFront s (r .front)) ≡ portWrite s m p v .answer
+  to-front t = rw t at told
 
--- src/lib.rt:359:5
+-- src/lib.rt:582:13
+front-requires : tie.Need-front-requires
+front-requires c κs = search needs
+
+-- src/lib.rt:583:13
+write-requires : tie.Need-write-requires
+write-requires c κs = search needs
+
+-- src/lib.rt:585:13
+with-front-requires : tie.Need-with-front-requires
+with-front-requires c κs = search needs
+
+-- src/lib.rt:587:13
+write-palette-requires : tie.Need-write-palette-requires
+write-palette-requires c κs = rw (c .before .with-front .ensures) (inside 64 _ _ _ _ _ (c .before .before .before .before .before .write .ensures .answer) (c .if1 .taken))
+
+-- src/lib.rt:587:13
 same-length : tie.Need-same-length
 same-length c = search needs
 
--- src/lib.rt:359:5
-returns-2 : tie.Need-returns-2
-unfolding portWrite
-returns-2 c =
-    let k = c .before .before in
-    let n = eq-eqb _ _ (k .before .if1 .left) in
-    record { answer = simp (c .write-cmd .ensures, n, k .match .keys1); memory = simp (n, k .match .keys1) }
+-- src/lib.rt:587:13
+returns : tie.Need-returns
+returns c =
+    let w = c .before .before .before .before .before .before .write .ensures in
+    record {
+      answer = rw (c .write-palette .ensures, c .before .before .with-front .ensures) (to-palette (c .before .before .before .before .before .before .before .before .before .before .args .self) _ _ _ (c .before .before .before .before .before .before .before .before .front .ensures) (w .answer) (c .before .if1 .taken));
+      memory = memory (c .before .before .before .before .before .before .before .before .before .before .args .self) _ _ _ (c .before .before .before .before .before .before .before .before .front .ensures) (w .answer) (w .memory);
+    }
 
--- src/lib.rt:359:5
+-- src/lib.rt:579:5
 same-length-2 : tie.Need-same-length-2
 same-length-2 c = search needs
 
--- src/lib.rt:359:5
-returns-3 : tie.Need-returns-3
-unfolding portWrite
-returns-3 c =
-    let w = c .before .before in
-    let k = w .before .before in
-    let n = eq-eqb _ _ (k .before .if1 .left) in
-    record { answer = simp (w .write-ram .ensures .0, n, k .match .keys2); memory = simp (w .write-ram .ensures .1, n, k .match .keys2) }
-
--- src/lib.rt:359:5
-returns-4 : tie.Need-returns-4
-unfolding portWrite
-returns-4 c =
-    let n = eq-eqb _ _ (c .before .if1 .left) in
-    let f = ne-eqb _ _ (c .match .rest .0 .1) in
-    let g = ne-eqb _ _ (c .match .rest .1) in
-    record { answer = simp (n, f, g); memory = simp (n, f, g) }
+-- src/lib.rt:579:5
+returns-2 : tie.Need-returns-2
+returns-2 c =
+    let w = c .before .before .before .before .before .write .ensures in
+    record {
+      answer = rw (c .before .with-front .ensures) (to-front (c .before .before .before .before .before .before .before .before .before .args .self) _ _ _ (c .before .before .before .before .before .before .before .front .ensures) (w .answer) (c .if1 .left));
+      memory = memory (c .before .before .before .before .before .before .before .before .before .args .self) _ _ _ (c .before .before .before .before .before .before .before .front .ensures) (w .answer) (w .memory);
+    }
 
 pub out-spec : {M : Type 1} → statement M
 out-spec =
     tie.close
     (tie.spec
-    cast-if1
-    returns
-    write-cmd-requires
-    write-ram-requires
+    front-requires
+    write-requires
+    with-front-requires
+    write-palette-requires
     same-length
-    returns-2
+    returns
     same-length-2
-    returns-3
-    returns-4)
+    returns-2)

@@ -1,0 +1,369 @@
+-- The handheld is a lawful machine, and what the demands say of it.
+-- Assumes nothing.
+use mathlib.Core.Path.{_≡_, refl, sym, _∙_, ap, subst}
+use mathlib.Core.Logic.{_↔_, _≢_, _⊎_, inl, inr, ⊎-elim}
+use mathlib.Core.Bool.{Bool, true, false, cond, not, _&&_}
+use mathlib.Core.List.{List, [], _∷_}
+use Prim.Native.Nat.{ℕ, suc, _+_, _*_, _≤_, _<_}
+use native.Mathlib.Omega.{arith}
+use lib.Dec.{eqb, ltb}
+use lib.ListN.{length, set, List·getD-eq-default}
+use lib.Seq.{getD-set-other}
+use borrow.Author.Tests.{eq-eqb, eqb-true, ltb-true, ltb-false, not-true}
+use Rattle.laws.specs.Bits.{bit}
+use Rattle.laws.specs.Lists.{at, rowOf}
+use Rattle.laws.proofs.Tests.{either, split, both}
+use Rattle.colour.specs.Colour.{colour, coloursOf}
+use Rattle.colour.proofs.Laws.{colours-at, length-colours}
+use Rattle.picture.specs.declared.RenderArea.{RenderArea}
+use Rattle.picture.specs.declared.RenderArea.the-variants.{VisibleOnly, EffectiveArea, TrueEdges}
+use Rattle.picture.specs.Area.{columns, rows, firstLine, rowSize, pictureOf, rowBytes}
+use Rattle.raster.specs.declared.LineTable.{LineTable}
+use Rattle.raster.specs.declared.LineTable.the-variants.{Steps261, Steps262}
+use Rattle.raster.specs.Raster.{jumpLine, jumpTo, advanced, lineInterrupt, ticked}
+use Rattle.vdp.specs.declared.VdpState.{VdpState}
+use Rattle.vdp.specs.declared.Refusal.{Refusal}
+use Rattle.vdp.specs.declared.Refusal.the-variants.{Accepted, LayerLength}
+use Rattle.vdp.specs.Refusals.{refusalNumber, Line, first, size, isPort, writeLines, readLines}
+use Rattle.vdp.specs.Ports.{portWrite, portRead}
+use Rattle.vdp.proofs.Exact.{write-exact, read-exact}
+use Rattle.vdp.proofs.Invariant.{Aimed, write-aimed, read-aimed}
+use Rattle.vdp.proofs.Tables.{Refusing, refuses, under-either}
+use Rattle.pixel.specs.Pixel.{pixelLines}
+use Rattle.step.specs.declared.Stepped.{Stepped}
+use Rattle.step.specs.declared.VdpInt.the-variants.{InterruptGenerated}
+use Rattle.step.specs.declared.DisplayRefresh.{DisplayRefresh}
+use Rattle.step.specs.declared.DisplayRefresh.the-variants.{NoDisplay, ScreenDone, ScreenDoneNoRefresh}
+use Rattle.step.specs.declared.DrawnRow.the-variants.{Drawn}
+use Rattle.step.specs.Points.{reportBy}
+use Rattle.step.specs.Step.{register, lineOf, counterUp, rowOn, stepped, refusedStep, rowLines, frameLines, stepWith, rowStep, frameStep}
+use Rattle.step.specs.Frame.{frameAfter, FrameStepLeaves}
+use Rattle.step.specs.Layers.{alsoLayers}
+use Rattle.step.specs.Dump.{dumpLines}
+use Rattle.step.proofs.Kept.{write-keeps, read-keeps}
+use Rattle.step.proofs.Laws.{stepped-row, stepped-report, stepped-raster, stepped-addr, stepped-dest, row-refusing, frame-refusing, step-accepted, step-exact, dump-exact, frame-fits, frame-memory, frame-step-length, frame-step-other, frame-step-here}
+use Rattle.step.proofs.Pixels.{pixel-exact}
+use Rattle.face.proofs.Exact.{none, never}
+use Rattle.tiles.specs.Calls.{readTileLines, writeTileLines, readTileRefusal, writeTileRefusal}
+use Rattle.demands.specs.Machine.{Told}
+use Rattle.demands.specs.Handheld.{Call, out, input, frame-step, row-step, layer-frame-step, layer-row-step, dump-tileset, pixel-at, write-tile, read-tile, layerFrameStep, layerRowStep, after, refusalOf, told, Steps, handheld}
+use Rattle.demands.specs.Pass.{NoStepOn, Run, pass, ready, answer, lineSet, frameAt, Demand3}
+use Rattle.demands.specs.Rows.{lastTwice, EffectiveRows}
+use Rattle.demands.specs.Split.{Moment, Split, ColourSplit, Ninety, OnlyColour, Twins, Changed}
+use Rattle.demands.specs.Shows.{SameUntil, WriteShows}
+use Rattle.demands.proofs.Counter.{line}
+use Rattle.demands.proofs.Lines.{line-next}
+use Rattle.demands.proofs.Lawful.{stays, ticks, Clean, Left, Lawful}
+use Rattle.demands.proofs.Demand3.{line-of, same-length, rows-drawn, demand3}
+use Rattle.demands.proofs.Split.{goes-on, set-row, colour-split, changed}
+use Rattle.demands.proofs.Shows.{write-shows}
+use Rattle.demands.proofs.Steps.{colours-now, stepped-clean, line-alone, is-stepped, refused-raster, frame-taken}
+
+-- ---- a call
+-- what only reads the device leaves it
+unmoved : (d : VdpState) → Left handheld d d
+unmoved d = record { moved = stays refl; clean = λ k. k; aimed = λ k. k }
+
+step-left : (ls : List Line) (a : RenderArea) (vram : List ℕ) (d : VdpState) → Left handheld d (stepWith ls a vram d .vdp)
+unfolding stepWith
+step-left ls a vram d = under-either LeftBy ls (λ r. refusedStep r d) (stepped a vram d) (λ _. unmoved d) (λ _. took)
+  where
+    LeftBy : Stepped → Type 0
+    LeftBy s = Left handheld d (s .vdp)
+
+    took : Left handheld d (stepped a vram d .vdp)
+    took =
+        record {
+          moved = ticks (stepped-raster a vram d);
+          clean = stepped-clean a vram d;
+          aimed = λ k. rw (stepped-addr a vram d, stepped-dest a vram d) k;
+        }
+
+left : (c : Call) (d : VdpState) → Left handheld d (after c d)
+unfolding after
+left (out p v m) d =
+    let k = write-keeps d m p v in
+    record { moved = stays (k .raster); clean = k .clean; aimed = write-aimed d m p v }
+left (input p m) d =
+    let k = read-keeps d m p in
+    record { moved = stays (k .raster); clean = k .clean; aimed = read-aimed d m p }
+left (frame-step a vram n) d = step-left (frameLines a vram n) a vram d
+left (row-step a vram n) d = step-left (rowLines a vram n) a vram d
+left (layer-frame-step a vram n l) d = step-left (alsoLayers (columns a) l (frameLines a vram n)) a vram d
+left (layer-row-step a vram n l) d = step-left (alsoLayers (columns a) l (rowLines a vram n)) a vram d
+left (dump-tileset vram n) d = unmoved d
+left (pixel-at a vram y x) d = unmoved d
+left (write-tile vram n codes) d = unmoved d
+left (read-tile vram n k) d = unmoved d
+
+quiet : (c : Call) (d : VdpState) → NoStepOn handheld d c → after c d .raster ≡ d .raster
+unfolding after
+quiet (out p v m) d n = write-keeps d m p v .raster
+quiet (input p m) d n = read-keeps d m p .raster
+quiet (frame-step a vram k) d n = refused-raster (frameLines a vram k) a vram d (λ e. n (told (frameStep a vram k d)) (refl, e))
+quiet (row-step a vram k) d n = refused-raster (rowLines a vram k) a vram d (λ e. n (told (rowStep a vram k d)) (refl, e))
+quiet (layer-frame-step a vram k l) d n =
+    refused-raster (alsoLayers (columns a) l (frameLines a vram k)) a vram d (λ e. n (told (layerFrameStep a vram k l d)) (refl, e))
+quiet (layer-row-step a vram k l) d n =
+    refused-raster (alsoLayers (columns a) l (rowLines a vram k)) a vram d (λ e. n (told (layerRowStep a vram k l d)) (refl, e))
+quiet (dump-tileset vram k) d n = refl
+quiet (pixel-at a vram y x) d n = refl
+quiet (write-tile vram k codes) d n = refl
+quiet (read-tile vram k l) d n = refl
+
+-- ---- an accepted step is one of the definition, in some area and with some video memory
+record Is (d : VdpState) (s : Told VdpState) : Type 0 where
+  area : RenderArea
+  vram : List ℕ
+  is : s ≡ told (stepped area vram d)
+
+accepted :
+    (ls : List Line) (a : RenderArea) (vram : List ℕ) (d : VdpState) (s : Told VdpState) → Refusing ls → s ≡ told (stepWith ls a vram d) → s .refusal ≡ Accepted → Is d s
+accepted ls a vram d s q e ok =
+    record { area = a; vram = vram; is = e ∙ ap told (is-stepped ls a vram d q (sym (ap (λ (x : Told VdpState). x .refusal) e) ∙ ok)) }
+
+-- the line of the layers refuses too
+also-refusing : (least size : ℕ) (ls : List Line) → Refusing ls → Refusing (alsoLayers least size ls)
+also-refusing least size [] q = (refuses LayerLength (λ z. omega arith), tt)
+also-refusing least size (l ∷ ls) q = (q .0, also-refusing least size ls (q .1))
+
+is-step : (c : Call) (d : VdpState) (s : Told VdpState) → Steps c d s → Is d s
+is-step (out p v m) d s e = absurd e
+is-step (input p m) d s e = absurd e
+is-step (frame-step a vram n) d s e = accepted (frameLines a vram n) a vram d s (frame-refusing a vram n) (e .0) (e .1)
+is-step (row-step a vram n) d s e = accepted (rowLines a vram n) a vram d s (row-refusing a vram n) (e .0) (e .1)
+is-step (layer-frame-step a vram n l) d s e =
+    accepted (alsoLayers (columns a) l (frameLines a vram n)) a vram d s (also-refusing (columns a) l (frameLines a vram n) (frame-refusing a vram n)) (e .0) (e .1)
+is-step (layer-row-step a vram n l) d s e =
+    accepted (alsoLayers (columns a) l (rowLines a vram n)) a vram d s (also-refusing (columns a) l (rowLines a vram n) (row-refusing a vram n)) (e .0) (e .1)
+is-step (dump-tileset vram n) d s e = absurd e
+is-step (pixel-at a vram y x) d s e = absurd e
+is-step (write-tile vram n codes) d s e = absurd e
+is-step (read-tile vram n k) d s e = absurd e
+
+raster-by : (d : VdpState) (s : Told VdpState) → Is d s → s .device .raster ≡ ticked (register d) (d .raster)
+raster-by d s i = ap (λ (x : Told VdpState). x .device .raster) (i .is) ∙ stepped-raster (i .area) (i .vram) d
+
+interrupt-by :
+    (d : VdpState) (s : Told VdpState) → Is d s → bit (register d 1) 5 ≡ false →
+    (s .interrupt ≡ InterruptGenerated) ↔ (lineInterrupt (register d) (advanced (register d) (d .raster)) ≡ true)
+interrupt-by d s i off =
+    subst (λ (x : Told VdpState). (x .interrupt ≡ InterruptGenerated) ↔ (lineInterrupt (register d) (advanced (register d) (d .raster)) ≡ true)) (sym (i .is))
+    (line-alone (i .area) (i .vram) d off)
+
+-- ---- refusal 7
+abbrev NotSeven : Refusal → Type 0
+NotSeven r = refusalNumber r ≢ 7
+
+-- a table of which no line that holds gives 7
+abbrev Silent : List Line → Type 0
+Silent [] = Unit {0}
+Silent (l ∷ ls) = (l .holds ≡ true → NotSeven (l .refusal)) × Silent ls
+
+first-not : (ls : List Line) → Silent ls → NotSeven (first ls)
+first-not [] s = omega arith
+first-not (l ∷ ls) s = either NotSeven (l .holds) (s .0) (λ _. first-not ls (s .1))
+
+module _ (d : VdpState) (m : List ℕ) (p : ℕ) (aimed : Aimed d) where
+  -- the line of 7 does not hold
+  inside : (b : Bool) → (b && not (ltb (d .addr) (size (d .dest)))) ≡ true → ⊥
+  inside b e =
+      let out = not-true (ltb (d .addr) (size (d .dest))) (both b (not (ltb (d .addr) (size (d .dest)))) e .1) in
+      omega (arith, ltb-false (d .addr) (size (d .dest)) out)
+
+  write-not : (v : ℕ) → NotSeven (portWrite d m p v .answer .refusal)
+  write-not v =
+      rw (write-exact d m p v)
+      (first-not (writeLines d m p v)
+      (λ _. omega arith, (λ _. omega arith, (λ _. omega arith, (λ _. omega arith, (λ e. absurd (inside (isPort 0xBE p) e), (λ _. omega arith, tt)))))))
+
+  read-not : NotSeven (portRead d m p .refusal)
+  read-not =
+      rw (read-exact d m p)
+      (first-not (readLines d m p)
+      (λ _. omega arith, (λ _. omega arith, (λ _. omega arith, (λ _. omega arith, (λ _. omega arith, (λ e. absurd (inside (isPort 0xBE p) e), tt)))))))
+
+-- a table that has no line of 7
+without : (ls : List Line) → none 7 ls ≡ true → NotSeven (first ls)
+without ls h = never 7 ls (λ z. omega arith) h
+
+step-not : (ls : List Line) (a : RenderArea) (vram : List ℕ) (d : VdpState) → none 7 ls ≡ true → NotSeven (stepWith ls a vram d .refusal)
+step-not ls a vram d h = rw (step-exact ls a vram d) (without ls h)
+
+pub not-seven : (c : Call) (d : VdpState) → Aimed d → NotSeven (refusalOf c d)
+unfolding refusalOf readTileRefusal writeTileRefusal
+not-seven (out p v m) d h = write-not d m p h v
+not-seven (input p m) d h = read-not d m p h
+not-seven (frame-step a vram n) d h = step-not (frameLines a vram n) a vram d refl
+not-seven (row-step a vram n) d h = step-not (rowLines a vram n) a vram d refl
+not-seven (layer-frame-step a vram n l) d h = step-not (alsoLayers (columns a) l (frameLines a vram n)) a vram d refl
+not-seven (layer-row-step a vram n l) d h = step-not (alsoLayers (columns a) l (rowLines a vram n)) a vram d refl
+not-seven (dump-tileset vram n) d h = rw (dump-exact vram n) (without (dumpLines vram n) refl)
+not-seven (pixel-at a vram y x) d h = rw (pixel-exact a vram d y x) (without (pixelLines vram) refl)
+not-seven (write-tile vram n codes) d h = without (writeTileLines vram n codes) refl
+not-seven (read-tile vram n k) d h = without (readTileLines vram n k) refl
+
+-- ---- the screen end is reported by the step that sets line C1, and by no other
+end-line : (d : VdpState) → (lineOf d ≡ 193) ↔ (reportBy (d .reg) (lineOf d) ≢ NoDisplay)
+unfolding reportBy
+end-line d = (there, λ f. back (eqb (lineOf d) 193) refl f)
+  where
+    told : (b : Bool) → cond b ScreenDone ScreenDoneNoRefresh ≢ NoDisplay
+    told true e = let z : _≡_ {A = ℕ} 0 1 = cc in omega arith
+    told false e = let z : _≡_ {A = ℕ} 0 1 = cc in omega arith
+
+    there : lineOf d ≡ 193 → reportBy (d .reg) (lineOf d) ≢ NoDisplay
+    there e = rw (eq-eqb (lineOf d) 193 e) (told (bit (register d 1) 6))
+
+    back :
+        (b : Bool) → eqb (lineOf d) 193 ≡ b →
+        cond b (cond (bit (register d 1) 6) ScreenDone ScreenDoneNoRefresh) NoDisplay ≢ NoDisplay → lineOf d ≡ 193
+    back true e f = eqb-true (lineOf d) 193 e
+    back false e f = absurd (f refl)
+
+-- ---- the step on a frame
+module _ (a : RenderArea) (vram : List ℕ) (n : ℕ) (d : VdpState) (ok : frameStep a vram n d .refusal ≡ Accepted) where
+  took : frameStep a vram n d ≡ stepped a vram d
+  took = step-accepted (frameLines a vram n) a vram d (frame-taken a vram n d ok)
+
+  row-is : frameStep a vram n d .row ≡ rowOn a (line (d .raster))
+  unfolding advanced
+  row-is = ap (λ (s : Stepped). s .row) took ∙ stepped-row a vram d refl
+
+  report-is : (line (d .raster) ≡ 193) ↔ (frameStep a vram n d .report ≢ NoDisplay)
+  unfolding advanced
+  report-is =
+      subst (λ (x : DisplayRefresh). (line (d .raster) ≡ 193) ↔ (x ≢ NoDisplay)) (sym (ap (λ (s : Stepped). s .report) took ∙ stepped-report a vram d))
+      (end-line (counterUp d))
+
+module _ (a : RenderArea) (vram : List ℕ) (d : VdpState) (frame : List ℕ) (y : ℕ) where
+  other : rowOn a (line (d .raster)) ≢ Drawn y → rowOf (rowSize a) y (frameAfter a vram d frame) ≡ rowOf (rowSize a) y frame
+  unfolding advanced
+  other n = frame-step-other a vram d frame y n
+
+  own-row :
+      frameStep a vram (length frame) d .refusal ≡ Accepted → Clean handheld d → rowOn a (line (d .raster)) ≡ Drawn y →
+      rowOf (rowSize a) y (frameAfter a vram d frame)
+      ≡ rowBytes (coloursOf (d .cram)) (columns a) (pictureOf a (d .reg) (advanced (register d) (d .raster) .«vertical_scroll») vram y)
+  unfolding advanced
+  own-row ok k e =
+      let p = frame-taken a vram (length frame) d ok in
+      frame-step-here a vram d frame y (frame-memory a vram (length frame) p) (frame-fits a vram (length frame) p) e
+      ∙ rw (colours-now (counterUp d) k)
+
+pub handheld-lawful : Lawful handheld
+unfolding after
+handheld-lawful =
+    record {
+      made-raster = λ t. refl;
+      made-dirty = λ t. refl;
+      made-aimed = λ t. omega arith;
+      left = left;
+      quiet = quiet;
+      step-raster = λ c d s e. raster-by d s (is-step c d s e);
+      step-interrupt = λ c d s e. interrupt-by d s (is-step c d s e);
+      no-seven = not-seven;
+      frame-is = λ a vram n d ok. (refl, ok);
+      frame-left = λ a vram n d. refl;
+      frame-row = row-is;
+      frame-report = report-is;
+      frame-size = λ a vram n d ok. frame-fits a vram n (frame-taken a vram n d ok);
+      frame-length = frame-step-length;
+      frame-other = other;
+      frame-here = own-row;
+    }
+
+-- ---- what the demands say of it
+-- each step of a run is one of the definition
+pub steps : {a : RenderArea} (r : Run handheld a) (i : ℕ) → answer r i ≡ told (stepped a (r .vram i) (ready r i))
+unfolding answer
+steps {a} r i = ap told (took a (r .vram i) (length (r .frame)) (ready r i) (r .accepted i (ready r i)))
+
+-- what the frame step's contract says of each step of a run
+pub by-contract :
+    {a : RenderArea} (r : Run handheld a) (i : ℕ) (s : Stepped) → FrameStepLeaves a (r .vram i) (ready r i) (frameAt r i) s (frameAt r (suc i)) →
+    told s ≡ answer r i
+unfolding answer
+by-contract {a} r i s leaves = ap told (leaves .answer) ∙ ap (λ (n : ℕ). told (frameStep a (r .vram i) n (ready r i))) (same-length handheld-lawful r i)
+
+-- the visible area: 144 rows of 640 bytes, from line 24
+pub demand3-visible : (r : Run handheld VisibleOnly) → Demand3 r
+demand3-visible r = demand3 handheld-lawful r (omega arith)
+
+-- the same with true edges
+pub demand3-edges : (r : Run handheld TrueEdges) → Demand3 r
+demand3-edges r = demand3 handheld-lawful r (omega arith)
+
+-- the effective area: rows 213 to 217 or to 218 twice, every other once
+pub effective-rows : (r : Run handheld EffectiveArea) → EffectiveRows r
+effective-rows r =
+    record {
+      twice = λ y l u. rows-drawn handheld-lawful r .twice y (omega (arith, to-jump (r .table))) (omega arith) (omega (arith, to-jump (r .table)));
+      once = λ y h out. rows-drawn handheld-lawful r .once y h (⊎-elim (λ l. inl (omega arith)) (λ l. inr (omega (arith, to-jump (r .table)))) out);
+    }
+  where
+    to-jump : (t : LineTable) → (suc (lastTwice t) ≡ jumpLine t) × (lastTwice t < 224)
+    to-jump Steps261 = (refl, omega arith)
+    to-jump Steps262 = (refl, omega arith)
+
+visible-once : firstLine VisibleOnly + rows VisibleOnly ≤ jumpTo
+visible-once = omega arith
+
+pub colour-split-visible : {r : Run handheld VisibleOnly} {L : ℕ} {old new : List ℕ} (s : Split r L old new) → ColourSplit s
+colour-split-visible s = colour-split handheld-lawful s visible-once
+
+pub changed-visible :
+    {r r₀ : Run handheld VisibleOnly} {L : ℕ} {old new : List ℕ} → Twins r r₀ → Split r L old new → ((i : ℕ) → i < pass r → ready r₀ i .cram ≡ old) →
+    (c : ℕ) → OnlyColour handheld c old new → Changed r r₀ L c old new
+changed-visible t s kept c only = changed handheld-lawful t visible-once s kept c only
+
+-- the same with true edges
+pub colour-split-edges : {r : Run handheld TrueEdges} {L : ℕ} {old new : List ℕ} (s : Split r L old new) → ColourSplit s
+colour-split-edges s = colour-split handheld-lawful s visible-once
+
+pub changed-edges :
+    {r r₀ : Run handheld TrueEdges} {L : ℕ} {old new : List ℕ} → Twins r r₀ → Split r L old new → ((i : ℕ) → i < pass r → ready r₀ i .cram ≡ old) →
+    (c : ℕ) → OnlyColour handheld c old new → Changed r r₀ L c old new
+changed-edges t s kept c only = changed handheld-lawful t visible-once s kept c only
+
+-- the author's own line
+pub ninety : {r : Run handheld VisibleOnly} {old new : List ℕ} (s : Split r 90 old new) → Ninety s
+ninety {r} s =
+    let c = colour-split-visible s in
+    let out : (lineSet r 0 ≤ 90) ⊎ (91 < lineSet r 0) = ⊎-elim (λ o. inl (o .1)) (λ o. inr (omega (arith, o .0))) (s .moment .from-top) in
+    let on : s .moment .step + 1 < pass r = goes-on handheld-lawful r (s .moment .step) 90 91 (s .moment .in-pass) (s .moment .sets) (omega arith) (omega arith) out in
+    let n : suc (s .moment .step) < pass r = omega arith in
+    let next : lineSet r (suc (s .moment .step)) ≡ 91 =
+    line-of handheld-lawful r (suc (s .moment .step)) ∙ line-next (ready r (suc (s .moment .step)) .raster) 90 (c .reads) (omega arith) in
+    record {
+      row-66 = c .keeps (s .moment .step) 66 (s .moment .in-pass) (set-row handheld-lawful r (s .moment .step) 66 (omega arith) (s .moment .sets)) (omega arith);
+      row-67 = c .changes (suc (s .moment .step)) 67 n (set-row handheld-lawful r (suc (s .moment .step)) 67 (omega arith) next) (omega arith);
+    }
+
+-- a write
+pub write-shows-visible : {r : Run handheld VisibleOnly} {L : ℕ} (m : Moment r L) (r₀ : Run handheld VisibleOnly) → SameUntil r r₀ (m .step) → WriteShows m r₀
+write-shows-visible m r₀ same = write-shows handheld-lawful m r₀ same (omega arith)
+
+-- ---- colours
+-- the two palette bytes of colour c make no other colour
+past-colours : (p : List ℕ) (n : ℕ) → 32 ≤ n → at (coloursOf p) n ≡ 0
+past-colours p n h = List·getD-eq-default (coloursOf p) 0 (omega (arith, length-colours p))
+
+pub other-colours : (c : ℕ) (p : List ℕ) (low high : ℕ) → OnlyColour handheld c p (set (set p (2 * c) low) (2 * c + 1) high)
+other-colours c p low high n d =
+    split (ltb n 32)
+    (λ t.
+    let h : n < 32 = ltb-true n 32 t in
+    colours-at new n h
+    ∙ ap (λ (b : ℕ). colour b (at new (2 * n + 1))) (same (2 * n) (λ e. omega arith) (λ e. omega arith))
+    ∙ ap (λ (b : ℕ). colour (at p (2 * n)) b) (same (2 * n + 1) (λ e. omega arith) (λ e. omega arith))
+    ∙ sym (colours-at p n h))
+    (λ t.
+    let h : 32 ≤ n = ltb-false n 32 t in
+    past-colours new n h ∙ sym (past-colours p n h))
+  where
+    new : List ℕ
+    new = set (set p (2 * c) low) (2 * c + 1) high
+
+    same : (k : ℕ) → k ≢ 2 * c → k ≢ 2 * c + 1 → at new k ≡ at p k
+    same k a b = getD-set-other (set p (2 * c) low) (2 * c + 1) k high 0 b ∙ getD-set-other p (2 * c) k low 0 a
