@@ -1,19 +1,20 @@
 #!/usr/bin/env bash
 # handbook.sh: every trace of docs/HANDBOOK.md made anew from the bytes that stand there, run by either line table and compared with the lines beside them;
-# that each refusal from 1 to 6 has a section of its own, which shows it, and 7 none; and that the theorem which is named there is the one that is proved.
+# that each refusal from 1 to 6 has a section of its own, which shows it, and 7 none; every other command of the page run again, with its pictures; when each
+# write shows and which lines interrupt, asked of the library at every reading of a pass; and that the theorems and definitions which are named are there.
 set -u
 cd "$(dirname "$0")/.."
 . tools/cross.sh
-[ -x build/bin/trace ] && [ -x build/bin/trace-261 ] || make --no-print-directory build || exit 1
+[ -x build/bin/trace ] && [ -x build/bin/trace-261 ] && [ -x build/bin/desk ] && [ -e build/native/libvdp.so ] || make --no-print-directory build desk || exit 1
 work=build/test/handbook
 rm -rf $work
 mkdir -p $work
 . tools/tell.sh
 book=docs/HANDBOOK.md
 
-# Of each section its rows `| bytes | line | .. |`: the bytes to N.hex, the lines and their number to N.text. Section 7 is the one that tells why there is none.
+# Of each section on a refusal its rows `| bytes | line | .. |`: the bytes to N.hex, the lines and their number to N.text. Section 7 tells why there is none.
 awk -v work=$work -F ' *[|] *' '
-    /^## / { n = $0 ~ /^## [0-9]+[.]/ ? substr($0, 4) + 0 : 7; print n > (work "/sections") }
+    /^## / { n = $0 ~ /^## [0-9]+[.]/ ? substr($0, 4) + 0 : $0 == "## Why there is no 7" ? 7 : 0; if (n) print n > (work "/sections") }
     n && $2 ~ /^([0-9A-F][0-9A-F] ?)+$/ { print $2 > (work "/" n ".hex"); print $3 > (work "/" n ".text"); rows[n]++ }
     END { for (n in rows) print "end " rows[n] > (work "/" n ".text") }
 ' $book
@@ -48,5 +49,63 @@ for both in 'never-seven NeverSeven' 'face-never-seven FaceNeverSeven'; do
     grep -q "\`$theorem\`" $book && grep -qE "^pub $theorem : .*→ $statement " crates/demands/proofs/Seven.antt && grep -q "^pub record $statement " crates/demands/specs/Seven.antt
     tell "$theorem is proved by that name" $?
 done
+
+# When a write shows: what stands in brackets on that part of the page is a theorem, a field of one, or a definition.
+for both in 'write-shows-visible WriteShows' 'count-waits CountWaits'; do
+    read -r theorem statement <<<"$both"
+    grep -q "(\`$theorem\`" $book && grep -qE "^pub $theorem : .*→ $statement " crates/demands/proofs/*.antt && grep -q "^pub record $statement " crates/demands/specs/Shows.antt
+    tell "$theorem is proved by that name" $?
+done
+names=$(sed -n '/^## When does each write show/,/^## On other players/p' $book | grep -oE '\([^()]*`[^()]*\)' | grep -oE '`[A-Za-z0-9-]+`' | tr -d '`' | sort -u)
+status=0
+for name in $names; do
+    grep -rqE --include='*.antt' "^ *((unfoldable|abbrev) )?pub $name( |\$)" crates/*/specs crates/demands/proofs || { echo "no such theorem or definition: $name"; status=1; }
+done
+[ "$(wc -w <<<"$names")" -ge 20 ] && [ $status -eq 0 ]
+tell "what is cited in brackets is there: $(wc -w <<<"$names") names" $?
+
+# try NAME PROGRAM..: a test program ends well; its last line is told.
+try() {
+    local name=$1 said status
+    shift
+    said=$("$@" 2>&1)
+    status=$?
+    [ "$status" -eq 0 ] || printf '%s\n' "$said"
+    tell "$name: $(tail -n 1 <<<"$said")" "$status"
+}
+if command -v python3 >/dev/null; then
+    try 'its commands print what stands there, and draw its pictures' python3 tests/desk/document.py $book $work/page
+    # By table 0 the pictures are the same.
+    status=0
+    for both in 'at-once show --scale 2' 'scroll show --scale 2' 'count show --frame 2 --scale 2' 'sprite differ --sides'; do
+        read -r name command options <<<"$both"
+        grep -v 'THE WRITE' docs/scripts/write-$name.desk >$work/without.desk
+        old=
+        [ $command = show ] || old=$work/without.desk
+        build/bin/desk $command --table 0 $old docs/scripts/write-$name.desk $options -o $work/table-0.png >/dev/null && python3 tests/desk/same.py $work/table-0.png docs/handbook-$name.png || status=1
+    done
+    tell 'by table 0 its pictures are the same' $status
+    try 'each write shows first in the row that is told' python3 tests/handbook/rows.py $book
+    try 'the lines that interrupt are those of its table' python3 tests/handbook/interrupts.py $book
+
+    # caught NAME SED LINE PROGRAM..: on a page that is changed so, the program fails and prints such a line.
+    caught() {
+        local name=$1 change=$2 line=$3
+        shift 3
+        sed "$change" $book >$work/other.md
+        ! "$@" >$work/said 2>&1 && grep -q "$line" $work/said
+        tell "caught: $name" $?
+    }
+    cp docs/handbook-*.png $work/
+    caught 'a command that prints something else' 's/in rows 67 to 143/in rows 66 to 143/' '^-frame 1: 12,320 .* in rows 66 to 143$' python3 tests/desk/document.py $work/other.md $work/other
+    cp docs/handbook-scroll.png $work/handbook-count.png
+    caught 'another picture' '' 'handbook-count.png is another picture now$' python3 tests/desk/document.py $work/other.md $work/picture
+    caught 'a row further down' 's/ L − 23 / L − 22 /' ' reads 23: first shown in pass and row (0, 0), and the page has (0, 1)$' python3 tests/handbook/rows.py $work/other.md
+    caught 'register 9 at once' 's/^| register 9,.*//' 'register 9, written while the counter reads 0: ' python3 tests/handbook/rows.py $work/other.md
+    caught 'another line that interrupts' 's/^| 3 | 2, 6, 10 /| 3 | 2, 6, 11 /' ' has another table' python3 tests/handbook/interrupts.py $work/other.md
+else
+    echo 'SKIPPED: the commands of the page: no python3 here'
+    skipped=1
+fi
 
 total
