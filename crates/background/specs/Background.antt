@@ -9,8 +9,8 @@ use lib.Dec.{eqb}
 use Rattle.laws.specs.Bits.{any}
 use Rattle.laws.specs.Lists.{at}
 use Rattle.laws.specs.Sizes.{vramSize}
-use Rattle.picture.specs.declared.RenderArea.{RenderArea}
-use Rattle.picture.specs.declared.RenderArea.the-variants.{VisibleOnly, EffectiveArea, TrueEdges}
+use Rattle.picture.specs.declared.Screen.{Screen}
+use Rattle.picture.specs.declared.Screen.the-variants.{VisibleOnly, EffectiveArea, TrueEdges}
 use Rattle.picture.specs.Tile.{mapColour, mapFront}
 use Rattle.picture.specs.View.{cutMark}
 
@@ -26,7 +26,7 @@ abbrev pub shade : List ℕ → (ℕ → ℕ) → ℕ → ℕ
 shade colours f x = at colours (f x)
 
 -- R5.5, R18.1: how far to the left the first tile of a row marks, where scroll cuts s pixels of it
-abbrev pub cutOf : RenderArea → ℕ → ℕ
+abbrev pub cutOf : Screen → ℕ → ℕ
 cutOf VisibleOnly s = s
 cutOf EffectiveArea s = 0
 cutOf TrueEdges s = 0

@@ -12,7 +12,7 @@ ghost use Rattle.bitmap.specs.Mask.{withByte, bytesOf};
 ghost use Rattle.picture.specs.Tile.{turned, namesAt, tileLine};
 ghost use Rattle.background.specs.Background.{Room, backColour, backFront, shade, prioTo, placeAt, Whole, cutOf};
 use bitmap::Bitmap;
-use picture::RenderArea;
+use picture::Screen;
 
 // R5.2: where the tile entries start.
 pub fn names_at(reg: [u8; 11]) -> usize
@@ -48,14 +48,14 @@ fn with_marks(prio: Bitmap, on: bool, place: usize, bits: u8) -> Bitmap
 }
 
 // How far to the left the first tile of a row marks, where scroll cuts s pixels of it.
-pub fn cut_of(area: RenderArea, s: u8) -> u8
-    ensures { λ r. ⌜ r ≡ cutOf area s ⌝ }
+pub fn cut_of(screen: Screen, s: u8) -> u8
+    ensures { λ r. ⌜ r ≡ cutOf screen s ⌝ }
     ensures { λ r. ⌜ (r ≡ 0) ⊎ (r ≡ s) ⌝ }
 {
-    match area {
-        RenderArea::VisibleOnly => s,
-        RenderArea::EffectiveArea => 0,
-        RenderArea::TrueEdges => 0,
+    match screen {
+        Screen::VisibleOnly => s,
+        Screen::EffectiveArea => 0,
+        Screen::TrueEdges => 0,
     }
 }
 

@@ -13,6 +13,7 @@ use borrow.Author.Tests.{eq-eqb, ne-eqb, leb-true, leb-false}
 use Rattle.laws.proofs.Tests.{split}
 use Rattle.colour.proofs.Laws.{colours-at}
 use Rattle.picture.specs.declared.RenderArea.the-variants.{VisibleOnly}
+use Rattle.picture.specs.Area.{screenOf}
 use Rattle.raster.specs.declared.LineTable.{LineTable}
 use Rattle.raster.proofs.Tables.{jump-back, pass-is}
 use Rattle.vdp.specs.declared.Front.{Front}
@@ -133,7 +134,7 @@ module _
     whole-90 : whole (vram 90) ≡ true
     whole-90 =
         eq-eqb (length (vram 90)) 16384
-        (frame-memory VisibleOnly (vram 90) (length frame) (frame-taken VisibleOnly (vram 90) (length frame) fresh (accepted 90 fresh)))
+        (frame-memory (screenOf VisibleOnly) (vram 90) (length frame) (frame-taken VisibleOnly (vram 90) (length frame) fresh (accepted 90 fresh)))
 
     written : Holds (ready r 90) new
     unfolding ready until then deviceAfter after
@@ -222,7 +223,7 @@ memory-length = length-replicate {A = ℕ} 16384 0
 zeros-accepted : (i : ℕ) (d : VdpState) → frameStep VisibleOnly memory (length zeros) d .refusal ≡ Accepted
 zeros-accepted i d =
     accepts (frameLines VisibleOnly memory (length zeros)) VisibleOnly memory d
-    (frame-passes VisibleOnly memory (length zeros) memory-length frame-length)
+    (frame-passes (screenOf VisibleOnly) memory (length zeros) memory-length frame-length)
 
 zeros-answered : (t : LineTable) (low high : ℕ) → Answered t (λ i. memory) zeros zeros-accepted low high
 zeros-answered t low high = answered t (λ i. memory) zeros zeros-accepted low high

@@ -10,9 +10,9 @@ use lib.ListN.{length}
 use Rattle.laws.specs.Lists.{rowOf}
 use Rattle.laws.specs.Once.{ExactlyOnce, ExactlyTwice}
 use Rattle.laws.proofs.Once.{once-iff, twice-iff}
-use Rattle.picture.specs.declared.RenderArea.{RenderArea}
-use Rattle.picture.specs.declared.RenderArea.the-variants.{VisibleOnly, EffectiveArea, TrueEdges}
-use Rattle.picture.specs.Area.{columns, rows, firstLine, rowSize, frameSize, rowBytes, pictureOf}
+use Rattle.picture.specs.declared.Screen.{Screen}
+use Rattle.picture.specs.declared.Screen.the-variants.{VisibleOnly, EffectiveArea, TrueEdges}
+use Rattle.picture.specs.Screen.{columns, rows, firstLine, rowSize, frameSize, rowBytes, pictureOf}
 use Rattle.raster.specs.declared.Raster.{Raster}
 use Rattle.raster.specs.Raster.{jumpLine, jumpTo, advanced, counted, ticked}
 use Rattle.step.specs.declared.DisplayRefresh.the-variants.{NoDisplay}
@@ -30,11 +30,11 @@ use Rattle.demands.proofs.Sound.{Sound, sound, table-is, scroll-is, the
 use Rattle.demands.proofs.Interrupts.{from-line-0}
 
 -- ---- row y is drawn by the step that sets its line, and by no other
-pub line-row : (a : RenderArea) (n y : ℕ) → y < rows a → n ≡ y + firstLine a → rowOn a n ≡ Drawn y
+pub line-row : (a : Screen) (n y : ℕ) → y < rows a → n ≡ y + firstLine a → rowOn a n ≡ Drawn y
 line-row a n y h e = row-at a n (omega arith) (omega arith) ∙ ap Drawn (omega arith)
 
 -- every screen's lines are ones that the counter reads
-lines-end : (a : RenderArea) → firstLine a + rows a ≤ 256
+lines-end : (a : Screen) → firstLine a + rows a ≤ 256
 lines-end VisibleOnly = omega arith
 lines-end EffectiveArea = omega arith
 lines-end TrueEdges = omega arith
@@ -44,7 +44,7 @@ module _ {M : Machine} (ok : Lawful M) {a : M .Area} (r : Run M a) where
   dev i = ready r i
 
   -- what is drawn
-  abbrev shown : RenderArea
+  abbrev shown : Screen
   shown = M .screen a
 
   -- so the frame has exactly its area's size

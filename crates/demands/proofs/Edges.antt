@@ -16,10 +16,10 @@ use Rattle.laws.specs.Lists.{at}
 use Rattle.laws.proofs.Any.{any-cong, any-none}
 use Rattle.laws.proofs.Tests.{either, split, both, same-cond}
 use Rattle.picture.specs.declared.Stand.{Stand}
-use Rattle.picture.specs.declared.RenderArea.the-variants.{VisibleOnly, TrueEdges}
+use Rattle.picture.specs.declared.Screen.the-variants.{VisibleOnly, TrueEdges}
 use Rattle.picture.specs.View.{early, cutMark, visibleEnd, visibleSeen, visibleStand, visible, edgeStand, trueEdges}
 use Rattle.picture.specs.Picture.{Canvas, back, front, tableAt, listed, solid, heldBack, marked, struck, drawn, laid, spriteCode, withSprite, withSprites, bare, picture}
-use Rattle.picture.specs.Area.{pictureOf, rowBytes}
+use Rattle.picture.specs.Screen.{pictureOf, rowBytes}
 use Rattle.picture.specs.Layers.{owner, stopped, owned, ownedBy, layersWith, layers, layersOf}
 use Rattle.picture.proofs.Laws.{rowBytes-cong}
 use Rattle.background.proofs.Views.{effective-mark}

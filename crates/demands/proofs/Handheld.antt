@@ -17,7 +17,7 @@ use Rattle.colour.specs.Colour.{colour, coloursOf}
 use Rattle.colour.proofs.Laws.{colours-at, length-colours}
 use Rattle.picture.specs.declared.RenderArea.{RenderArea}
 use Rattle.picture.specs.declared.RenderArea.the-variants.{VisibleOnly, EffectiveArea, TrueEdges}
-use Rattle.picture.specs.Area.{columns, rows, firstLine, rowSize, pictureOf, rowBytes}
+use Rattle.picture.specs.Area.{screenOf, columns, rows, firstLine, rowSize, pictureOf, rowBytes}
 use Rattle.raster.specs.declared.LineTable.{LineTable}
 use Rattle.raster.specs.declared.LineTable.the-variants.{Steps261, Steps262}
 use Rattle.raster.specs.Raster.{jumpLine, jumpTo, advanced, lineInterrupt, ticked}
@@ -130,12 +130,12 @@ also-refusing least size (l ∷ ls) q = (q .0, also-refusing least size ls (q .1
 is-step : (c : Call) (d : VdpState) (s : Told VdpState) → Steps c d s → Is d s
 is-step (out p v m) d s e = absurd e
 is-step (input p m) d s e = absurd e
-is-step (frame-step a vram n) d s e = accepted (frameLines a vram n) a vram d s (frame-refusing a vram n) (e .0) (e .1)
-is-step (row-step a vram n) d s e = accepted (rowLines a vram n) a vram d s (row-refusing a vram n) (e .0) (e .1)
+is-step (frame-step a vram n) d s e = accepted (frameLines a vram n) a vram d s (frame-refusing (screenOf a) vram n) (e .0) (e .1)
+is-step (row-step a vram n) d s e = accepted (rowLines a vram n) a vram d s (row-refusing (screenOf a) vram n) (e .0) (e .1)
 is-step (layer-frame-step a vram n l) d s e =
-    accepted (alsoLayers (columns a) l (frameLines a vram n)) a vram d s (also-refusing (columns a) l (frameLines a vram n) (frame-refusing a vram n)) (e .0) (e .1)
+    accepted (alsoLayers (columns a) l (frameLines a vram n)) a vram d s (also-refusing (columns a) l (frameLines a vram n) (frame-refusing (screenOf a) vram n)) (e .0) (e .1)
 is-step (layer-row-step a vram n l) d s e =
-    accepted (alsoLayers (columns a) l (rowLines a vram n)) a vram d s (also-refusing (columns a) l (rowLines a vram n) (row-refusing a vram n)) (e .0) (e .1)
+    accepted (alsoLayers (columns a) l (rowLines a vram n)) a vram d s (also-refusing (columns a) l (rowLines a vram n) (row-refusing (screenOf a) vram n)) (e .0) (e .1)
 is-step (dump-tileset vram n) d s e = absurd e
 is-step (pixel-at a vram y x) d s e = absurd e
 is-step (write-tile vram n codes) d s e = absurd e
@@ -248,7 +248,7 @@ module _ (a : RenderArea) (vram : List ℕ) (d : VdpState) (frame : List ℕ) (y
   unfolding advanced
   own-row ok k e =
       let p = frame-taken a vram (length frame) d ok in
-      frame-step-here a vram d frame y (frame-memory a vram (length frame) p) (frame-fits a vram (length frame) p) e
+      frame-step-here a vram d frame y (frame-memory (screenOf a) vram (length frame) p) (frame-fits (screenOf a) vram (length frame) p) e
       ∙ rw (colours-now (counterUp d) k)
 
 pub handheld-lawful : Lawful handheld
@@ -267,7 +267,7 @@ handheld-lawful =
       frame-left = λ a vram n d. refl;
       frame-row = row-is;
       frame-report = report-is;
-      frame-size = λ a vram n d ok. frame-fits a vram n (frame-taken a vram n d ok);
+      frame-size = λ a vram n d ok. frame-fits (screenOf a) vram n (frame-taken a vram n d ok);
       frame-length = frame-step-length;
       frame-other = other;
       frame-here = own-row;

@@ -8,7 +8,7 @@ use Prim.Native.Nat.{ℕ, _<_}
 use lib.ListN.{length}
 use Rattle.laws.specs.Bits.{bit}
 use Rattle.laws.specs.Lists.{rowOf}
-use Rattle.picture.specs.Area.{columns, rowSize, frameSize, pictureOf, rowBytes}
+use Rattle.picture.specs.Screen.{columns, rowSize, frameSize, pictureOf, rowBytes}
 use Rattle.raster.specs.declared.Raster.{Raster}
 use Rattle.raster.specs.declared.LineTable.{LineTable}
 use Rattle.raster.specs.Raster.{advanced, lineInterrupt, ticked}
@@ -17,7 +17,7 @@ use Rattle.vdp.specs.Refusals.{refusalNumber}
 use Rattle.step.specs.declared.VdpInt.the-variants.{InterruptGenerated}
 use Rattle.step.specs.declared.DisplayRefresh.the-variants.{NoDisplay}
 use Rattle.step.specs.declared.DrawnRow.the-variants.{Drawn}
-use Rattle.step.specs.Step.{rowOn}
+use Rattle.step.specs.Points.{rowOn}
 use Rattle.demands.specs.Machine.{Told, Machine, register}
 use Rattle.demands.specs.Pass.{NoStepOn}
 use Rattle.demands.proofs.Counter.{line}

@@ -18,7 +18,7 @@ use Rattle.picture.specs.declared.Stand.{Stand}
 use Rattle.picture.specs.declared.RenderArea.{RenderArea}
 use Rattle.picture.specs.View.{View}
 use Rattle.picture.specs.Picture.{Canvas, back, front, bare, tableAt, listed, solid, heldBack, drawn, spriteCode, withSprite, withSprites, picture}
-use Rattle.picture.specs.Area.{columns}
+use Rattle.picture.specs.Area.{screenOf, columns}
 use Rattle.picture.specs.Layers.{owner, stopped, owned, ownedBy, layersWith, layers, layersIn}
 use Rattle.picture.proofs.Layers.{owned-drawn, owned-stopped, owned-left, colour-drawn, colour-left, drawn-solid, length-layersIn, layersIn-none}
 use Rattle.vdp.specs.declared.VdpState.{VdpState}
@@ -191,13 +191,13 @@ owned-tells m g v x =
 -- ---- a step
 module _ (a : RenderArea) (vram : List ℕ) (d : VdpState) (pixels layers : List ℕ) where
   abbrev layersTold : DrawnRow → List ℕ
-  layersTold r = layersBy r a (comingLayers a vram (readingOf d)) layers
+  layersTold r = layersBy r (screenOf a) (comingLayers (screenOf a) vram (readingOf d)) layers
 
   -- the layer buffer with a row's layers: its length, and what is behind them
   length-by : (r : DrawnRow) → length (layersTold r) ≡ length layers
   unfolding layersBy
   length-by NoRow = refl
-  length-by (Drawn y) = length-layersIn layers (columns a) (comingLayers a vram (readingOf d) y)
+  length-by (Drawn y) = length-layersIn layers (columns a) (comingLayers (screenOf a) vram (readingOf d) y)
 
   behind : (f : ℕ → ℕ) → drop (columns a) (layersIn layers (columns a) f) ≡ drop (columns a) layers
   unfolding layersIn
@@ -207,7 +207,7 @@ module _ (a : RenderArea) (vram : List ℕ) (d : VdpState) (pixels layers : List
   past-by : (r : DrawnRow) → drop (columns a) (layersTold r) ≡ drop (columns a) layers
   unfolding layersBy
   past-by NoRow = refl
-  past-by (Drawn y) = behind (comingLayers a vram (readingOf d) y)
+  past-by (Drawn y) = behind (comingLayers (screenOf a) vram (readingOf d) y)
 
 last-of : (least size : ℕ) (ls : List Line) → size < least → Passed ls → first (alsoLayers least size ls) ≡ LayerLength
 last-of least size [] h p = rw (lt-ltb size least h)
@@ -223,18 +223,18 @@ aside a vram d pixels layers =
     let n = length layers in
     record {
       row-answer = λ h. under-also w n rows (λ r. refusedStep r d) (stepped a vram d) h;
-      row-pixels = λ h. under-also w n rows (λ r. pixels) (rowFilled a vram (readingOf d) pixels) h;
+      row-pixels = λ h. under-also w n rows (λ r. pixels) (rowFilled (screenOf a) vram (readingOf d) pixels) h;
       frame-answer = λ h. under-also w n frames (λ r. refusedStep r d) (stepped a vram d) h;
-      frame-pixels = λ h. under-also w n frames (λ r. pixels) (frameFilled a vram (readingOf d) pixels) h;
-      row-short = λ h e. last-of w n rows h (passed rows (row-refusing a vram (length pixels)) e);
-      frame-short = λ h e. last-of w n frames h (passed frames (frame-refusing a vram (length pixels)) e);
+      frame-pixels = λ h. under-also w n frames (λ r. pixels) (frameFilled (screenOf a) vram (readingOf d) pixels) h;
+      row-short = λ h e. last-of w n rows h (passed rows (row-refusing (screenOf a) vram (length pixels)) e);
+      frame-short = λ h e. last-of w n frames h (passed frames (frame-refusing (screenOf a) vram (length pixels)) e);
       refused = λ ls e. not-last w n ls e;
       size =
           λ ls.
-          under-either (λ (l : List ℕ). length l ≡ length layers) ls (λ r. layers) (layersFilled a vram (readingOf d) layers) (λ r. refl)
-          (λ p. length-by a vram d pixels layers (comingRow a (readingOf d)));
+          under-either (λ (l : List ℕ). length l ≡ length layers) ls (λ r. layers) (layersFilled (screenOf a) vram (readingOf d) layers) (λ r. refl)
+          (λ p. length-by a vram d pixels layers (comingRow (screenOf a) (readingOf d)));
       past =
           λ ls.
-          under-either (λ (l : List ℕ). drop (columns a) l ≡ drop (columns a) layers) ls (λ r. layers) (layersFilled a vram (readingOf d) layers) (λ r. refl)
-          (λ p. past-by a vram d pixels layers (comingRow a (readingOf d)));
+          under-either (λ (l : List ℕ). drop (columns a) l ≡ drop (columns a) layers) ls (λ r. layers) (layersFilled (screenOf a) vram (readingOf d) layers) (λ r. refl)
+          (λ p. past-by a vram d pixels layers (comingRow (screenOf a) (readingOf d)));
     }

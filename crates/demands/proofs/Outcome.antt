@@ -22,6 +22,7 @@ use Rattle.raster.proofs.Raster.line_interrupt_update
 use Rattle.raster.proofs.table_number
 use Rattle.raster.proofs.table_from
 use Rattle.picture.proofs.area_from
+use Rattle.picture.proofs.screen_of
 use Rattle.small.proofs.wide
 use Rattle.small.proofs.smaller
 use Rattle.small.proofs.weight
@@ -67,6 +68,7 @@ use Rattle.step.proofs.frame_step
 use Rattle.step.proofs.layer_row_step
 use Rattle.step.proofs.layer_frame_step
 use Rattle.step.proofs.row_view
+use Rattle.step.proofs.screen_row
 use Rattle.sprites.proofs.render_sprites_line
 use Rattle.dump.proofs.dump_tileset as dump_rows
 use Rattle.step.proofs.dump_tileset
@@ -160,6 +162,9 @@ line-interrupt-update-once κs a q z z′ w w′ e f = (e ∙ sym f, refl)
 -- ---- picture
 pub area-from-once : OneOutcome 0 area_from.Kinds.ps area_from.Kinds.r area_from.Reads.Asked area_from.Reads.Learnt
 area-from-once κs a q z z′ w w′ e f = (e ∙ sym f, refl)
+
+pub screen-of-once : OneOutcome 0 screen_of.Kinds.ps screen_of.Kinds.r screen_of.Reads.Asked screen_of.Reads.Learnt
+screen-of-once κs a q z z′ w w′ e f = (e ∙ sym f, refl)
 
 -- ---- small
 pub wide-once : OneOutcome 0 wide.Kinds.ps wide.Kinds.r wide.Reads.Asked wide.Reads.Learnt
@@ -369,6 +374,9 @@ pixel-at-once κs a q z z′ w w′ e f = (e ∙ sym f, refl)
 -- its answer is a part of the frame that it is lent: the bytes are told, and no contract tells an address
 pub row-view-once : OneOutcomeSeen 1 row_view.Kinds.ps row_view.Kinds.r row_view.Reads.Asked row_view.Reads.Learnt (λ κs z. now z)
 row-view-once κs a q z z′ w w′ e f = (e ∙ sym f, refl)
+
+pub screen-row-once : OneOutcomeSeen 1 screen_row.Kinds.ps screen_row.Kinds.r screen_row.Reads.Asked screen_row.Reads.Learnt (λ κs z. now z)
+screen-row-once κs a q z z′ w w′ e f = (e ∙ sym f, refl)
 
 -- ---- dump
 pub dump-rows-once : OneOutcome 3 dump_rows.Kinds.ps dump_rows.Kinds.r dump_rows.Reads.Asked dump_rows.Reads.Learnt

@@ -13,13 +13,13 @@ use Rattle.laws.specs.Lists.{at}
 use Rattle.laws.proofs.Tests.{split, clash}
 use Rattle.picture.specs.declared.RenderArea.{RenderArea}
 use Rattle.picture.specs.declared.RenderArea.the-variants.{VisibleOnly}
-use Rattle.picture.specs.Area.{columns, rows, firstLine, rowBytes}
+use Rattle.picture.specs.Screen.{columns, rows, firstLine, rowBytes}
 use Rattle.raster.specs.declared.Raster.{Raster}
 use Rattle.raster.specs.declared.LineTable.{LineTable}
 use Rattle.raster.specs.Raster.{up, jumps, starts, jumpLine, jumpTo, passLength, advanced, counted, ticked}
 use Rattle.raster.proofs.Tables.{jump-back}
 use Rattle.step.specs.declared.DrawnRow.the-variants.{Drawn}
-use Rattle.step.specs.Step.{rowOn}
+use Rattle.step.specs.Points.{rowOn}
 use Rattle.demands.specs.Machine.{Machine, register}
 use Rattle.demands.specs.Pass.{Run, pass, through, ready, latched, answer, lineSet, rowAtEnd, pictureAt}
 use Rattle.demands.specs.Split.{firstNew, Moment}

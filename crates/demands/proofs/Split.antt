@@ -15,16 +15,16 @@ use Rattle.laws.specs.Paint.{byteOfColour}
 use Rattle.laws.proofs.Tests.{split}
 use Rattle.colour.specs.Colour.{colour, coloursOf}
 use Rattle.colour.proofs.Laws.{colours-at, length-colours}
-use Rattle.picture.specs.declared.RenderArea.{RenderArea}
+use Rattle.picture.specs.declared.Screen.{Screen}
 use Rattle.picture.specs.declared.RenderArea.the-variants.{VisibleOnly, TrueEdges}
 use Rattle.picture.specs.Picture.{Row}
-use Rattle.picture.specs.Area.{columns, rows, firstLine, rowBytes}
+use Rattle.picture.specs.Screen.{columns, rows, firstLine, rowBytes}
 use Rattle.picture.proofs.Laws.{length-rowBytes, pixel-byte}
 use Rattle.raster.specs.declared.Raster.{Raster}
 use Rattle.raster.specs.declared.LineTable.{LineTable}
 use Rattle.raster.specs.Raster.{passLength, jumpTo, advanced}
 use Rattle.step.specs.declared.DrawnRow.the-variants.{Drawn}
-use Rattle.step.specs.Step.{rowOn}
+use Rattle.step.specs.Points.{rowOn}
 use Rattle.step.proofs.Rows.{row-low, row-line}
 use Rattle.demands.specs.Machine.{Machine, register}
 use Rattle.demands.specs.Handheld.{handheld}
@@ -116,7 +116,7 @@ pixel p colours w x h =
 
 -- ---- the first new row
 -- a row y has its line after L exactly when it is the first new one or below it
-module _ (a : RenderArea) (L y : ℕ) where
+module _ (a : Screen) (L y : ℕ) where
   new-below : y < rows a → firstNew a L ≤ y → L < y + firstLine a
   new-below h l =
       split (ltb L (firstLine a + rows a))

@@ -10,6 +10,7 @@ use Rattle.laws.specs.Bits.{bit}
 use Rattle.laws.proofs.Tests.{either}
 use Rattle.colour.specs.Colour.{coloursOf}
 use Rattle.picture.specs.declared.RenderArea.{RenderArea}
+use Rattle.picture.specs.Area.{screenOf}
 use Rattle.raster.specs.Raster.{advanced, lineInterrupt}
 use Rattle.vdp.specs.declared.VdpState.{VdpState}
 use Rattle.vdp.specs.declared.Refusal.the-variants.{Accepted}
@@ -63,4 +64,4 @@ module _ (ls : List Line) (a : RenderArea) (vram : List ℕ) (d : VdpState) wher
   accepts p = rw (step-accepted ls a vram d p) (stepped-refusal a vram d)
 
 pub frame-taken : (a : RenderArea) (vram : List ℕ) (size : ℕ) (d : VdpState) → frameStep a vram size d .refusal ≡ Accepted → Passed (frameLines a vram size)
-frame-taken a vram size d e = taken (frameLines a vram size) a vram d (frame-refusing a vram size) e
+frame-taken a vram size d e = taken (frameLines a vram size) a vram d (frame-refusing (screenOf a) vram size) e

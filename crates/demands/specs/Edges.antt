@@ -15,8 +15,7 @@ use Rattle.picture.specs.declared.RenderArea.the-variants.{VisibleOnly, TrueEdg
 use Rattle.picture.specs.Tile.{codeOf, codeAt, entryAt, tileLine, entryCode, entryColour, entryFront, mapColour, mapFront}
 use Rattle.picture.specs.View.{early, cutMark, visibleEnd, visibleSeen, visibleStand, visible, edgeStand, trueEdges}
 use Rattle.picture.specs.Picture.{Row, back, front, tableAt, topOf, onLine, listed, spriteLine, solid, heldBack, marked, struck, drawn, laid, spriteCode, withSprite, withSprites, bare, picture}
-use Rattle.picture.specs.Area.{viewOf, pictureOf, rowBytes}
-use Rattle.picture.specs.Layers.{layersOf}
+use Rattle.picture.specs.Area.{viewOf, pictureOf, layersOf, rowBytes}
 use Rattle.demands.specs.Layers.{OneOf}
 
 -- ---- R18.3

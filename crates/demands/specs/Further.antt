@@ -12,6 +12,7 @@ use Rattle.laws.specs.Table.{tableFrom, table}
 use Rattle.colour.specs.Colour.{colour, coloursOf}
 use Rattle.picture.specs.declared.RenderArea.{RenderArea}
 use Rattle.picture.specs.declared.RenderArea.the-variants.{VisibleOnly, EffectiveArea}
+use Rattle.picture.specs.Area.{screenOf}
 use Rattle.raster.specs.declared.LineTable.{LineTable}
 use Rattle.raster.specs.declared.LineTable.the-variants.{Steps261, Steps262}
 use Rattle.raster.specs.Raster.{passLength, jumps, starts, advanced, lineInterrupt, counted}
@@ -63,7 +64,7 @@ abbrev newRows : LineTable → ℕ → List ℕ
 newRows t l = rowsBy VisibleOnly isNew l (made t) ++ rowsBy VisibleOnly isNew (passLength t - l) (recoloured (stepsOn l (made t)))
 
 abbrev first : ℕ → ℕ
-first l = firstNew VisibleOnly l
+first l = firstNew (screenOf VisibleOnly) l
 
 -- n numbers from k on
 abbrev from : ℕ → ℕ → List ℕ

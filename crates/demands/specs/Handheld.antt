@@ -5,7 +5,7 @@ use mathlib.Core.List.{List}
 use Prim.Native.Nat.{ℕ}
 use Rattle.colour.specs.Colour.{coloursOf}
 use Rattle.picture.specs.declared.RenderArea.{RenderArea}
-use Rattle.picture.specs.Area.{columns}
+use Rattle.picture.specs.Area.{screenOf, columns}
 use Rattle.vdp.specs.declared.VdpState.{VdpState}
 use Rattle.vdp.specs.declared.Refusal.{Refusal}
 use Rattle.vdp.specs.declared.Refusal.the-variants.{Accepted}
@@ -26,7 +26,7 @@ use Rattle.demands.specs.Machine.{Told, Machine}
 -- It has the name of its function. The other public functions of these crates make a device, give a number, are parts that the calls are made of, or take no
 -- device and give no refusal; the test suite `layout` holds both lists to the code:
 -- No calls of vdp: write, read, new, with_table, with_raster, with_cache, refusal_number.
--- No calls of step: interrupt_number, report_number, row_points, layer_row_points, frame_points, layer_frame_points, row_view.
+-- No calls of step: interrupt_number, report_number, row_points, layer_row_points, frame_points, layer_frame_points, row_view, screen_row.
 -- No calls of tiles: sheet.
 pub data Call : Type 0 where
   out : (port value : ℕ) (vram : List ℕ) → Call
@@ -96,7 +96,7 @@ handheld =
       Device = VdpState;
       Area = RenderArea;
       Call = Call;
-      screen = λ a. a;
+      screen = screenOf;
       registers = λ d. d .reg;
       raster = λ d. d .raster;
       palette = λ d. d .cram;

@@ -4,7 +4,7 @@ use mathlib.Core.Bool.{Bool}
 use mathlib.Core.List.{List}
 use Prim.Native.Nat.{ℕ}
 use Rattle.laws.specs.Lists.{at}
-use Rattle.picture.specs.declared.RenderArea.{RenderArea}
+use Rattle.picture.specs.declared.Screen.{Screen}
 use Rattle.raster.specs.declared.Raster.{Raster}
 use Rattle.raster.specs.declared.LineTable.{LineTable}
 use Rattle.vdp.specs.declared.Refusal.{Refusal}
@@ -26,7 +26,7 @@ pub record Machine : Type 1 where
   pub Area : Type 0
   pub Call : Type 0
   -- what is drawn for an area
-  pub screen : Area → RenderArea
+  pub screen : Area → Screen
   -- parts of the record
   pub registers : Device → List ℕ
   pub raster : Device → Raster

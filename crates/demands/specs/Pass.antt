@@ -11,7 +11,7 @@ use Rattle.laws.specs.Bits.{bit}
 use Rattle.laws.specs.Lists.{rowOf}
 use Rattle.laws.specs.Once.{ExactlyOnce}
 use Rattle.picture.specs.Picture.{Row}
-use Rattle.picture.specs.Area.{columns, rows, rowSize, pictureOf, rowBytes}
+use Rattle.picture.specs.Screen.{columns, rows, rowSize, pictureOf, rowBytes}
 use Rattle.raster.specs.declared.LineTable.{LineTable}
 use Rattle.raster.specs.Raster.{passLength}
 use Rattle.vdp.specs.declared.Refusal.the-variants.{Accepted}

@@ -10,7 +10,7 @@ use Rattle.laws.specs.Lists.{at}
 use Rattle.laws.specs.Paint.{byteOfColour}
 use Rattle.laws.specs.Sizes.{vramSize}
 use Rattle.picture.specs.declared.RenderArea.{RenderArea}
-use Rattle.picture.specs.Area.{columns, rows}
+use Rattle.picture.specs.Area.{screenOf, columns, rows}
 use Rattle.row.specs.Row as row-engine
 use Rattle.vdp.specs.declared.VdpState.{VdpState}
 use Rattle.vdp.specs.declared.Refusal.the-variants.{Accepted, VramLength}
@@ -27,7 +27,7 @@ pub record PixelIsRow (a : RenderArea) (vram : List ℕ) (d : VdpState) (y x : �
   -- its byte b is byte 4x + b of the row that the row's engine draws, into whatever buffer
   pub bytes :
       length vram ≡ vramSize → y < rows a → x < columns a → (row₀ row : List ℕ) (bits b : ℕ) → b < 4 →
-      row-engine.Drawn a (coloursNow d) (rowPicture a vram d y) row₀ row bits → byteOfColour (pixelOf a vram d y x .colour) b ≡ at row (4 * x + b)
+      row-engine.Drawn (screenOf a) (coloursNow d) (rowPicture a vram d y) row₀ row bits → byteOfColour (pixelOf a vram d y x .colour) b ≡ at row (4 * x + b)
   -- and of the row that a step has drawn, asked of the device that the step left
   pub after-step :
       x < columns a → (buffer buffer′ : List ℕ) (r : Stepped) (b : ℕ) → b < 4 → RowStepLeaves a vram d buffer r buffer′ → r .row ≡ Drawn y →

@@ -1,12 +1,12 @@
 -- THE ROWS OF A PASS, in either area and by either table: which are drawn twice, and how each ends.
--- R4.2: in the effective area the lines that the jump goes back over draw their rows (M .screen a) second time.
+-- R4.2: in the effective area the lines that the jump goes back over draw their rows a second time.
 -- Assumes nothing.
 use mathlib.Core.Path.{_≡_}
 use mathlib.Core.Logic.{_≢_, _⊎_}
 use Prim.Native.Nat.{ℕ, _+_, _≤_, _<_}
 use Rattle.laws.specs.Once.{ExactlyOnce, ExactlyTwice}
 use Rattle.picture.specs.declared.RenderArea.the-variants.{EffectiveArea}
-use Rattle.picture.specs.Area.{columns, rows, firstLine, rowBytes}
+use Rattle.picture.specs.Screen.{columns, rows, firstLine, rowBytes}
 use Rattle.raster.specs.declared.LineTable.{LineTable}
 use Rattle.raster.specs.declared.LineTable.the-variants.{Steps261, Steps262}
 use Rattle.raster.specs.Raster.{jumpLine, jumpTo}

@@ -3,7 +3,7 @@
 use mathlib.Core.Path.{_≡_}
 use mathlib.Core.Logic.{_≢_}
 use Prim.Native.Nat.{ℕ, _≤_, _<_, _-_}
-use Rattle.picture.specs.Area.{columns, rows, rowBytes}
+use Rattle.picture.specs.Screen.{columns, rows, rowBytes}
 use Rattle.raster.specs.declared.Raster.{Raster}
 use Rattle.raster.specs.Raster.{ticked}
 use Rattle.step.specs.declared.DrawnRow.the-variants.{Drawn}
@@ -25,7 +25,7 @@ pub record WriteShows {M : Machine} {a : M .Area} {r : Run M a} {L : ℕ} (m : M
   pub shows :
       (i y : ℕ) → i < pass r → answer r i .row ≡ Drawn y → firstNew (M .screen a) L ≤ y →
       (m .step < i) × (rowAtEnd r y ≡ rowBytes (coloursAt r i) (columns (M .screen a)) (pictureAt r i y))
-  -- register 9 alone waits: the scroll that rows (M .screen a)re drawn with stays until the counter becomes 0, and is then what register 9 has
+  -- register 9 alone waits: the scroll that rows are drawn with stays until the counter becomes 0, and is then what register 9 has
   pub scroll-waits :
       (i : ℕ) → m .step ≤ i → ((j : ℕ) → m .step < j → j ≤ i → lineSet r j ≢ 0) →
       latched M (r .table) (through r i) ≡ latched M (r .table) (through r (m .step))

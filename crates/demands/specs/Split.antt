@@ -8,24 +8,24 @@ use Prim.Native.Nat.{ℕ, suc, _+_, _-_, _≤_, _<_}
 use lib.Dec.{ltb}
 use Rattle.laws.specs.Lists.{at, rowOf}
 use Rattle.laws.specs.Paint.{byteOfColour}
-use Rattle.picture.specs.declared.RenderArea.{RenderArea}
+use Rattle.picture.specs.declared.Screen.{Screen}
 use Rattle.picture.specs.declared.RenderArea.the-variants.{VisibleOnly}
-use Rattle.picture.specs.Area.{columns, rows, firstLine, rowBytes}
+use Rattle.picture.specs.Screen.{columns, rows, firstLine, rowBytes}
 use Rattle.raster.specs.Raster.{jumpTo}
 use Rattle.step.specs.declared.DrawnRow.the-variants.{Drawn}
-use Rattle.step.specs.Step.{rowOn}
+use Rattle.step.specs.Points.{rowOn}
 use Rattle.demands.specs.Machine.{Machine, lineOf}
 use Rattle.demands.specs.Handheld.{handheld}
 use Rattle.demands.specs.Pass.{Run, pass, ready, answer, lineSet, rowAtEnd, pictureAt}
 
 -- The first row with the new colour, of a change at line L: row 0 for a line before the first row's, row L - 23 for the line of a row, and from the
 -- last row's line on none (144, which is no row).
-abbrev pub firstNew : RenderArea → ℕ → ℕ
+abbrev pub firstNew : Screen → ℕ → ℕ
 firstNew a L = cond (ltb L (firstLine a + rows a)) (L + 1 - firstLine a) (rows a)
 
 -- A pass that begins at line s takes its rows and line L from the top down: it begins no later than at the first row, line 24, nor than at L; or it
 -- begins after the last row and after L, a line below the jump's end.
-abbrev pub TopDown : RenderArea → (s L : ℕ) → Type 0
+abbrev pub TopDown : Screen → (s L : ℕ) → Type 0
 TopDown a s L = ((s ≤ firstLine a) × (s ≤ L)) ⊎ ((firstLine a + rows a ≤ s) × (L < s) × (L < jumpTo))
 
 -- A moment of a pass: the counter reads L, from the step that sets it until the next.

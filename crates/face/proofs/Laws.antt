@@ -8,6 +8,7 @@ use borrow.Author.Tests.{le-leb, lt-leb}
 use lib.Dec.{leb}
 use lib.ListN.{length}
 use Rattle.laws.specs.Lists.{at}
+use Rattle.picture.specs.declared.Screen.{Screen}
 use Rattle.picture.specs.declared.RenderArea.{RenderArea}
 use Rattle.raster.specs.declared.Raster.{Raster}
 use Rattle.raster.specs.Raster.{lineTableFrom}
@@ -36,7 +37,7 @@ use Rattle.step.proofs.Kept.{write-keeps, read-keeps}
 use Rattle.step.specs.declared.DrawnRow.{DrawnRow}
 use Rattle.step.specs.declared.DrawnRow.the-variants.{NoRow, Drawn}
 use Rattle.step.specs.Dump.{DumpLeaves}
-use Rattle.picture.specs.Area.{areaFrom, columns}
+use Rattle.picture.specs.Area.{areaFrom, screenOf, columns}
 use Rattle.face.specs.Layers.{layerLines, layerOn, layerCall, layersLeft, LayerLeaves, LayerRowLeaves, LayerFrameLeaves}
 use Rattle.face.specs.Face.{Called, Leaves, stepWord, onBlock, onArea, newTableCall, outOn, outCall, inputOn, inputCall, steppedTo, stepOn, stepCall, rowStepOn, rowStepCall, dumpOn, dumpCall}
 
@@ -171,8 +172,8 @@ module _ (b m x : List ℕ) (n : ℕ) where
 
   -- a step, by what its points answer and leave, the block that they are stored in, and their word
   module _
-      {a : RenderArea} {points : Points} {k : Reading} {b′ x′ : List ℕ} {r : ℕ}
-      (bytes : (i : ℕ) → at b i < 256) (w : wellFormed b ≡ true) (h : n ≤ 2) (ea : a ≡ areaFrom n) (g : k ≡ readingOf (stateOf b))
+      {a : RenderArea} {screen : Screen} {points : Points} {k : Reading} {b′ x′ : List ℕ} {r : ℕ}
+      (bytes : (i : ℕ) → at b i < 256) (w : wellFormed b ≡ true) (h : n ≤ 2) (ea : a ≡ areaFrom n) (ez : screen ≡ screenOf a) (g : k ≡ readingOf (stateOf b))
       (es : (j : ℕ) (s : VdpState) → Sized s → points .raster .table ≡ s .raster .table → k .colours ≡ coloursNow s → b ≡ blockOf j s → b′ ≡ blockOf j (joined s points .vdp))
       (er : (d : VdpState) → r ≡ stepWord (joined d points))
     where
@@ -189,13 +190,13 @@ module _ (b m x : List ℕ) (n : ℕ) where
             lent = ey;
           })
 
-      pub step-kept : FramePointsLeave a m k x points x′ → Leaves (stepCall b m x n) r b′ x′
+      pub step-kept : FramePointsLeave screen m k x points x′ → Leaves (stepCall b m x n) r b′ x′
       unfolding stepCall
-      step-kept l = let q = frame-joined a m (stateOf b) g refl x l in stored (stepOn m x (length b)) (frameLines a m (length x)) refl (q .answer) (q .bytes)
+      step-kept l = let q = frame-joined a m (stateOf b) g refl x (rw ez at l) in stored (stepOn m x (length b)) (frameLines a m (length x)) refl (q .answer) (q .bytes)
 
-      pub row-kept : RowPointsLeave a m k x points x′ → Leaves (rowStepCall b m x n) r b′ x′
+      pub row-kept : RowPointsLeave screen m k x points x′ → Leaves (rowStepCall b m x n) r b′ x′
       unfolding rowStepCall
-      row-kept l = let q = row-joined a m (stateOf b) g refl x l in stored (rowStepOn m x (length b)) (rowLines a m (length x)) refl (q .answer) (q .bytes)
+      row-kept l = let q = row-joined a m (stateOf b) g refl x (rw ez at l) in stored (rowStepOn m x (length b)) (rowLines a m (length x)) refl (q .answer) (q .bytes)
 
       layer-kept :
           (lines : RenderArea → List Line) (filled : VdpState → RenderArea → List ℕ) (layers : List ℕ) {layers′ : List ℕ}
@@ -208,11 +209,11 @@ module _ (b m x : List ℕ) (n : ℕ) where
             owners = l .owners ∙ rw (w, le-leb n 2 h, ea);
           }
 
-      pub layer-row-kept : (layers : List ℕ) {layers′ : List ℕ} → RowLayerPointsLeave a m k x layers points x′ layers′ → LayerRowLeaves b m x layers n r b′ x′ layers′
-      layer-row-kept layers l = layer-kept _ _ layers (row-layers-joined a m (stateOf b) g refl x layers l)
+      pub layer-row-kept : (layers : List ℕ) {layers′ : List ℕ} → RowLayerPointsLeave screen m k x layers points x′ layers′ → LayerRowLeaves b m x layers n r b′ x′ layers′
+      layer-row-kept layers l = layer-kept _ _ layers (row-layers-joined a m (stateOf b) g refl x layers (rw ez at l))
 
-      pub layer-frame-kept : (layers : List ℕ) {layers′ : List ℕ} → FrameLayerPointsLeave a m k x layers points x′ layers′ → LayerFrameLeaves b m x layers n r b′ x′ layers′
-      layer-frame-kept layers l = layer-kept _ _ layers (frame-layers-joined a m (stateOf b) g refl x layers l)
+      pub layer-frame-kept : (layers : List ℕ) {layers′ : List ℕ} → FrameLayerPointsLeave screen m k x layers points x′ layers′ → LayerFrameLeaves b m x layers n r b′ x′ layers′
+      layer-frame-kept layers l = layer-kept _ _ layers (frame-layers-joined a m (stateOf b) g refl x layers (rw ez at l))
 
 -- a step's colours keep the sizes
 pub cleaned-sized : (r : DrawnRow) (s : VdpState) (colours : List ℕ) → Sized s → Sized (cleaned r s colours)

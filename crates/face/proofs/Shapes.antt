@@ -11,6 +11,7 @@ use Rattle.laws.proofs.Tests.{either}
 use Rattle.colour.specs.Colour.{colour, coloursOf}
 use Rattle.colour.proofs.Laws.{length-colours, colours-at}
 use Rattle.picture.specs.declared.RenderArea.{RenderArea}
+use Rattle.picture.specs.Area.{screenOf}
 use Rattle.vdp.specs.declared.VdpState.{VdpState}
 use Rattle.vdp.specs.Refusals.{Line}
 use Rattle.vdp.proofs.Tables.{under-either}
@@ -53,7 +54,7 @@ cleaned-shape (Drawn y) d g =
 
 pub step-shape : (a : RenderArea) (m : List ℕ) (d : VdpState) → Shape d → Shape (stepped a m d .vdp)
 unfolding stepped
-step-shape a m d g = carried (cleaned-shape (pointsOf a m (readingOf d) .row) d g) _ _ _ _ _ _ _
+step-shape a m d g = carried (cleaned-shape (pointsOf (screenOf a) m (readingOf d) .row) d g) _ _ _ _ _ _ _
 
 abbrev ShapeS : Stepped → Type 0
 ShapeS s = Shape (s .vdp)

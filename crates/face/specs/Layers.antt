@@ -7,7 +7,7 @@ use Prim.Native.Nat.{ℕ}
 use lib.Dec.{leb}
 use lib.ListN.{length}
 use Rattle.picture.specs.declared.RenderArea.{RenderArea}
-use Rattle.picture.specs.Area.{areaFrom, columns}
+use Rattle.picture.specs.Area.{screenOf, areaFrom, columns}
 use Rattle.vdp.specs.declared.VdpState.{VdpState}
 use Rattle.vdp.specs.Refusals.{Line, under}
 use Rattle.block.specs.Block.{wellFormed, stateOf}
@@ -43,13 +43,13 @@ abbrev pub rowTable : List ℕ → List ℕ → RenderArea → List Line
 rowTable m row a = rowLines a m (length row)
 
 abbrev pub rowFills : List ℕ → List ℕ → VdpState → RenderArea → List ℕ
-rowFills m row s a = rowFilled a m (readingOf s) row
+rowFills m row s a = rowFilled (screenOf a) m (readingOf s) row
 
 abbrev pub frameTable : List ℕ → List ℕ → RenderArea → List Line
 frameTable m frame a = frameLines a m (length frame)
 
 abbrev pub frameFills : List ℕ → List ℕ → VdpState → RenderArea → List ℕ
-frameFills m frame s a = frameFilled a m (readingOf s) frame
+frameFills m frame s a = frameFilled (screenOf a) m (readingOf s) frame
 
 abbrev pub LayerRowLeaves : List ℕ → List ℕ → List ℕ → List ℕ → ℕ → ℕ → List ℕ → List ℕ → List ℕ → Type 0
 LayerRowLeaves b m row layers n r b′ row′ layers′ = LayerLeaves (rowTable m row) (rowFills m row) b m row layers n r b′ row′ layers′

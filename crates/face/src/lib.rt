@@ -177,7 +177,7 @@ pub extern "C" fn vdp_step(state: &mut [u8], vram: &[u8], frame: &mut [u8], area
         &colours,
         vram,
         frame,
-        picture::area_from(area),
+        picture::screen_of(picture::area_from(area)),
     );
     store(state, points, &colours);
     word_of(points)
@@ -202,7 +202,7 @@ pub extern "C" fn vdp_row_step(state: &mut [u8], vram: &[u8], row: &mut [u8], ar
         &colours,
         vram,
         row,
-        picture::area_from(area),
+        picture::screen_of(picture::area_from(area)),
     );
     store(state, points, &colours);
     word_of(points)
@@ -234,7 +234,7 @@ pub extern "C" fn vdp_layer_step(
         vram,
         frame,
         layers,
-        picture::area_from(area),
+        picture::screen_of(picture::area_from(area)),
     );
     store(state, points, &colours);
     word_of(points)
@@ -266,7 +266,7 @@ pub extern "C" fn vdp_layer_row_step(
         vram,
         row,
         layers,
-        picture::area_from(area),
+        picture::screen_of(picture::area_from(area)),
     );
     store(state, points, &colours);
     word_of(points)

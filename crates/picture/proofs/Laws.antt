@@ -13,12 +13,12 @@ use Rattle.laws.specs.Paint.{byteOfColour}
 use Rattle.laws.proofs.Tables.{length-table, getD-table, table-ext}
 use Rattle.laws.proofs.Tests.{either}
 use Rattle.picture.specs.declared.Stand.{Stand}
-use Rattle.picture.specs.declared.RenderArea.{RenderArea}
-use Rattle.picture.specs.declared.RenderArea.the-variants.{VisibleOnly, EffectiveArea, TrueEdges}
+use Rattle.picture.specs.declared.Screen.{Screen}
+use Rattle.picture.specs.declared.Screen.the-variants.{VisibleOnly, EffectiveArea, TrueEdges}
 use Rattle.picture.specs.Tile.{codeOf, codeAt, turned, entryAt, tileLine, entryCode, entryColour, mapColour}
 use Rattle.picture.specs.View.{View}
 use Rattle.picture.specs.Picture.{Canvas, Row, back, front, drawn, laid, spriteCode, withSprite, withSprites, bare, listed, picture}
-use Rattle.picture.specs.Area.{columns, rowSize, viewOf, pictureOf, rowBytes}
+use Rattle.picture.specs.Screen.{columns, rowSize, viewOf, pictureOf, rowBytes}
 
 -- ---- codes and colour numbers
 digit-le : (b : Bool) → digit b ≤ 1
@@ -60,16 +60,16 @@ pub colour-lt : (m g : ℕ → ℕ) (v : View) (x : ℕ) → picture m g v .colo
 unfolding picture bare back
 colour-lt m g v x = sprites-lt m g (v .stand) (v .line) (front m g v) (take 8 (listed m g (v .line) 64 0)) (bare (back m g v)) (λ x. map-colour-lt m _ _ _) x
 
-pub colour-of-lt : (a : RenderArea) (reg : List ℕ) (scroll : ℕ) (vram : List ℕ) (y x : ℕ) → pictureOf a reg scroll vram y .colour x < 32
+pub colour-of-lt : (s : Screen) (reg : List ℕ) (scroll : ℕ) (vram : List ℕ) (y x : ℕ) → pictureOf s reg scroll vram y .colour x < 32
 unfolding pictureOf
-colour-of-lt a reg scroll vram y x = colour-lt (at vram) (at reg) (viewOf a (at reg) scroll y) x
+colour-of-lt s reg scroll vram y x = colour-lt (at vram) (at reg) (viewOf s (at reg) scroll y) x
 
 -- ---- the bytes of a row
 pub length-rowBytes : (colours : List ℕ) (width : ℕ) (p : Row) → length (rowBytes colours width p) ≡ width * 4
 unfolding rowBytes
 length-rowBytes colours width p = length-table (width * 4) (λ k. byteOfColour (at colours (p .colour (k / 4))) (k % 4))
 
-pub row-size : (a : RenderArea) → columns a * 4 ≡ rowSize a
+pub row-size : (s : Screen) → columns s * 4 ≡ rowSize s
 row-size VisibleOnly = refl
 row-size EffectiveArea = refl
 row-size TrueEdges = refl

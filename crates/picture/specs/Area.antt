@@ -1,62 +1,51 @@
--- The three areas: their sizes, and the row of each that a line draws.
+-- The handheld's three areas: the number of each, and what its screen has.
 -- Assumes nothing.
-use mathlib.Core.Bool.{Bool, cond}
+use mathlib.Core.Bool.{cond}
 use mathlib.Core.List.{List}
-use Prim.Native.Nat.{ℕ, _+_, _*_, _/_, _%_}
+use Prim.Native.Nat.{ℕ}
 use lib.Dec.{eqb}
-use Rattle.laws.specs.Lists.{at}
-use Rattle.laws.specs.Paint.{byteOfColour}
-use Rattle.laws.specs.Table.{table}
-use Rattle.picture.specs.View.{View, visible, effective, trueEdges}
-use Rattle.picture.specs.Picture.{Row, picture}
+use Rattle.picture.specs.View.{View}
+use Rattle.picture.specs.Picture.{Row}
+use Rattle.picture.specs.Screen as screen
+use Rattle.picture.specs.Layers as layer
+use Rattle.picture.specs.declared.Screen.{Screen}
+use Rattle.picture.specs.declared.Screen.the-variants as Shown
 use Rattle.picture.specs.declared.RenderArea.{RenderArea}
 use Rattle.picture.specs.declared.RenderArea.the-variants.{VisibleOnly, EffectiveArea, TrueEdges}
+-- the bytes and the status bits of a picture are any screen's
+unfoldable pub use Rattle.picture.specs.Screen.{rowBytes, statusBits}
 
 -- R2.1: the area of a number
 abbrev pub areaFrom : ℕ → RenderArea
 areaFrom n = cond (eqb n 0) VisibleOnly (cond (eqb n 1) EffectiveArea TrueEdges)
 
--- R2.6: how wide and how high; R4.2: the line of row 0
+-- the screen of an area
+abbrev pub screenOf : RenderArea → Screen
+screenOf VisibleOnly = Shown.VisibleOnly
+screenOf EffectiveArea = Shown.EffectiveArea
+screenOf TrueEdges = Shown.TrueEdges
+
+-- what its screen has
 abbrev pub columns : RenderArea → ℕ
-columns VisibleOnly = 160
-columns EffectiveArea = 256
-columns TrueEdges = 160
+columns a = screen.columns (screenOf a)
 
 abbrev pub rows : RenderArea → ℕ
-rows VisibleOnly = 144
-rows EffectiveArea = 224
-rows TrueEdges = 144
+rows a = screen.rows (screenOf a)
 
 abbrev pub firstLine : RenderArea → ℕ
-firstLine VisibleOnly = 24
-firstLine EffectiveArea = 0
-firstLine TrueEdges = 24
+firstLine a = screen.firstLine (screenOf a)
 
--- R2.6: the bytes of a row and of a frame
 abbrev pub rowSize : RenderArea → ℕ
-rowSize VisibleOnly = 640
-rowSize EffectiveArea = 1024
-rowSize TrueEdges = 640
+rowSize a = screen.rowSize (screenOf a)
 
 abbrev pub frameSize : RenderArea → ℕ
-frameSize VisibleOnly = 92160
-frameSize EffectiveArea = 229376
-frameSize TrueEdges = 92160
+frameSize a = screen.frameSize (screenOf a)
 
--- the view that row y of an area has, by the registers g and the latched scroll
 abbrev pub viewOf : RenderArea → (ℕ → ℕ) → ℕ → ℕ → View
-viewOf VisibleOnly g scroll y = visible g scroll y
-viewOf EffectiveArea g scroll y = effective g y
-viewOf TrueEdges g scroll y = trueEdges g scroll y
+viewOf a = screen.viewOf (screenOf a)
 
--- the picture of row y, by the registers, the latched scroll and video memory
-unfoldable pub pictureOf : RenderArea → List ℕ → ℕ → List ℕ → ℕ → Row
-pictureOf a reg scroll vram y = picture (at vram) (at reg) (viewOf a (at reg) scroll y)
+abbrev pub pictureOf : RenderArea → List ℕ → ℕ → List ℕ → ℕ → Row
+pictureOf a = screen.pictureOf (screenOf a)
 
--- R4.6, R6.2: the bytes of a picture: the four bytes of its colour at each column, and no column past the last
-unfoldable pub rowBytes : List ℕ → ℕ → Row → List ℕ
-rowBytes colours width p = table (width * 4) (λ k. byteOfColour (at colours (p .colour (k / 4))) (k % 4))
-
--- status bits 5 and 6, as the row sets them
-abbrev pub statusBits : Row → ℕ
-statusBits p = cond (p .hit) 32 0 + cond (p .ninth) 64 0
+abbrev pub layersOf : RenderArea → List ℕ → ℕ → List ℕ → ℕ → ℕ → ℕ
+layersOf a = layer.layersOf (screenOf a)

@@ -9,9 +9,9 @@ use Rattle.laws.specs.Lists.{at}
 use Rattle.laws.specs.Table.{table}
 use Rattle.picture.specs.View.{View}
 use Rattle.picture.specs.Picture.{Canvas, back, front, tableAt, listed, solid, heldBack, drawn, spriteCode, withSprite, bare}
-use Rattle.picture.specs.Area.{viewOf}
+use Rattle.picture.specs.Screen.{viewOf}
 use Rattle.picture.specs.declared.Stand.{Stand}
-use Rattle.picture.specs.declared.RenderArea.{RenderArea}
+use Rattle.picture.specs.declared.Screen.{Screen}
 
 -- R15.1: the layer of a column whose layer was `own`, where sprite n's pixel is drawn, or is held back, or neither: 0 the background, 1 the background in
 -- front of a sprite, 64 + n sprite n
@@ -41,9 +41,9 @@ module _ (m g : ℕ → ℕ) (stand : ℕ → Stand) (l : ℕ) (prio : ℕ → B
 unfoldable pub layers : (ℕ → ℕ) → (ℕ → ℕ) → View → ℕ → ℕ
 layers m g v = layersWith m g (v .stand) (v .line) (front m g v) (take 8 (listed m g (v .line) 64 0)) (bare (back m g v)) (λ x. 0)
 
--- the same of row y of an area, by the registers, the latched scroll and video memory
-unfoldable pub layersOf : RenderArea → List ℕ → ℕ → List ℕ → ℕ → ℕ → ℕ
-layersOf a reg scroll vram y = layers (at vram) (at reg) (viewOf a (at reg) scroll y)
+-- the same of row y of a screen, by the registers, the latched scroll and video memory
+unfoldable pub layersOf : Screen → List ℕ → ℕ → List ℕ → ℕ → ℕ → ℕ
+layersOf s reg scroll vram y = layers (at vram) (at reg) (viewOf s (at reg) scroll y)
 
 -- R15.3: a layer buffer with the layers of a row's columns in its first bytes, one a column, and behind them what was there. A buffer with fewer bytes than
 -- columns asks for no layers, and stays

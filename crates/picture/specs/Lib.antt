@@ -2,6 +2,7 @@
 pub mod Tile
 pub mod View
 pub mod Picture
-pub mod Area
+pub mod Screen
 pub mod Layers
+pub mod Area
 pub mod Examples

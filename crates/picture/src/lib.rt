@@ -1,6 +1,6 @@
 // The rules of the picture are in specs/. Here is what the code and the rules share.
 ghost use mathlib.Core.Path.{_≡_};
-ghost use Rattle.picture.specs.Area.{areaFrom};
+ghost use Rattle.picture.specs.Area.{areaFrom, screenOf};
 
 // What a step draws: the part that the screen shows, all that the chip makes, or the part that the screen shows with its edges by true columns.
 pub enum RenderArea {
@@ -19,6 +19,24 @@ pub fn area_from(n: u8) -> RenderArea
         RenderArea::EffectiveArea
     } else {
         RenderArea::TrueEdges
+    }
+}
+
+// What a row is drawn for: the screens of the handheld's areas.
+pub enum Screen {
+    VisibleOnly,
+    EffectiveArea,
+    TrueEdges,
+}
+
+// The screen of an area.
+pub fn screen_of(area: RenderArea) -> Screen
+    ensures { λ r. ⌜ r ≡ screenOf area ⌝ }
+{
+    match area {
+        RenderArea::VisibleOnly => Screen::VisibleOnly,
+        RenderArea::EffectiveArea => Screen::EffectiveArea,
+        RenderArea::TrueEdges => Screen::TrueEdges,
     }
 }
 

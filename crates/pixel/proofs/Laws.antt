@@ -24,7 +24,8 @@ use Rattle.picture.specs.Tile.{codeAt, namesAt, mapColour}
 use Rattle.picture.specs.View.{View, early, cutMark, visible, visibleStand, visibleSeen, visibleEnd, effectiveStand, trueEdges, edgeStand}
 use Rattle.picture.specs.Picture.{Canvas, front, solid, heldBack, marked, struck, drawn, laid, bare, tableAt, topOf, tall, onLine, listed, withSprites, picture}
 use Rattle.picture.specs.Picture.{back as map-at}
-use Rattle.picture.specs.Area.{columns, pictureOf}
+use Rattle.picture.specs.Screen.{pictureOf}
+use Rattle.picture.specs.Area.{screenOf, columns}
 use Rattle.background.specs.Background.{backColour, prioTo, cutOf}
 use Rattle.background.proofs.Views.{back-at, front-at, visible-x, effective-mark}
 use Rattle.sprites.specs.Sprites.{standOf}
@@ -56,7 +57,7 @@ edge-tied : (e h : ℕ) → Tied 0 0 (edgeStand 48 160 e h)
 unfolding edgeStand
 edge-tied e h = record { mark = λ q. refl; prio = λ q. omega arith; edge = λ q. inl refl; within = omega arith }
 
-pub tied : (area : RenderArea) (e h : ℕ) → e ≤ 8 → Tied (offOf area e) (backOf area (standOf area e h .start)) (standOf area e h)
+pub tied : (area : RenderArea) (e h : ℕ) → e ≤ 8 → Tied (offOf area e) (backOf area (standOf (screenOf area) e h .start)) (standOf (screenOf area) e h)
 tied VisibleOnly e h l = visible-tied e h l
 tied EffectiveArea e h l = effective-tied e h l
 tied TrueEdges e h l = edge-tied e h
@@ -77,7 +78,7 @@ edge-low : (e h : ℕ) → edgeStand 48 160 e h .end ≤ 8
 unfolding edgeStand
 edge-low e h = omega arith
 
-pub end-low : (area : RenderArea) (e h : ℕ) → standOf area e h .end ≤ 8
+pub end-low : (area : RenderArea) (e h : ℕ) → standOf (screenOf area) e h .end ≤ 8
 end-low VisibleOnly e h = visible-low e h
 end-low EffectiveArea e h = effective-low e h
 end-low TrueEdges e h = edge-low e h
@@ -243,7 +244,7 @@ module _ (e h col j : ℕ) (el : e ≤ 8) (hl : h < 256) (cl : col < 256) (l : j
       ]
 
   pub far-at : (area : RenderArea) → 15 - min col 7 ≤ (col + aheadOf area e + 256 - h) % 256
-      → 8 ≤ standOf area e h .start + past (leftOf (col + offOf area e) j) (standOf area e h .mark)
+      → 8 ≤ standOf (screenOf area) e h .start + past (leftOf (col + offOf area e) j) (standOf (screenOf area) e h .mark)
   far-at VisibleOnly d =
       ⊎-elim (λ z. omega arith) (λ z. rw z (let k = far-place (col + (48 + e)) j h (min col 7) hl (omega arith) l d in omega (arith, k))) (visible-mark e h el)
   far-at EffectiveArea d = rw (effective-mark-at e h) (let k = far-place (col + e) j h (min col 7) hl (omega arith) l d in omega (arith, k))
@@ -333,11 +334,11 @@ module _
         found (front (at vram) (at reg) v) (map-at (at vram) (at reg) v) (λ i h. front-at vram reg v names sx y ne ex ey cut em i) (back-at vram reg v names sx y ne ex ey cut em col l)
 
 pub scrolled-number : (a : RenderArea) (vram reg : List ℕ) (names sx cut scroll row col : ℕ) {r : ℕ}
-    → columns a ≡ 160 → at reg 8 < 256 → names ≡ namesAt (at reg) → sx ≡ (304 - at reg 8) % 256 → cut ≡ cutOf a (sx % 8) → col < 160
+    → columns a ≡ 160 → at reg 8 < 256 → names ≡ namesAt (at reg) → sx ≡ (304 - at reg 8) % 256 → cut ≡ cutOf (screenOf a) (sx % 8) → col < 160
     → ((f : ℕ → Bool) (colour : ℕ → ℕ) → ((i : ℕ) → i < 256 → prioTo vram names sx ((row + 24 + scroll) % 224) cut 160 i ≡ f i)
     → mapColour (at vram) names ((sx + col) % 256) ((row + 24 + scroll) % 224) ≡ colour col
-    → r ≡ withSprites (at vram) (at reg) (standOf a (early (at reg))) (row + 24) f (take 8 (listed (at vram) (at reg) (row + 24) 64 0)) (bare colour) .colour col)
-    → r ≡ pictureOf a reg scroll vram row .colour col
+    → r ≡ withSprites (at vram) (at reg) (standOf (screenOf a) (early (at reg))) (row + 24) f (take 8 (listed (at vram) (at reg) (row + 24) 64 0)) (bare colour) .colour col)
+    → r ≡ pictureOf (screenOf a) reg scroll vram row .colour col
 unfolding pictureOf visible trueEdges
 scrolled-number VisibleOnly vram reg names sx cut scroll row col w low ne se ce l found =
     view-number vram reg (visible (at reg) scroll row) names sx ((row + 24 + scroll) % 224) cut ne (λ x h. rw se (visible-x (at reg 8) x low)) (λ x. refl) (λ x h. rw (ce, se)) col l found

@@ -10,7 +10,7 @@ ghost use Rattle.picture.specs.Tile.{codeAt, mapColour, mapFront};
 ghost use Rattle.picture.specs.View.{early};
 ghost use Rattle.picture.specs.Picture.{Canvas, spriteLine, laid, listed, withSprites, bare};
 ghost use Rattle.picture.specs.declared.RenderArea.the-variants.{VisibleOnly, EffectiveArea};
-ghost use Rattle.picture.specs.Area.{columns, rows, pictureOf};
+ghost use Rattle.picture.specs.Area.{screenOf, columns, rows, pictureOf};
 ghost use Rattle.background.specs.Background.{Room, backFront};
 ghost use Rattle.sprites.specs.Sprites.{standOf, Fits};
 ghost use Rattle.pixel.specs.Column.{Set, Clear, frontAt, offOf, aheadOf, backOf, reachOf, marksLeft, colourWith, Tied, Shows};
@@ -323,14 +323,14 @@ fn sprite_at(
 ) -> Column
     requires { ⌜ Set (now vram) b ⌝ }
     requires { ⌜ (k + 2 ≤ vramSize) × (e ≤ 8) × (d < 16) × (col < 256) × (off ≡ offOf area e) × (off < 256) ⌝ }
-    ensures { λ r. ⌜ ((f : ℕ → Bool) (c : Canvas) → ((i : ℕ) → i < 256 → frontAt (now (vram .entry)) b i ≡ f i) → Shows col off c under → Shows col off (laid (standOf area e (at (now (vram .entry)) k)) (codeAt (at (now (vram .entry))) (spriteLine (at reg) (at (now (vram .entry)) (k + 1)) d)) f c) r) ⌝ }
+    ensures { λ r. ⌜ ((f : ℕ → Bool) (c : Canvas) → ((i : ℕ) → i < 256 → frontAt (now (vram .entry)) b i ≡ f i) → Shows col off c under → Shows col off (laid (standOf (screenOf area) e (at (now (vram .entry)) k)) (codeAt (at (now (vram .entry))) (spriteLine (at reg) (at (now (vram .entry)) (k + 1)) d)) f c) r) ⌝ }
 {
     let h = vram[k];
     let far = 15 - small::smaller(col, 7);
     if far <= (col + ahead_of(area, e) + 256 - small::wide(h)) % 256 {
         return under;
     }
-    let s = sprites::settings(area, e, h);
+    let s = sprites::settings(picture::screen_of(area), e, h);
     let addr = sprites::line_at(reg, vram[k + 1], d);
     let back = back_of(area, s.start);
     with_sprite(vram, b, s, addr, col, off, back, under)
@@ -347,7 +347,7 @@ fn column_at(
 ) -> usize
     requires { ⌜ Set (now vram) b ⌝ }
     requires { ⌜ (col < 256) × (line < 256) ⌝ }
-    ensures { λ r. ⌜ ((f : ℕ → Bool) (colour : ℕ → ℕ) → ((i : ℕ) → i < 256 → frontAt (now (vram .entry)) b i ≡ f i) → mapColour (at (now (vram .entry))) (b .names) ((b .sx + col) % 256) (b .y) ≡ colour col → r ≡ withSprites (at (now (vram .entry))) (at reg) (standOf area (early (at reg))) line f (take 8 (listed (at (now (vram .entry))) (at reg) line 64 0)) (bare colour) .colour col) ⌝ }
+    ensures { λ r. ⌜ ((f : ℕ → Bool) (colour : ℕ → ℕ) → ((i : ℕ) → i < 256 → frontAt (now (vram .entry)) b i ≡ f i) → mapColour (at (now (vram .entry))) (b .names) ((b .sx + col) % 256) (b .y) ≡ colour col → r ≡ withSprites (at (now (vram .entry))) (at reg) (standOf (screenOf area) (early (at reg))) line f (take 8 (listed (at (now (vram .entry))) (at reg) line 64 0)) (bare colour) .colour col) ⌝ }
 {
     let table = sprites::table_at(reg);
     let e = sprites::early_of(reg);
@@ -403,7 +403,7 @@ fn visible_number(
         names: background::names_at(reg),
         sx: sx,
         y: (row + GG_VISIBLE_AREA_START_Y + scroll) % SCROLL_PIXEL_HEIGHT,
-        cut: small::wide(background::cut_of(area, (sx % 8) as u8)),
+        cut: small::wide(background::cut_of(picture::screen_of(area), (sx % 8) as u8)),
         width: GG_VISIBLE_PIXEL_WIDTH,
     };
     column_at(vram, area, reg, b, row + GG_VISIBLE_AREA_START_Y, col)

@@ -9,7 +9,7 @@ use lib.ListN.{length}
 use Rattle.laws.proofs.Paint.{length-painted}
 use Rattle.picture.specs.declared.RenderArea.{RenderArea}
 use Rattle.picture.specs.declared.RenderArea.the-variants.{VisibleOnly, EffectiveArea, TrueEdges}
-use Rattle.picture.specs.Area.{rowSize, frameSize}
+use Rattle.picture.specs.Area.{screenOf, rowSize, frameSize}
 use Rattle.vdp.specs.declared.VdpState.{VdpState}
 use Rattle.vdp.specs.declared.ReadBack.{ReadBack}
 use Rattle.vdp.specs.Refusals.{Line}
@@ -63,7 +63,7 @@ same-step a ls ls′ {t} {w} h k k′ =
     ∙ sym (step-accepted ls′ a (w .vram) (w .run .vdp) k′)
 
 row-taken : (a : RenderArea) {t w : World} → Alike t w → rowSize a ≤ length (t .row) → Passed (rowLines a (t .vram) (length (t .row)))
-row-taken a {t} h k = row-passes a (t .vram) (length (t .row)) (h .vram) k
+row-taken a {t} h k = row-passes (screenOf a) (t .vram) (length (t .row)) (h .vram) k
 
 memory′ : {t w : World} → Alike t w → length (w .vram) ≡ 16384
 memory′ h = sym (ap length (h .memory)) ∙ h .vram
@@ -99,7 +99,7 @@ row-both a {t} {w} h k =
     let r = h .rows in
     let r′ = h .rows′ in
     same-step a (rowLines a (t .vram) (length (t .row))) (rowLines a (w .vram) (length (w .row))) h (row-taken a h (omega arith))
-    (row-passes a (w .vram) (length (w .row)) (memory′ h) (omega arith))
+    (row-passes (screenOf a) (w .vram) (length (w .row)) (memory′ h) (omega arith))
 
 -- into the frame in one of them
 into-both : (a : RenderArea) {t w : World} → Alike t w → frameSize a ≡ 92160 → rowSize a ≤ 1024 → SameTurn (rowTurn a t) (intoFrame a w)
@@ -108,7 +108,7 @@ into-both a {t} {w} h f k =
     let r = h .rows in
     let e =
     same-step a (rowLines a (t .vram) (length (t .row))) (frameLines a (w .vram) (length (w .frame))) h
-    (row-taken a h (omega arith)) (frame-passes a (w .vram) (length (w .frame)) (memory′ h) (h .frame ∙ sym f))
+    (row-taken a h (omega arith)) (frame-passes (screenOf a) (w .vram) (length (w .frame)) (memory′ h) (h .frame ∙ sym f))
     in
     record { answer = same-answer e; world = after-step a h e refl (frame-step-length a (w .vram) (w .run .vdp) (w .frame)) }
 

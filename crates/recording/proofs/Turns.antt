@@ -13,7 +13,7 @@ use Rattle.laws.proofs.Tests.{split}
 use Rattle.picture.proofs.Layers.{layersIn-at}
 use Rattle.picture.specs.declared.RenderArea.{RenderArea}
 use Rattle.picture.specs.declared.RenderArea.the-variants.{VisibleOnly, EffectiveArea, TrueEdges}
-use Rattle.picture.specs.Area.{columns, rows}
+use Rattle.picture.specs.Area.{screenOf, columns, rows}
 use Rattle.vdp.specs.declared.VdpState.{VdpState}
 use Rattle.vdp.specs.Refusals.{Line}
 use Rattle.vdp.specs.Ports.{portWrite, portRead}
@@ -66,7 +66,7 @@ frame-stepped a w {k} {frame} {t} g ea er =
 told-or-not :
     (ls : List Line) (a : RenderArea) (vram : List ℕ) (d : VdpState) (layers : List ℕ)
     → (stepWith ls a vram d .row ≡ NoRow)
-    ⊎ ((stepWith ls a vram d .row ≡ rowOn a (lineOf (counterUp d))) × (layersAfter ls a vram d layers ≡ layersBy (rowOn a (lineOf (counterUp d))) a (rowLayers a vram (counterUp d)) layers))
+    ⊎ ((stepWith ls a vram d .row ≡ rowOn a (lineOf (counterUp d))) × (layersAfter ls a vram d layers ≡ layersBy (rowOn a (lineOf (counterUp d))) (screenOf a) (rowLayers a vram (counterUp d)) layers))
 unfolding stepWith layersAfter stepped pointsOf
 told-or-not [] a vram d layers = inr (refl, refl)
 told-or-not (l ∷ ls) a vram d layers = split (l .holds) (λ t. inl (rw t)) (λ t. rw t (told-or-not ls a vram d layers))
@@ -78,14 +78,14 @@ same-rows EffectiveArea c = absurd (omega arith)
 same-rows TrueEdges c = refl
 
 module _ (a : RenderArea) (c : columns a ≡ 160) (vram : List ℕ) (d : VdpState) (frame layers : List ℕ) (n : length layers ≡ 160) where
-  shown-layers : (y : ℕ) → painted frame (160 * y) 160 (λ x. layerColour (at (layersBy (Drawn y) a (rowLayers a vram (counterUp d)) layers) x))
+  shown-layers : (y : ℕ) → painted frame (160 * y) 160 (λ x. layerColour (at (layersBy (Drawn y) (screenOf a) (rowLayers a vram (counterUp d)) layers) x))
       ≡ painted frame (160 * y) 160 (λ x. layerColour (rowLayers a vram (counterUp d) y x))
   unfolding layersBy
   shown-layers y =
       let h : 160 ≤ length layers = omega arith in
       painted-cong frame (160 * y) 160 _ _ (λ x i. ap layerColour (rw c (layersIn-at layers 160 (rowLayers a vram (counterUp d) y) h x i)))
 
-  painted-by : (r : DrawnRow) → layersPainted r (λ y. at (layersBy r a (rowLayers a vram (counterUp d)) layers)) frame ≡ layersPainted r (rowLayers a vram (counterUp d)) frame
+  painted-by : (r : DrawnRow) → layersPainted r (λ y. at (layersBy r (screenOf a) (rowLayers a vram (counterUp d)) layers)) frame ≡ layersPainted r (rowLayers a vram (counterUp d)) frame
   painted-by NoRow = refl
   painted-by (Drawn y) = shown-layers y
 
@@ -99,11 +99,11 @@ module _ (a : RenderArea) (c : columns a ≡ 160) (vram : List ℕ) (d : VdpStat
       ]
 
   -- the row that is drawn is one of the area's
-  pub row-told : (ls : List Line) {r : DrawnRow} → r ≡ stepWith ls a vram d .row → RowIn VisibleOnly r
+  pub row-told : (ls : List Line) {r : DrawnRow} → r ≡ stepWith ls a vram d .row → RowIn (screenOf VisibleOnly) r
   row-told ls er =
       elim (told-or-not ls a vram d layers) [
         | inl z ↦ λ y q. absurd (let k : NoRow ≡ Drawn y = sym (er ∙ z) ∙ q in let o : _≡_ {A = ℕ} 0 1 = cc in omega arith)
-        | inr z ↦ λ y q. omega (arith, row-in a (lineOf (counterUp d)) (er ∙ z .0) y q, same-rows a c)
+        | inr z ↦ λ y q. omega (arith, row-in (screenOf a) (lineOf (counterUp d)) (er ∙ z .0) y q, same-rows a c)
       ]
 
 pub layer-stepped :

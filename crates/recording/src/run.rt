@@ -5,7 +5,7 @@ ghost use Prim.Native.Nat.{_-_, _<_, _≤_};
 ghost use lib.ListN.{length};
 ghost use Rattle.laws.specs.Lists.{at};
 ghost use Rattle.picture.specs.declared.RenderArea.the-variants.{VisibleOnly};
-ghost use Rattle.picture.specs.Area.{columns, frameSize};
+ghost use Rattle.picture.specs.Area.{screenOf, columns, frameSize};
 ghost use Rattle.step.specs.Points.{RowIn};
 ghost use Rattle.vdp.specs.Ports.{portWrite, portRead};
 ghost use Rattle.recording.specs.Run.{held, on, stepAnswer, rowTurn, layerColour, layersPainted, layersInto, turnFor, turnOf, TurnLeaves};
@@ -146,7 +146,7 @@ fn layer_colour(layer: u8) -> u32
 
 // The layers of a row as colours, into its place in the frame.
 fn paint_layers(frame: &mut [u8], drawn: DrawnRow, layers: &[u8; 160])
-    requires { ⌜ (frameSize VisibleOnly ≤ length (now frame)) × RowIn VisibleOnly drawn ⌝ }
+    requires { ⌜ (frameSize VisibleOnly ≤ length (now frame)) × RowIn (screenOf VisibleOnly) drawn ⌝ }
     ensures { λ _. ⌜ now (frame .exit) ≡ layersPainted drawn (λ y. at (now (layers .entry))) (now (frame .entry)) ⌝ }
 {
     let DrawnRow::Drawn(y) = drawn else {

@@ -13,13 +13,13 @@ use Rattle.laws.proofs.Paint.{painted-cong, painted-all}
 use Rattle.bitmap.specs.Mask.{bytesOf}
 use Rattle.bitmap.proofs.Circle.{bytesOf-ext}
 use Rattle.picture.specs.declared.Stand.{Stand}
-use Rattle.picture.specs.declared.RenderArea.{RenderArea}
-use Rattle.picture.specs.declared.RenderArea.the-variants.{VisibleOnly, EffectiveArea, TrueEdges}
+use Rattle.picture.specs.declared.Screen.{Screen}
+use Rattle.picture.specs.declared.Screen.the-variants.{VisibleOnly, EffectiveArea, TrueEdges}
 use Rattle.picture.specs.Tile.{namesAt}
 use Rattle.picture.specs.View.{View, cutMark, early, visible, trueEdges}
 use Rattle.picture.specs.Picture.{Row, back, front, picture}
 use Rattle.picture.specs.Layers.{layers, layersOf, layersIn}
-use Rattle.picture.specs.Area.{columns, rowSize, pictureOf, rowBytes, statusBits}
+use Rattle.picture.specs.Screen.{columns, rowSize, pictureOf, rowBytes, statusBits}
 use Rattle.picture.proofs.Laws.{length-rowBytes, row-size}
 use Rattle.background.specs.Background.{backColour, shade, prioTo, cutOf}
 use Rattle.background.proofs.Views.{back-at, front-at, visible-x, effective-mark}
@@ -39,7 +39,7 @@ module _
     front-is = bytesOf-ext _ _ (λ i h. front-at vram reg v names sx y ne ex ey cut em i)
 
 -- ---- a finished line of sprites over it is the picture
-as-bytes : (row₀ colours : List ℕ) (width : ℕ) (p : Row) {row : List ℕ} → row ≡ painted row₀ 0 width (λ x. at colours (p .colour x)) → width * 4 ≤ length row₀
+pub as-bytes : (row₀ colours : List ℕ) (width : ℕ) (p : Row) {row : List ℕ} → row ≡ painted row₀ 0 width (λ x. at colours (p .colour x)) → width * 4 ≤ length row₀
     → row ≡ rowBytes colours width p ++ drop (width * 4) row₀
 unfolding rowBytes
 as-bytes row₀ colours width p e h = e ∙ painted-all row₀ width (λ x. at colours (p .colour x)) h
@@ -50,9 +50,9 @@ pub row-is : (m g : ℕ → ℕ) (v : View) (row₀ layers₀ colours : List ℕ
 unfolding picture layers
 row-is m g v row₀ layers₀ colours h f e = (as-bytes row₀ colours (v .width) (picture m g v) (f .bytes) h, e ∙ rw (f .struck, f .many), f .owners)
 
--- ---- a row of the visible size, by the view of its area
+-- ---- a row of the visible size, by the view of its screen
 -- what a line of sprites promises of the row under it, whatever that shows
-abbrev Sprites : (ℕ → ℕ) → (ℕ → ℕ) → (ℕ → Stand) → ℕ → List ℕ → ℕ → List ℕ → List ℕ → List ℕ → List ℕ → List ℕ → Bool → Bool → Type 0
+abbrev pub Sprites : (ℕ → ℕ) → (ℕ → ℕ) → (ℕ → Stand) → ℕ → List ℕ → ℕ → List ℕ → List ℕ → List ℕ → List ℕ → List ℕ → Bool → Bool → Type 0
 Sprites m g stand line colours width prio row₁ row layers₁ layers′ hit ninth =
     (row₀ layers₀ : List ℕ) (f : ℕ → Bool) (colour : ℕ → ℕ) → prio ≡ bytesOf f → row₁ ≡ painted row₀ 0 width (λ x. at colours (colour x)) → layers₁ ≡ layersIn layers₀ width (λ x. 0)
     → Finished m g stand line f row₀ colours width colour row hit ninth layers₀ layers′
@@ -72,12 +72,12 @@ module _
         (drawn row₀ layers₀ (front (at vram) (at reg) v) (back (at vram) (at reg) v) (pe ∙ front-is vram reg v names sx y ne ex ey cut em) (re ∙ back-is vram reg v names sx y ne ex ey cut em row₀ colours) le)
         be
 
-pub scrolled : (a : RenderArea) (vram reg : List ℕ) (names sx cut scroll line : ℕ) (row₀ layers₀ colours : List ℕ) {row₁ row layers₁ layers′ prio : List ℕ} {hit ninth : Bool} {bits : ℕ}
-    → columns a ≡ 160 → at reg 8 < 256 → names ≡ namesAt (at reg) → sx ≡ (304 - at reg 8) % 256 → cut ≡ cutOf a (sx % 8) → 640 ≤ length row₀
+pub scrolled : (s : Screen) (vram reg : List ℕ) (names sx cut scroll line : ℕ) (row₀ layers₀ colours : List ℕ) {row₁ row layers₁ layers′ prio : List ℕ} {hit ninth : Bool} {bits : ℕ}
+    → columns s ≡ 160 → at reg 8 < 256 → names ≡ namesAt (at reg) → sx ≡ (304 - at reg 8) % 256 → cut ≡ cutOf s (sx % 8) → 640 ≤ length row₀
     → row₁ ≡ painted row₀ 0 160 (shade colours (backColour vram names sx ((line + 24 + scroll) % 224))) → prio ≡ bytesOf (prioTo vram names sx ((line + 24 + scroll) % 224) cut 160)
     → layers₁ ≡ layersIn layers₀ 160 (λ x. 0)
-    → Sprites (at vram) (at reg) (standOf a (early (at reg))) (line + 24) colours 160 prio row₁ row layers₁ layers′ hit ninth → bits ≡ cond hit 32 0 + cond ninth 64 0
-    → Drawn a colours (pictureOf a reg scroll vram line) row₀ row bits × (layers′ ≡ layersIn layers₀ (columns a) (layersOf a reg scroll vram line))
+    → Sprites (at vram) (at reg) (standOf s (early (at reg))) (line + 24) colours 160 prio row₁ row layers₁ layers′ hit ninth → bits ≡ cond hit 32 0 + cond ninth 64 0
+    → Drawn s colours (pictureOf s reg scroll vram line) row₀ row bits × (layers′ ≡ layersIn layers₀ (columns s) (layersOf s reg scroll vram line))
 unfolding pictureOf layersOf visible trueEdges
 scrolled VisibleOnly vram reg names sx cut scroll line row₀ layers₀ colours w low ne se ce room re pe le drawn be =
     let d = view-row vram reg (visible (at reg) scroll line) names sx ((line + 24 + scroll) % 224) cut ne (λ x l. rw se (visible-x (at reg 8) x low)) (λ x. refl) (λ x l. rw (ce, se)) row₀ layers₀ colours room re pe le drawn be in
@@ -88,12 +88,12 @@ scrolled TrueEdges vram reg names sx cut scroll line row₀ layers₀ colours w 
     (record { bytes = d .0; status = d .1 }, d .2)
 
 -- ---- what a drawn row leaves: the buffer's length, and all behind the row
-module _ (a : RenderArea) (colours : List ℕ) (p : Row) (row₀ row : List ℕ) (bits : ℕ) (d : Drawn a colours p row₀ row bits) where
-  own : length (rowBytes colours (columns a) p) ≡ rowSize a
-  own = length-rowBytes colours (columns a) p ∙ row-size a
+module _ (s : Screen) (colours : List ℕ) (p : Row) (row₀ row : List ℕ) (bits : ℕ) (d : Drawn s colours p row₀ row bits) where
+  own : length (rowBytes colours (columns s) p) ≡ rowSize s
+  own = length-rowBytes colours (columns s) p ∙ row-size s
 
-  pub drawn-length : rowSize a ≤ length row₀ → length row ≡ length row₀
+  pub drawn-length : rowSize s ≤ length row₀ → length row ≡ length row₀
   drawn-length h = ap length (d .bytes) ∙ rw (length-append, own, length-drop) (omega arith)
 
-  pub drawn-rest : drop (rowSize a) row ≡ drop (rowSize a) row₀
-  drawn-rest = ap (drop (rowSize a)) (d .bytes) ∙ drop-at (rowBytes colours (columns a) p) (drop (rowSize a) row₀) (rowSize a) own
+  pub drawn-rest : drop (rowSize s) row ≡ drop (rowSize s) row₀
+  drawn-rest = ap (drop (rowSize s)) (d .bytes) ∙ drop-at (rowBytes colours (columns s) p) (drop (rowSize s) row₀) (rowSize s) own

@@ -1,14 +1,14 @@
-// One row of an area, drawn into a lent row buffer by the picture of section 5, and the layers of its columns (section 15).
+// One row of a screen, drawn into a lent row buffer by the picture of sections 5 and 18, and the layers of its columns (section 15).
 ghost use mathlib.Core.Path.{_≡_};
 ghost use mathlib.Core.Bool.{cond};
 ghost use Prim.Native.Nat.{ℕ, _+_, _<_, _≤_};
 ghost use lib.ListN.{length};
 ghost use Rattle.laws.specs.Sizes.{vramSize};
-ghost use Rattle.picture.specs.declared.RenderArea.the-variants.{VisibleOnly, EffectiveArea};
-ghost use Rattle.picture.specs.Area.{columns, rows, rowSize, pictureOf};
+ghost use Rattle.picture.specs.declared.Screen.the-variants.{VisibleOnly, EffectiveArea};
+ghost use Rattle.picture.specs.Screen.{columns, rows, rowSize, pictureOf};
 ghost use Rattle.picture.specs.Layers.{layersOf, layersIn};
 ghost use Rattle.row.specs.Row.{Drawn};
-use picture::RenderArea;
+use picture::Screen;
 use sprites::Line;
 
 // Width and first line of the visible area, with its own edges or with true ones; width and height of the map, which are those of the effective area.
@@ -47,25 +47,25 @@ fn clear(layers: &mut [u8], width: usize)
     }
 }
 
-// Row `line` of an area of the visible size: scrolled both ways, its sprites by the line that is 24 further down.
+// Row `line` of a screen of the visible size: scrolled both ways, its sprites by the line that is 24 further down.
 fn render_line_visible(
     row: &mut [u8],
     layers: &mut [u8],
     vram: &[u8],
     colours: &[u32; 32],
-    area: RenderArea,
+    screen: Screen,
     reg: [u8; 11],
     scroll: usize,
     line: usize,
 ) -> u8
-    requires { ⌜ (length (now vram) ≡ vramSize) × (rowSize VisibleOnly ≤ length (now row)) × (scroll < 256) × (line < rows VisibleOnly) × (columns area ≡ columns VisibleOnly) ⌝ }
-    ensures { λ r. ⌜ Drawn area (now (colours .entry)) (pictureOf area reg scroll (now (vram .entry)) line) (now (row .entry)) (now (row .exit)) r ⌝ }
-    ensures { λ r. ⌜ now (layers .exit) ≡ layersIn (now (layers .entry)) (columns area) (layersOf area reg scroll (now (vram .entry)) line) ⌝ }
+    requires { ⌜ (length (now vram) ≡ vramSize) × (rowSize VisibleOnly ≤ length (now row)) × (scroll < 256) × (line < rows VisibleOnly) × (columns screen ≡ columns VisibleOnly) ⌝ }
+    ensures { λ r. ⌜ Drawn screen (now (colours .entry)) (pictureOf screen reg scroll (now (vram .entry)) line) (now (row .entry)) (now (row .exit)) r ⌝ }
+    ensures { λ r. ⌜ now (layers .exit) ≡ layersIn (now (layers .entry)) (columns screen) (layersOf screen reg scroll (now (vram .entry)) line) ⌝ }
 {
     clear(layers, GG_VISIBLE_PIXEL_WIDTH);
     let sx = (304 - small::wide(reg[8])) % 256;
     let y = (line + GG_VISIBLE_AREA_START_Y + scroll) % SCROLL_PIXEL_HEIGHT;
-    let cut = background::cut_of(area, (sx % 8) as u8);
+    let cut = background::cut_of(screen, (sx % 8) as u8);
     let prio = background::render_background_line(
         row,
         vram,
@@ -81,7 +81,7 @@ fn render_line_visible(
         layers,
         vram,
         colours,
-        area,
+        screen,
         reg,
         line + GG_VISIBLE_AREA_START_Y,
         GG_VISIBLE_PIXEL_WIDTH,
@@ -118,7 +118,7 @@ fn render_line_effective(
         layers,
         vram,
         colours,
-        RenderArea::EffectiveArea,
+        Screen::EffectiveArea,
         reg,
         line,
         SCROLL_PIXEL_WIDTH,
@@ -126,40 +126,31 @@ fn render_line_effective(
     ))
 }
 
-// Row `line` of an area, by the registers, the latched scroll, the cached colours and video memory; answers the status bits
+// Row `line` of a screen, by the registers, the latched scroll, the cached colours and video memory; answers the status bits
 // that it sets. Its layers go to the first bytes of `layers`, one a column; a buffer with fewer bytes asks for none.
 pub fn render_line(
     row: &mut [u8],
     layers: &mut [u8],
     vram: &[u8],
     colours: &[u32; 32],
-    area: RenderArea,
+    screen: Screen,
     reg: [u8; 11],
     scroll: u8,
     line: u8,
 ) -> u8
-    requires { ⌜ (length (now vram) ≡ vramSize) × (rowSize area ≤ length (now row)) × (line < rows area) ⌝ }
-    ensures { λ r. ⌜ Drawn area (now (colours .entry)) (pictureOf area reg scroll (now (vram .entry)) line) (now (row .entry)) (now (row .exit)) r ⌝ }
-    ensures { λ r. ⌜ now (layers .exit) ≡ layersIn (now (layers .entry)) (columns area) (layersOf area reg scroll (now (vram .entry)) line) ⌝ }
+    requires { ⌜ (length (now vram) ≡ vramSize) × (rowSize screen ≤ length (now row)) × (line < rows screen) ⌝ }
+    ensures { λ r. ⌜ Drawn screen (now (colours .entry)) (pictureOf screen reg scroll (now (vram .entry)) line) (now (row .entry)) (now (row .exit)) r ⌝ }
+    ensures { λ r. ⌜ now (layers .exit) ≡ layersIn (now (layers .entry)) (columns screen) (layersOf screen reg scroll (now (vram .entry)) line) ⌝ }
 {
     let s = small::wide(scroll);
     let l = small::wide(line);
-    match area {
-        RenderArea::VisibleOnly => {
-            render_line_visible(
-                row,
-                layers,
-                vram,
-                colours,
-                RenderArea::VisibleOnly,
-                reg,
-                s,
-                l,
-            )
+    match screen {
+        Screen::VisibleOnly => {
+            render_line_visible(row, layers, vram, colours, Screen::VisibleOnly, reg, s, l)
         }
-        RenderArea::EffectiveArea => render_line_effective(row, layers, vram, colours, reg, l),
-        RenderArea::TrueEdges => {
-            render_line_visible(row, layers, vram, colours, RenderArea::TrueEdges, reg, s, l)
+        Screen::EffectiveArea => render_line_effective(row, layers, vram, colours, reg, l),
+        Screen::TrueEdges => {
+            render_line_visible(row, layers, vram, colours, Screen::TrueEdges, reg, s, l)
         }
     }
 }

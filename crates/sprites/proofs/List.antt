@@ -15,7 +15,7 @@ use Rattle.laws.specs.Lists.{at}
 use Rattle.laws.specs.Paint.{painted}
 use Rattle.bitmap.specs.Mask.{cleared}
 use Rattle.picture.specs.declared.Stand.{Stand}
-use Rattle.picture.specs.declared.RenderArea.{RenderArea}
+use Rattle.picture.specs.declared.Screen.{Screen}
 use Rattle.picture.specs.Tile.{codeAt}
 use Rattle.picture.specs.View.{early}
 use Rattle.picture.specs.Layers.{owned, ownedBy, layersWith, layersIn}
@@ -25,18 +25,18 @@ use Rattle.sprites.specs.Sprites.{standOf, Follows, Laid}
 use Rattle.sprites.proofs.Laws.{Shows}
 
 -- the sprite that the code lays is sprite n
-pub with-sprite-is : (vram reg : List ℕ) (area : RenderArea) (line n d : ℕ) (f : ℕ → Bool) (c : Canvas) {s : Stand} {e table addr : ℕ} → table ≡ tableAt (at reg)
-    → e ≡ early (at reg) → s ≡ standOf area e (at vram (table + 128 + 2 * n)) → d ≡ line - topOf (at vram) (at reg) n
-    → addr ≡ spriteLine (at reg) (at vram (table + 128 + 2 * n + 1)) d → laid s (codeAt (at vram) addr) f c ≡ withSprite (at vram) (at reg) (standOf area (early (at reg))) line f n c
+pub with-sprite-is : (vram reg : List ℕ) (screen : Screen) (line n d : ℕ) (f : ℕ → Bool) (c : Canvas) {s : Stand} {e table addr : ℕ} → table ≡ tableAt (at reg)
+    → e ≡ early (at reg) → s ≡ standOf screen e (at vram (table + 128 + 2 * n)) → d ≡ line - topOf (at vram) (at reg) n
+    → addr ≡ spriteLine (at reg) (at vram (table + 128 + 2 * n + 1)) d → laid s (codeAt (at vram) addr) f c ≡ withSprite (at vram) (at reg) (standOf screen (early (at reg))) line f n c
 unfolding withSprite spriteCode
-with-sprite-is vram reg area line n d f c te ee se de ae = rw (se, ae, de, ee, te)
+with-sprite-is vram reg screen line n d f c te ee se de ae = rw (se, ae, de, ee, te)
 
-pub owned-is : (vram reg : List ℕ) (area : RenderArea) (line n d : ℕ) (f : ℕ → Bool) (c : Canvas) (own : ℕ → ℕ) {s : Stand} {e table addr : ℕ} → table ≡ tableAt (at reg)
-    → e ≡ early (at reg) → s ≡ standOf area e (at vram (table + 128 + 2 * n)) → d ≡ line - topOf (at vram) (at reg) n
+pub owned-is : (vram reg : List ℕ) (screen : Screen) (line n d : ℕ) (f : ℕ → Bool) (c : Canvas) (own : ℕ → ℕ) {s : Stand} {e table addr : ℕ} → table ≡ tableAt (at reg)
+    → e ≡ early (at reg) → s ≡ standOf screen e (at vram (table + 128 + 2 * n)) → d ≡ line - topOf (at vram) (at reg) n
     → addr ≡ spriteLine (at reg) (at vram (table + 128 + 2 * n + 1)) d
-    → owned s (codeAt (at vram) addr) f c n own ≡ ownedBy (at vram) (at reg) (standOf area (early (at reg))) line f n c own
+    → owned s (codeAt (at vram) addr) f c n own ≡ ownedBy (at vram) (at reg) (standOf screen (early (at reg))) line f n c own
 unfolding ownedBy spriteCode
-owned-is vram reg area line n d f c own te ee se de ae = rw (se, ae, de, ee, te)
+owned-is vram reg screen line n d f c own te ee se de ae = rw (se, ae, de, ee, te)
 
 -- ---- the list from sprite n on
 module _ (m g : ℕ → ℕ) (l n : ℕ) (low : n < 64) where

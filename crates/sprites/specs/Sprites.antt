@@ -11,16 +11,16 @@ use Rattle.laws.specs.Paint.{painted}
 use Rattle.laws.specs.Sizes.{vramSize}
 use Rattle.bitmap.specs.Mask.{bytesOf}
 use Rattle.picture.specs.declared.Stand.{Stand}
-use Rattle.picture.specs.declared.RenderArea.{RenderArea}
-use Rattle.picture.specs.declared.RenderArea.the-variants.{VisibleOnly, EffectiveArea, TrueEdges}
+use Rattle.picture.specs.declared.Screen.{Screen}
+use Rattle.picture.specs.declared.Screen.the-variants.{VisibleOnly, EffectiveArea, TrueEdges}
 use Rattle.picture.specs.View.{visibleStand, effectiveStand, edgeStand}
 use Rattle.picture.specs.Picture.{listed, topOf, withSprites, bare}
 use Rattle.picture.specs.Layers.{layersWith, layersIn}
 use Rattle.tile.specs.Layer.{stamped}
 use Rattle.sprites.specs.declared.Marks.{Marks}
 
--- where a sprite with X byte h stands in an area
-abbrev pub standOf : RenderArea → ℕ → ℕ → Stand
+-- where a sprite with X byte h stands on a screen
+abbrev pub standOf : Screen → ℕ → ℕ → Stand
 standOf VisibleOnly e h = visibleStand e h
 standOf EffectiveArea e h = effectiveStand e h
 standOf TrueEdges e h = edgeStand 48 160 e h

@@ -18,7 +18,7 @@ ghost use Rattle.picture.specs.Layers.{layersIn};
 ghost use Rattle.tile.specs.Line.{lineMarked, lineDrawn, lineHeld, spriteColour};
 ghost use Rattle.sprites.specs.Sprites.{standOf, Fits, Follows, Finished, Laid, Room, stampedIf};
 use bitmap::Bitmap;
-use picture::RenderArea;
+use picture::Screen;
 use picture::Stand;
 use tile::Columns;
 
@@ -157,16 +157,16 @@ fn sprite_line_settings_true(left: u8, width: usize, e: u8, h: u8) -> Stand
     }
 }
 
-// The same in each area.
-pub fn settings(area: RenderArea, e: u8, h: u8) -> Stand
+// The same on each screen.
+pub fn settings(screen: Screen, e: u8, h: u8) -> Stand
     requires { ⌜ e ≤ 8 ⌝ }
-    ensures { λ r. ⌜ r ≡ standOf area e h ⌝ }
+    ensures { λ r. ⌜ r ≡ standOf screen e h ⌝ }
     ensures { λ r. ⌜ Fits r ⌝ }
 {
-    match area {
-        RenderArea::VisibleOnly => sprite_line_settings_visible(e, h),
-        RenderArea::EffectiveArea => sprite_line_settings_effective(e, h),
-        RenderArea::TrueEdges => sprite_line_settings_true(48, 160, e, h),
+    match screen {
+        Screen::VisibleOnly => sprite_line_settings_visible(e, h),
+        Screen::EffectiveArea => sprite_line_settings_effective(e, h),
+        Screen::TrueEdges => sprite_line_settings_true(48, 160, e, h),
     }
 }
 
@@ -366,7 +366,7 @@ fn sprites_line(
     layers: &mut [u8],
     vram: &[u8],
     colours: &[u32; 32],
-    area: RenderArea,
+    screen: Screen,
     reg: [u8; 11],
     line: usize,
     width: usize,
@@ -374,7 +374,7 @@ fn sprites_line(
     mut mask: Bitmap,
 ) -> Marks
     requires { ⌜ Room (now vram) (now row) width ⌝ }
-    ensures { λ r. ⌜ ((row₀ layers₀ : List ℕ) (f : ℕ → Bool) (colour : ℕ → ℕ) → prio .bits ≡ bytesOf f → mask .bits ≡ cleared → now (row .entry) ≡ painted row₀ 0 width (λ x. at (now (colours .entry)) (colour x)) → now (layers .entry) ≡ layersIn layers₀ width (λ x. 0) → Laid (at (now (vram .entry))) (at reg) (standOf area (early (at reg))) line f row₀ (now (colours .entry)) width colour (now (row .exit)) r layers₀ (now (layers .exit))) ⌝ }
+    ensures { λ r. ⌜ ((row₀ layers₀ : List ℕ) (f : ℕ → Bool) (colour : ℕ → ℕ) → prio .bits ≡ bytesOf f → mask .bits ≡ cleared → now (row .entry) ≡ painted row₀ 0 width (λ x. at (now (colours .entry)) (colour x)) → now (layers .entry) ≡ layersIn layers₀ width (λ x. 0) → Laid (at (now (vram .entry))) (at reg) (standOf screen (early (at reg))) line f row₀ (now (colours .entry)) width colour (now (row .exit)) r layers₀ (now (layers .exit))) ⌝ }
 {
     let table = table_at(reg);
     let lines = height(small::is_set(reg[1], 1));
@@ -391,7 +391,7 @@ fn sprites_line(
             };
         }
         let k = table + 128 + 2 * next.n;
-        let s = settings(area, e, vram[k]);
+        let s = settings(screen, e, vram[k]);
         let addr = line_at(reg, vram[k + 1], next.d);
         let front = s.prio % 256;
         let p = front / 8;
@@ -435,14 +435,14 @@ pub fn render_sprites_line(
     layers: &mut [u8],
     vram: &[u8],
     colours: &[u32; 32],
-    area: RenderArea,
+    screen: Screen,
     reg: [u8; 11],
     line: usize,
     width: usize,
     prio: Bitmap,
 ) -> Line
     requires { ⌜ Room (now vram) (now row) width ⌝ }
-    ensures { λ r. ⌜ ((row₀ layers₀ : List ℕ) (f : ℕ → Bool) (colour : ℕ → ℕ) → prio .bits ≡ bytesOf f → now (row .entry) ≡ painted row₀ 0 width (λ x. at (now (colours .entry)) (colour x)) → now (layers .entry) ≡ layersIn layers₀ width (λ x. 0) → Finished (at (now (vram .entry))) (at reg) (standOf area (early (at reg))) line f row₀ (now (colours .entry)) width colour (now (row .exit)) (r .hit) (r .ninth) layers₀ (now (layers .exit))) ⌝ }
+    ensures { λ r. ⌜ ((row₀ layers₀ : List ℕ) (f : ℕ → Bool) (colour : ℕ → ℕ) → prio .bits ≡ bytesOf f → now (row .entry) ≡ painted row₀ 0 width (λ x. at (now (colours .entry)) (colour x)) → now (layers .entry) ≡ layersIn layers₀ width (λ x. 0) → Finished (at (now (vram .entry))) (at reg) (standOf screen (early (at reg))) line f row₀ (now (colours .entry)) width colour (now (row .exit)) (r .hit) (r .ninth) layers₀ (now (layers .exit))) ⌝ }
 {
     let none = Bitmap::new();
     let marks = sprites_line(
@@ -450,7 +450,7 @@ pub fn render_sprites_line(
         layers,
         vram,
         colours,
-        area,
+        screen,
         reg,
         line,
         width,

@@ -18,8 +18,10 @@ use Rattle.laws.proofs.Frames.{row-length, row-here, row-other}
 use Rattle.laws.proofs.Tables.{length-table}
 use Rattle.laws.proofs.Tests.{either, split, both}
 use Rattle.dump.specs.Dump.{dumpSize, dumped}
+use Rattle.picture.specs.declared.Screen.{Screen}
 use Rattle.picture.specs.declared.RenderArea.{RenderArea}
-use Rattle.picture.specs.Area.{columns, rows, rowSize, frameSize, rowBytes, statusBits}
+use Rattle.picture.specs.Screen.{columns, rows, rowSize, frameSize, rowBytes, statusBits}
+use Rattle.picture.specs.Area.{screenOf}
 use Rattle.picture.proofs.Laws.{length-rowBytes, row-size}
 use Rattle.raster.specs.declared.Raster.{Raster}
 use Rattle.raster.specs.Raster.{advanced, lineInterrupt, counted, ticked}
@@ -60,7 +62,7 @@ module _ (ls : List Line) (a : RenderArea) (vram : List ℕ) (d : VdpState) wher
   step-left = under-either Left ls (λ r. refusedStep r d) (stepped a vram d) (λ r n. refl) (λ p n. absurd (n refl))
 
 -- the tables of the two steps: where no line of them holds, and that each line refuses
-module _ (a : RenderArea) (vram : List ℕ) (size : ℕ) where
+module _ (a : Screen) (vram : List ℕ) (size : ℕ) where
   pub row-passes : length vram ≡ 16384 → rowSize a ≤ size → Passed (rowLines a vram size)
   row-passes m h = (ap not (eq-eqb (length vram) 16384 m), (le-ltb size (rowSize a) h, tt))
 
@@ -109,14 +111,14 @@ module _ (a : RenderArea) (vram : List ℕ) (d : VdpState) where
 
   -- the status that the points leave, with the row r
   abbrev last : DrawnRow → ℕ
-  last r = endedBy (lineOf (counterUp d)) (bitOr (d .status) (bitsOf r (comingPicture a vram (readingOf d))))
+  last r = endedBy (lineOf (counterUp d)) (bitOr (d .status) (bitsOf r (comingPicture (screenOf a) vram (readingOf d))))
 
   left-by : (r : DrawnRow) → withRaster (withStatus (cleaned r d (coloursNow d)) (last r)) (counted (register d) (risen (readingOf d))) ≡ left r
   unfolding bitsOf endedBy ticked
   left-by NoRow = rw (or-zero-r (d .status))
   left-by (Drawn y) = refl
 
-  module _ {r : DrawnRow} (e : rowOn a (lineOf (counterUp d)) ≡ r) where
+  module _ {r : DrawnRow} (e : rowOn (screenOf a) (lineOf (counterUp d)) ≡ r) where
     pub stepped-vdp :
         stepped a vram d .vdp
         ≡ device (statusAfter r a vram (counterUp d)) (d .reg) (ticked (register d) (d .raster)) (d .addr) (d .«vram_buffer») (d .dest) (d .cram)
@@ -206,7 +208,7 @@ end-bit false s = sym (or-false (bit s 7))
 
 pub stepped-end : (a : RenderArea) (vram : List ℕ) (d : VdpState) → bit (stepped a vram d .vdp .status) 7 ≡ (bit (d .status) 7 || atEnd (lineOf (counterUp d)))
 stepped-end a vram d =
-    let r = rowOn a (lineOf (counterUp d)) in
+    let r = rowOn (screenOf a) (lineOf (counterUp d)) in
     ap (λ (s : ℕ). bit s 7) (stepped-status a vram d {r = r} refl)
     ∙ end-bit (atEnd (lineOf (counterUp d))) (statusDrawn r a vram (counterUp d))
     ∙ ap (λ (b : Bool). b || atEnd (lineOf (counterUp d))) (drawn-end r a vram (counterUp d))
@@ -218,7 +220,7 @@ step-table ls a vram d =
     under-either (λ (s : Stepped). s .vdp .raster .table ≡ d .raster .table) ls (λ r. refusedStep r d) (stepped a vram d) (λ r. refl) (λ p. stepped-table a vram d)
 
 -- ---- a row buffer and a frame, over what the points read
-module _ (a : RenderArea) (vram : List ℕ) (k : Reading) where
+module _ (a : Screen) (vram : List ℕ) (k : Reading) where
   -- the bytes of row y, as this step draws it
   abbrev pub comingBytes : ℕ → List ℕ
   comingBytes y = rowBytes (k .colours) (columns a) (comingPicture a vram k y)
@@ -311,48 +313,48 @@ module _ (a : RenderArea) (vram : List ℕ) (k : Reading) where
 module _ (a : RenderArea) (vram : List ℕ) (d : VdpState) (b : List ℕ) where
   pub row-step-length : length (rowAfter a vram d b) ≡ length b
   unfolding rowAfter
-  row-step-length = row-points-length a vram (readingOf d) b
+  row-step-length = row-points-length (screenOf a) vram (readingOf d) b
 
-  pub row-step-past : drop (rowSize a) (rowAfter a vram d b) ≡ drop (rowSize a) b
+  pub row-step-past : drop (rowSize (screenOf a)) (rowAfter a vram d b) ≡ drop (rowSize (screenOf a)) b
   unfolding rowAfter
-  row-step-past = row-points-past a vram (readingOf d) b
+  row-step-past = row-points-past (screenOf a) vram (readingOf d) b
 
-  pub row-step-none : rowOn a (lineOf (counterUp d)) ≡ NoRow → rowAfter a vram d b ≡ b
+  pub row-step-none : rowOn (screenOf a) (lineOf (counterUp d)) ≡ NoRow → rowAfter a vram d b ≡ b
   unfolding rowAfter
-  row-step-none e = row-points-none a vram (readingOf d) b e
+  row-step-none e = row-points-none (screenOf a) vram (readingOf d) b e
 
-  pub row-step-refused : first (rowLines a vram (length b)) ≢ Accepted → rowAfter a vram d b ≡ b
+  pub row-step-refused : first (rowLines (screenOf a) vram (length b)) ≢ Accepted → rowAfter a vram d b ≡ b
   unfolding rowAfter
-  row-step-refused n = under-refused (rowLines a vram (length b)) (λ r. b) _ n
+  row-step-refused n = under-refused (rowLines (screenOf a) vram (length b)) (λ r. b) _ n
 
   pub row-step-here :
-      (y : ℕ) → length vram ≡ 16384 → rowSize a ≤ length b → rowOn a (lineOf (counterUp d)) ≡ Drawn y
-      → take (rowSize a) (rowAfter a vram d b) ≡ drawnBytes a vram (counterUp d) y
+      (y : ℕ) → length vram ≡ 16384 → rowSize (screenOf a) ≤ length b → rowOn (screenOf a) (lineOf (counterUp d)) ≡ Drawn y
+      → take (rowSize (screenOf a)) (rowAfter a vram d b) ≡ drawnBytes a vram (counterUp d) y
   unfolding rowAfter
-  row-step-here y m h e = row-points-here a vram (readingOf d) b y m h e
+  row-step-here y m h e = row-points-here (screenOf a) vram (readingOf d) b y m h e
 
 module _ (a : RenderArea) (vram : List ℕ) (d : VdpState) (f : List ℕ) where
   pub frame-step-length : length (frameAfter a vram d f) ≡ length f
   unfolding frameAfter
-  frame-step-length = frame-points-length a vram (readingOf d) f
+  frame-step-length = frame-points-length (screenOf a) vram (readingOf d) f
 
-  pub frame-step-other : (z : ℕ) → rowOn a (lineOf (counterUp d)) ≢ Drawn z → rowOf (rowSize a) z (frameAfter a vram d f) ≡ rowOf (rowSize a) z f
+  pub frame-step-other : (z : ℕ) → rowOn (screenOf a) (lineOf (counterUp d)) ≢ Drawn z → rowOf (rowSize (screenOf a)) z (frameAfter a vram d f) ≡ rowOf (rowSize (screenOf a)) z f
   unfolding frameAfter
-  frame-step-other z n = frame-points-other a vram (readingOf d) f z n
+  frame-step-other z n = frame-points-other (screenOf a) vram (readingOf d) f z n
 
-  pub frame-step-none : rowOn a (lineOf (counterUp d)) ≡ NoRow → frameAfter a vram d f ≡ f
+  pub frame-step-none : rowOn (screenOf a) (lineOf (counterUp d)) ≡ NoRow → frameAfter a vram d f ≡ f
   unfolding frameAfter
-  frame-step-none e = frame-points-none a vram (readingOf d) f e
+  frame-step-none e = frame-points-none (screenOf a) vram (readingOf d) f e
 
-  pub frame-step-refused : first (frameLines a vram (length f)) ≢ Accepted → frameAfter a vram d f ≡ f
+  pub frame-step-refused : first (frameLines (screenOf a) vram (length f)) ≢ Accepted → frameAfter a vram d f ≡ f
   unfolding frameAfter
-  frame-step-refused n = under-refused (frameLines a vram (length f)) (λ r. f) _ n
+  frame-step-refused n = under-refused (frameLines (screenOf a) vram (length f)) (λ r. f) _ n
 
   pub frame-step-here :
-      (y : ℕ) → length vram ≡ 16384 → length f ≡ frameSize a → rowOn a (lineOf (counterUp d)) ≡ Drawn y
-      → rowOf (rowSize a) y (frameAfter a vram d f) ≡ drawnBytes a vram (counterUp d) y
+      (y : ℕ) → length vram ≡ 16384 → length f ≡ frameSize (screenOf a) → rowOn (screenOf a) (lineOf (counterUp d)) ≡ Drawn y
+      → rowOf (rowSize (screenOf a)) y (frameAfter a vram d f) ≡ drawnBytes a vram (counterUp d) y
   unfolding frameAfter
-  frame-step-here y m h e = frame-points-here a vram (readingOf d) f y m h e
+  frame-step-here y m h e = frame-points-here (screenOf a) vram (readingOf d) f y m h e
 
 -- ---- the tile dump
 module _ (vram : List ℕ) (size : ℕ) where

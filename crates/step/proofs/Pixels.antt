@@ -15,7 +15,7 @@ use Rattle.laws.specs.Sizes.{vramSize}
 use Rattle.laws.specs.Paint.{byteOfColour}
 use Rattle.picture.specs.declared.RenderArea.{RenderArea}
 use Rattle.picture.specs.Picture.{Row}
-use Rattle.picture.specs.Area.{columns, rows, rowSize, rowBytes}
+use Rattle.picture.specs.Area.{screenOf, columns, rows, rowSize, rowBytes}
 use Rattle.picture.proofs.Laws.{length-rowBytes, row-size, pixel-byte}
 use Rattle.raster.specs.declared.Raster.{Raster}
 use Rattle.raster.specs.Raster.{advanced, counted, ticked}
@@ -73,14 +73,14 @@ module _ (a : RenderArea) (vram : List ℕ) (d : VdpState) (y x : ℕ) where
         let k : 4 * x + b < length (rowBytes colours (columns a) p) = omega (arith, length-rowBytes colours (columns a) p) in
         List·getD-append (rowBytes colours (columns a) p) rest 0 (4 * x + b) k ∙ pixel-byte colours (columns a) p x b l bl
 
-    pub pixel-drawn : length vram ≡ vramSize → y < rows a → (row₀ row : List ℕ) (bits : ℕ) → rows-drawn.Drawn a (coloursNow d) (rowPicture a vram d y) row₀ row bits
+    pub pixel-drawn : length vram ≡ vramSize → y < rows a → (row₀ row : List ℕ) (bits : ℕ) → rows-drawn.Drawn (screenOf a) (coloursNow d) (rowPicture a vram d y) row₀ row bits
         → byteOfColour (pixelOf a vram d y x .colour) b ≡ at row (4 * x + b)
     pixel-drawn m h row₀ row bits e =
         ap (λ (p : Pixel). byteOfColour (p .colour) b) (pixel-inside m h l)
         ∙ sym (ap (λ (r : List ℕ). at r (4 * x + b)) (e .bytes) ∙ row-byte (coloursNow d) (rowPicture a vram d y) (drop (rowSize a) row₀))
 
     -- the device that a step leaves which drew row y has the same registers, scroll and colours as the row was drawn with
-    module _ (e : rowOn a (lineOf (counterUp d)) ≡ Drawn y) where
+    module _ (e : rowOn (screenOf a) (lineOf (counterUp d)) ≡ Drawn y) where
       scroll-stays : stepped a vram d .vdp .raster .«vertical_scroll» ≡ counterUp d .raster .«vertical_scroll»
       unfolding ticked counted
       scroll-stays = ap (λ (r : Raster). r .«vertical_scroll») (stepped-raster a vram d)
@@ -91,8 +91,8 @@ module _ (a : RenderArea) (vram : List ℕ) (d : VdpState) (y x : ℕ) where
       pixel-left : length vram ≡ vramSize → (buffer : List ℕ) → rowSize a ≤ length buffer
           → byteOfColour (pixelOf a vram (stepped a vram d .vdp) y x .colour) b ≡ at (rowAfter a vram d buffer) (4 * x + b)
       pixel-left m buffer h =
-          let k : 4 * x + b < rowSize a = omega (arith, row-size a) in
-          ap (λ (p : Pixel). byteOfColour (p .colour) b) (inside a vram y x (stepped a vram d .vdp) m (row-low a (lineOf (counterUp d)) y e) l)
+          let k : 4 * x + b < rowSize a = omega (arith, row-size (screenOf a)) in
+          ap (λ (p : Pixel). byteOfColour (p .colour) b) (inside a vram y x (stepped a vram d .vdp) m (row-low (screenOf a) (lineOf (counterUp d)) y e) l)
           ∙ rw (colours-stay, stepped-reg a vram d, scroll-stays)
           (sym (sym (getD-take (rowSize a) (rowAfter a vram d buffer) (4 * x + b) 0 k)
           ∙ ap (λ (r : List ℕ). at r (4 * x + b)) (row-step-here a vram d buffer y m h e)
@@ -104,6 +104,6 @@ module _ (a : RenderArea) (vram : List ℕ) (d : VdpState) (y x : ℕ) where
     pixel-after-step buffer buffer′ r s =
         rw (s .answer, s .bytes)
         (under-either (λ (z : Stepped). z .row ≡ Drawn y → byteOfColour (pixelOf a vram (z .vdp) y x .colour) b ≡ at (rowAfter a vram d buffer) (4 * x + b))
-        (rowLines a vram (length buffer)) (λ r. refusedStep r d) (stepped a vram d)
+        (rowLines (screenOf a) vram (length buffer)) (λ r. refusedStep r d) (stepped a vram d)
         (λ r q. absurd (let z : _≡_ {A = ℕ} 0 1 = cc in omega arith))
-        (λ p q. pixel-left (sym (stepped-row a vram d refl) ∙ q) (eqb-true (length vram) vramSize (not-false (whole vram) (p .0))) buffer (row-fits a vram (length buffer) p)))
+        (λ p q. pixel-left (sym (stepped-row a vram d refl) ∙ q) (eqb-true (length vram) vramSize (not-false (whole vram) (p .0))) buffer (row-fits (screenOf a) vram (length buffer) p)))

@@ -13,9 +13,11 @@ use lib.Bits.{bitOr}
 use lib.Dec.{ltb}
 use lib.ListN.{length, drop, drop-of-length-le}
 use Rattle.laws.specs.Lists.{at, withRow}
+use Rattle.picture.specs.declared.Screen.{Screen}
 use Rattle.picture.specs.declared.RenderArea.{RenderArea}
 use Rattle.picture.specs.Picture.{Row}
-use Rattle.picture.specs.Area.{columns, rowSize, frameSize, rowBytes, statusBits, pictureOf}
+use Rattle.picture.specs.Screen.{columns, rowSize, frameSize, rowBytes, statusBits, pictureOf}
+use Rattle.picture.specs.Area.{screenOf}
 use Rattle.picture.specs.Layers.{layersOf, layersIn}
 use Rattle.raster.specs.declared.Raster.{Raster}
 use Rattle.raster.specs.Raster.{advanced, counted}
@@ -42,7 +44,7 @@ use Rattle.step.proofs.Rows.{row-in, part-end}
 use Rattle.step.proofs.Laws.{row-passes, frame-passes}
 
 -- ---- drawing: the row's bytes, the status bits that it sets, and its layers
-module _ (a : RenderArea) (colours : List ℕ) (picture : ℕ → Row) (layer : ℕ → ℕ → ℕ) (b layers : List ℕ) {row : DrawnRow} where
+module _ (a : Screen) (colours : List ℕ) (picture : ℕ → Row) (layer : ℕ → ℕ → ℕ) (b layers : List ℕ) {row : DrawnRow} where
   pub drawn-none : row ≡ NoRow → (0 ≡ bitsOf row picture) × ((b ≡ rowWith row a colours picture b) × (layers ≡ layersBy row a layer layers))
   unfolding bitsOf rowWith layersBy
   drawn-none e = (rw e, (rw e, rw e))
@@ -96,7 +98,7 @@ under-also least size [] refuse call h = rw (le-ltb size least h)
 under-also least size (l ∷ ls) refuse call h = ap (λ (x : _). cond (l .holds) (refuse (l .refusal)) x) (under-also least size ls refuse call h)
 
 -- ---- the points
-module _ (a : RenderArea) (vram : List ℕ) (k : Reading) where
+module _ (a : Screen) (vram : List ℕ) (k : Reading) where
   -- the answer of refused ones
   abbrev none : Refusal → Points
   none r = refusedPoints r (k .status) (k .raster)
@@ -215,7 +217,7 @@ module _ (a : RenderArea) (vram : List ℕ) (k : Reading) where
 
 -- ---- a frame that is not lent
 pub not-lent-is :
-    {a : RenderArea} {reg : List ℕ} {raster : Raster} {vram : List ℕ} {size : ℕ} {q : Refusal} {r : Lent} → first (frameLines a vram size) ≡ q → refusalNumber q ≢ 0
+    {a : Screen} {reg : List ℕ} {raster : Raster} {vram : List ℕ} {size : ℕ} {q : Refusal} {r : Lent} → first (frameLines a vram size) ≡ q → refusalNumber q ≢ 0
     → (r .good ≡ false) × (r .refusal ≡ q) × (r .start ≡ 0) × (r .end ≡ 0) → LentOut a reg raster vram size r
 not-lent-is {a} {q = q} {r = r} e n f =
     record {
@@ -228,15 +230,15 @@ not-lent-is {a} {q = q} {r = r} e n f =
     }
 
 -- ---- a frame, by the part of it that is lent
-abbrev pub partOf : RenderArea → DrawnRow → List ℕ → List ℕ
+abbrev pub partOf : Screen → DrawnRow → List ℕ → List ℕ
 partOf a r f = midOf (startOf a r) (startOf a r + rowSize a - startOf a r) f
 
-part-length : (a : RenderArea) (r : DrawnRow) (f : List ℕ) → length f ≡ frameSize a → RowIn a r → length (partOf a r f) ≡ rowSize a
+part-length : (a : Screen) (r : DrawnRow) (f : List ℕ) → length f ≡ frameSize a → RowIn a r → length (partOf a r f) ≡ rowSize a
 part-length a r f exact i = mid-len (startOf a r) (startOf a r + rowSize a) f (omega (arith, part-end a r i)) ∙ omega arith
 
 -- the part put back as a row buffer is left
 placed :
-    (a : RenderArea) (colours : List ℕ) (picture : ℕ → Row) (f : List ℕ) (r : DrawnRow) {ys : List ℕ} → length (partOf a r f) ≡ rowSize a
+    (a : Screen) (colours : List ℕ) (picture : ℕ → Row) (f : List ℕ) (r : DrawnRow) {ys : List ℕ} → length (partOf a r f) ≡ rowSize a
     → ys ≡ rowWith r a colours picture (partOf a r f) → putMid (startOf a r) (startOf a r + rowSize a - startOf a r) f ys ≡ frameWith r a colours picture f
 unfolding rowWith frameWith withRow
 placed a colours picture f NoRow n p = rw p (put-same 0 (0 + rowSize a - 0) f)
@@ -247,7 +249,7 @@ placed a colours picture f (Drawn y) {ys} n p =
     post-is (y * rowSize a) (y * rowSize a + rowSize a) f (omega arith) in
     rw (q, z, mul-comm (rowSize a) y)
 
-module _ (a : RenderArea) (vram : List ℕ) (k : Reading) (f layers : List ℕ) (mem : length vram ≡ 16384) (exact : length f ≡ frameSize a) where
+module _ (a : Screen) (vram : List ℕ) (k : Reading) (f layers : List ℕ) (mem : length vram ≡ 16384) (exact : length f ≡ frameSize a) where
   abbrev FrameLeft : Points → List ℕ → List ℕ → Type 0
   FrameLeft p f′ layers′ = FramePointsLeave a vram k f p f′ × (layers′ ≡ layersUnder (frameLines a vram (length f)) a vram k layers)
 
@@ -269,7 +271,7 @@ module _ (a : RenderArea) (vram : List ℕ) (k : Reading) (f layers : List ℕ) 
   frame-accepts es et e = rw (et, es) (lent (rw (et, es) at e))
 
 -- ---- the device's step is `joined` of its points, refused or not
-pub joined-with : (ls : List Line) (a : RenderArea) (vram : List ℕ) (d : VdpState) → joined d (pointsWith ls a vram (readingOf d)) ≡ stepWith ls a vram d
+pub joined-with : (ls : List Line) (a : RenderArea) (vram : List ℕ) (d : VdpState) → joined d (pointsWith ls (screenOf a) vram (readingOf d)) ≡ stepWith ls a vram d
 unfolding pointsWith stepWith stepped
 joined-with [] a vram d = refl
 joined-with (l ∷ ls) a vram d = split (l .holds) (λ t. rw t) (λ t. rw t (joined-with ls a vram d))
@@ -281,33 +283,33 @@ pub reading-of :
 reading-of d e f g h = λ i. reading (e i) (f i) (g i) (h i)
 
 module _ (a : RenderArea) (vram : List ℕ) (d : VdpState) {k : Reading} (ek : k ≡ readingOf d) {s : Stepped} {p : Points} (es : s ≡ joined d p) where
-  answered : (ls : List Line) → p ≡ pointsWith ls a vram k → s ≡ stepWith ls a vram d
-  answered ls e = es ∙ ap (λ (x : Points). joined d x) (e ∙ ap (pointsWith ls a vram) ek) ∙ joined-with ls a vram d
+  answered : (ls : List Line) → p ≡ pointsWith ls (screenOf a) vram k → s ≡ stepWith ls a vram d
+  answered ls e = es ∙ ap (λ (x : Points). joined d x) (e ∙ ap (pointsWith ls (screenOf a) vram) ek) ∙ joined-with ls a vram d
 
   module _ (b : List ℕ) {b′ : List ℕ} where
-    pub row-joined : RowPointsLeave a vram k b p b′ → RowStepLeaves a vram d b s b′
+    pub row-joined : RowPointsLeave (screenOf a) vram k b p b′ → RowStepLeaves a vram d b s b′
     unfolding rowAfter
     row-joined e = record { answer = answered _ (e .answer); bytes = e .bytes ∙ rw ek }
 
-    pub frame-joined : FramePointsLeave a vram k b p b′ → FrameStepLeaves a vram d b s b′
+    pub frame-joined : FramePointsLeave (screenOf a) vram k b p b′ → FrameStepLeaves a vram d b s b′
     unfolding frameAfter
     frame-joined e = record { answer = answered _ (e .answer); bytes = e .bytes ∙ rw ek }
 
     module _ (layers : List ℕ) {layers′ : List ℕ} where
-      pub row-layers-joined : RowLayerPointsLeave a vram k b layers p b′ layers′ → RowLayersLeave (columns a) a vram d b layers s b′ layers′
+      pub row-layers-joined : RowLayerPointsLeave (screenOf a) vram k b layers p b′ layers′ → RowLayersLeave (columns (screenOf a)) a vram d b layers s b′ layers′
       unfolding layersAfter
       row-layers-joined e = record { answer = answered _ (e .points .answer); bytes = e .points .bytes ∙ rw ek; owners = e .owners ∙ rw ek }
 
-      pub frame-layers-joined : FrameLayerPointsLeave a vram k b layers p b′ layers′ → FrameLayersLeave (columns a) a vram d b layers s b′ layers′
+      pub frame-layers-joined : FrameLayerPointsLeave (screenOf a) vram k b layers p b′ layers′ → FrameLayersLeave (columns (screenOf a)) a vram d b layers s b′ layers′
       unfolding layersAfter
       frame-layers-joined e = record { answer = answered _ (e .points .answer); bytes = e .points .bytes ∙ rw ek; owners = e .owners ∙ rw ek }
 
 -- with room for its layers, a row step answers and leaves in its pixels what it does without
 pub aside :
-    (a : RenderArea) (vram : List ℕ) (d : VdpState) (b layers : List ℕ) → columns a ≤ length layers
-    → (stepWith (alsoLayers (columns a) (length layers) (rowLines a vram (length b))) a vram d ≡ rowStep a vram (length b) d)
-    × (under (alsoLayers (columns a) (length layers) (rowLines a vram (length b))) (λ q. b) (rowFilled a vram (readingOf d) b) ≡ rowAfter a vram d b)
+    (a : RenderArea) (vram : List ℕ) (d : VdpState) (b layers : List ℕ) → columns (screenOf a) ≤ length layers
+    → (stepWith (alsoLayers (columns (screenOf a)) (length layers) (rowLines (screenOf a) vram (length b))) a vram d ≡ rowStep a vram (length b) d)
+    × (under (alsoLayers (columns (screenOf a)) (length layers) (rowLines (screenOf a) vram (length b))) (λ q. b) (rowFilled (screenOf a) vram (readingOf d) b) ≡ rowAfter a vram d b)
 unfolding stepWith rowAfter
 aside a vram d b layers h =
-    let ls = rowLines a vram (length b) in
-    (under-also (columns a) (length layers) ls (λ r. refusedStep r d) (stepped a vram d) h, under-also (columns a) (length layers) ls (λ r. b) _ h)
+    let ls = rowLines (screenOf a) vram (length b) in
+    (under-also (columns (screenOf a)) (length layers) ls (λ r. refusedStep r d) (stepped a vram d) h, under-also (columns (screenOf a)) (length layers) ls (λ r. b) _ h)

@@ -11,18 +11,18 @@ use lib.Dec.{ltb}
 use lib.ListN.{length, take, drop}
 use Rattle.laws.specs.Lists.{rowOf}
 use Rattle.laws.proofs.Tests.{split}
-use Rattle.picture.specs.declared.RenderArea.{RenderArea}
-use Rattle.picture.specs.Area.{rows, rowSize, frameSize}
-use Rattle.step.specs.Frame.{rowView}
+use Rattle.picture.specs.declared.Screen.{Screen}
+use Rattle.picture.specs.Screen.{rows, rowSize, frameSize}
+use Rattle.step.specs.Frame.{screenRow}
 
-module _ (f : List ℕ) (a : RenderArea) (y : ℕ) {n : ℕ} (en : n ≡ rows a) where
-  pub no-row : n ≤ y → [] ≡ rowView f a y
-  unfolding rowView
+module _ (f : List ℕ) (a : Screen) (y : ℕ) {n : ℕ} (en : n ≡ rows a) where
+  pub no-row : n ≤ y → [] ≡ screenRow f a y
+  unfolding screenRow
   no-row h = rw (le-ltb y (rows a) (omega arith))
 
   module _ {m : ℕ} (h : y < n) (em : m ≡ frameSize a) where
-    pub no-frame : length f ≢ m → [] ≡ rowView f a y
-    unfolding rowView
+    pub no-frame : length f ≢ m → [] ≡ screenRow f a y
+    unfolding screenRow
     no-frame k =
         split (ltb (length f) (frameSize a))
         (λ t. rw (lt-ltb y (rows a) (omega arith), t))
@@ -30,8 +30,8 @@ module _ (f : List ℕ) (a : RenderArea) (y : ℕ) {n : ℕ} (en : n ≡ rows a)
         let long : frameSize a < length f = omega (arith, ltb-false (length f) (frameSize a) t) in
         rw (lt-ltb y (rows a) (omega arith), t, lt-ltb (frameSize a) (length f) long))
 
-    pub seen : {w : ℕ} → w ≡ rowSize a → length f ≡ m → take (y * w + w - y * w) (drop (y * w) f) ≡ rowView f a y
-    unfolding rowView rowOf
+    pub seen : {w : ℕ} → w ≡ rowSize a → length f ≡ m → take (y * w + w - y * w) (drop (y * w) f) ≡ screenRow f a y
+    unfolding screenRow rowOf
     seen {w} ew k =
         let z : y * rowSize a + rowSize a - y * rowSize a ≡ rowSize a = omega arith in
         let low : frameSize a ≤ length f = omega arith in

@@ -8,13 +8,15 @@ use lib.Dec.{ltb}
 use lib.ListN.{length}
 use Rattle.laws.specs.Lists.{rowOf}
 use Rattle.picture.specs.declared.RenderArea.{RenderArea}
-use Rattle.picture.specs.Area.{columns, rows, rowSize, frameSize, rowBytes}
+use Rattle.picture.specs.declared.Screen.{Screen}
+use Rattle.picture.specs.Screen.{rows, rowSize, frameSize}
+use Rattle.picture.specs.Area.{screenOf, columns, rowBytes}
 use Rattle.vdp.specs.declared.VdpState.{VdpState}
 use Rattle.vdp.specs.Refusals.{under}
 use Rattle.step.specs.declared.Stepped.{Stepped}
-use Rattle.step.specs.Points.{exactly, rowLines, frameLines}
+use Rattle.step.specs.Points.{exactly}
 use Rattle.step.specs.Bytes.{rowFilled, frameFilled}
-use Rattle.step.specs.Step.{coloursNow, rowPicture, readingOf, rowStep, frameStep}
+use Rattle.step.specs.Step.{coloursNow, rowPicture, readingOf, rowLines, frameLines, rowStep, frameStep}
 
 -- the bytes of row y, as a step draws it on the device d with its counter up
 abbrev pub drawnBytes : RenderArea → List ℕ → VdpState → ℕ → List ℕ
@@ -22,10 +24,10 @@ drawnBytes a vram d y = rowBytes (coloursNow d) (columns a) (rowPicture a vram d
 
 -- the buffer and the frame that a step leaves, refused or not
 unfoldable pub rowAfter : RenderArea → List ℕ → VdpState → List ℕ → List ℕ
-rowAfter a vram d buffer = under (rowLines a vram (length buffer)) (λ r. buffer) (rowFilled a vram (readingOf d) buffer)
+rowAfter a vram d buffer = under (rowLines a vram (length buffer)) (λ r. buffer) (rowFilled (screenOf a) vram (readingOf d) buffer)
 
 unfoldable pub frameAfter : RenderArea → List ℕ → VdpState → List ℕ → List ℕ
-frameAfter a vram d frame = under (frameLines a vram (length frame)) (λ r. frame) (frameFilled a vram (readingOf d) frame)
+frameAfter a vram d frame = under (frameLines a vram (length frame)) (λ r. frame) (frameFilled (screenOf a) vram (readingOf d) frame)
 
 -- What the row step promises of its answer r and of the buffer after it, and the frame step of the frame.
 pub record RowStepLeaves (a : RenderArea) (vram : List ℕ) (d : VdpState) (buffer : List ℕ) (r : Stepped) (buffer′ : List ℕ) : Type 0 where
@@ -36,6 +38,9 @@ pub record FrameStepLeaves (a : RenderArea) (vram : List ℕ) (d : VdpState) (fr
   pub answer : r ≡ frameStep a vram (length frame) d
   pub bytes : frame′ ≡ frameAfter a vram d frame
 
--- R7.3: a row that the area has, of a frame of its size; else nothing
-unfoldable pub rowView : List ℕ → RenderArea → ℕ → List ℕ
-rowView frame a y = cond (ltb y (rows a)) (under (exactly (frameSize a) (length frame)) (λ r. []) (rowOf (rowSize a) y frame)) []
+-- R7.3: a row that the screen has, of a frame of its size; else nothing
+unfoldable pub screenRow : List ℕ → Screen → ℕ → List ℕ
+screenRow frame s y = cond (ltb y (rows s)) (under (exactly (frameSize s) (length frame)) (λ r. []) (rowOf (rowSize s) y frame)) []
+
+abbrev pub rowView : List ℕ → RenderArea → ℕ → List ℕ
+rowView frame a y = screenRow frame (screenOf a) y

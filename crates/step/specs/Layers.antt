@@ -5,13 +5,12 @@ use mathlib.Core.List.{List}
 use Prim.Native.Nat.{ℕ}
 use lib.ListN.{length}
 use Rattle.picture.specs.declared.RenderArea.{RenderArea}
-use Rattle.picture.specs.Layers.{layersOf}
+use Rattle.picture.specs.Area.{screenOf, layersOf}
 use Rattle.vdp.specs.declared.VdpState.{VdpState}
 use Rattle.vdp.specs.Refusals.{Line, under}
 use Rattle.step.specs.declared.Stepped.{Stepped}
-use Rattle.step.specs.Points.{rowLines, frameLines}
 use Rattle.step.specs.Bytes.{rowFilled, frameFilled, layersUnder}
-use Rattle.step.specs.Step.{readingOf, stepWith}
+use Rattle.step.specs.Step.{readingOf, rowLines, frameLines, stepWith}
 -- the lines that it can meet
 unfoldable pub use Rattle.step.specs.Bytes.{alsoLayers}
 
@@ -21,7 +20,7 @@ rowLayers a vram d y = layersOf a (d .reg) (d .raster .«vertical_scroll») vram
 
 -- the layer buffer that a step under these lines leaves, refused or not
 unfoldable pub layersAfter : List Line → RenderArea → List ℕ → VdpState → List ℕ → List ℕ
-layersAfter lines a vram d layers = layersUnder lines a vram (readingOf d) layers
+layersAfter lines a vram d layers = layersUnder lines (screenOf a) vram (readingOf d) layers
 
 -- What a step that asks for `least` layers promises of its answer r, of its pixels and of the layer buffer: `lines` are those of the step without layers,
 -- and `filled` is what an accepted one leaves in the pixels.
@@ -33,8 +32,8 @@ pub record LayersLeave (least : ℕ) (lines : List Line) (a : RenderArea) (vram 
 -- the same of a row buffer and of a frame
 abbrev pub RowLayersLeave : ℕ → RenderArea → List ℕ → VdpState → List ℕ → List ℕ → Stepped → List ℕ → List ℕ → Type 0
 RowLayersLeave least a vram d row layers r row′ layers′ =
-    LayersLeave least (rowLines a vram (length row)) a vram d row (rowFilled a vram (readingOf d) row) layers r row′ layers′
+    LayersLeave least (rowLines a vram (length row)) a vram d row (rowFilled (screenOf a) vram (readingOf d) row) layers r row′ layers′
 
 abbrev pub FrameLayersLeave : ℕ → RenderArea → List ℕ → VdpState → List ℕ → List ℕ → Stepped → List ℕ → List ℕ → Type 0
 FrameLayersLeave least a vram d frame layers r frame′ layers′ =
-    LayersLeave least (frameLines a vram (length frame)) a vram d frame (frameFilled a vram (readingOf d) frame) layers r frame′ layers′
+    LayersLeave least (frameLines a vram (length frame)) a vram d frame (frameFilled (screenOf a) vram (readingOf d) frame) layers r frame′ layers′

@@ -8,9 +8,9 @@ use lib.Bits.{bitOr}
 use lib.Dec.{eqb, ltb, leb}
 use Rattle.laws.specs.Bits.{bit}
 use Rattle.laws.specs.Lists.{at}
-use Rattle.picture.specs.declared.RenderArea.{RenderArea}
+use Rattle.picture.specs.declared.Screen.{Screen}
 use Rattle.picture.specs.Picture.{Row}
-use Rattle.picture.specs.Area.{firstLine, rows, rowSize, frameSize, pictureOf, statusBits}
+use Rattle.picture.specs.Screen.{firstLine, rows, rowSize, frameSize, pictureOf, statusBits}
 use Rattle.raster.specs.declared.Raster.{Raster}
 use Rattle.raster.specs.Raster.{advanced, lineInterrupt, counted}
 use Rattle.vdp.specs.declared.Refusal.{Refusal}
@@ -49,19 +49,19 @@ abbrev pub risen : Reading → Raster
 risen k = advanced (at (k .reg)) (k .raster)
 
 -- R4.2: the row of a line, if it has one
-unfoldable pub rowOn : RenderArea → ℕ → DrawnRow
-rowOn a l = cond (leb (firstLine a) l && ltb l (firstLine a + rows a)) (Drawn (l - firstLine a)) NoRow
+unfoldable pub rowOn : Screen → ℕ → DrawnRow
+rowOn s l = cond (leb (firstLine s) l && ltb l (firstLine s + rows s)) (Drawn (l - firstLine s)) NoRow
 
--- the row, if there is one, is one of the area's
-abbrev pub RowIn : RenderArea → DrawnRow → Type 0
-RowIn a r = (y : ℕ) → r ≡ Drawn y → y < rows a
+-- the row, if there is one, is one of the screen's
+abbrev pub RowIn : Screen → DrawnRow → Type 0
+RowIn s r = (y : ℕ) → r ≡ Drawn y → y < rows s
 
 -- the row that this step draws, and what row y looks like now, for the registers, the latched scroll and the video memory
-abbrev pub comingRow : RenderArea → Reading → DrawnRow
-comingRow a k = rowOn a (risen k .«v_counter»)
+abbrev pub comingRow : Screen → Reading → DrawnRow
+comingRow s k = rowOn s (risen k .«v_counter»)
 
-abbrev pub comingPicture : RenderArea → List ℕ → Reading → ℕ → Row
-comingPicture a vram k y = pictureOf a (k .reg) (risen k .«vertical_scroll») vram y
+abbrev pub comingPicture : Screen → List ℕ → Reading → ℕ → Row
+comingPicture s vram k y = pictureOf s (k .reg) (risen k .«vertical_scroll») vram y
 
 -- R4.2: the status bits that the row sets, where `picture` gives the picture of each row
 unfoldable pub bitsOf : DrawnRow → (ℕ → Row) → ℕ
@@ -84,11 +84,11 @@ interruptBy reg status raster =
     cond ((bit (at reg 1) 5 && bit status 7) || lineInterrupt (at reg) raster) InterruptGenerated NoInterrupt
 
 -- an accepted step: R4.1 to R4.5 in order
-unfoldable pub pointsOf : RenderArea → List ℕ → Reading → Points
-pointsOf a vram k =
+unfoldable pub pointsOf : Screen → List ℕ → Reading → Points
+pointsOf s vram k =
     let up = risen k in
-    let row = comingRow a k in
-    let last = endedBy (up .«v_counter») (bitOr (k .status) (bitsOf row (comingPicture a vram k))) in
+    let row = comingRow s k in
+    let last = endedBy (up .«v_counter») (bitOr (k .status) (bitsOf row (comingPicture s vram k))) in
     record {
       refusal = Accepted;
       interrupt = interruptBy (k .reg) last up;
@@ -114,12 +114,12 @@ exactly need size = line (ltb size need) PixelLength ∷ line (ltb need size) Fr
 abbrev pub stepLines : List ℕ → List Line → List Line
 stepLines vram sizes = line (not (whole vram)) VramLength ∷ sizes
 
-abbrev pub rowLines : RenderArea → List ℕ → ℕ → List Line
-rowLines a vram size = stepLines vram (atLeast (rowSize a) size)
+abbrev pub rowLines : Screen → List ℕ → ℕ → List Line
+rowLines s vram size = stepLines vram (atLeast (rowSize s) size)
 
-abbrev pub frameLines : RenderArea → List ℕ → ℕ → List Line
-frameLines a vram size = stepLines vram (exactly (frameSize a) size)
+abbrev pub frameLines : Screen → List ℕ → ℕ → List Line
+frameLines s vram size = stepLines vram (exactly (frameSize s) size)
 
 -- R6.3, R6.7: the points of a step that these lines refuse, whatever its line
-unfoldable pub pointsWith : List Line → RenderArea → List ℕ → Reading → Points
-pointsWith lines a vram k = under lines (λ r. refusedPoints r (k .status) (k .raster)) (pointsOf a vram k)
+unfoldable pub pointsWith : List Line → Screen → List ℕ → Reading → Points
+pointsWith lines s vram k = under lines (λ r. refusedPoints r (k .status) (k .raster)) (pointsOf s vram k)

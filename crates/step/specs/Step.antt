@@ -7,7 +7,7 @@ use Rattle.laws.specs.Lists.{at}
 use Rattle.colour.specs.Colour.{coloursOf}
 use Rattle.picture.specs.declared.RenderArea.{RenderArea}
 use Rattle.picture.specs.Picture.{Row}
-use Rattle.picture.specs.Area.{pictureOf}
+use Rattle.picture.specs.Area.{screenOf, pictureOf}
 use Rattle.vdp.specs.declared.VdpState.{VdpState}
 use Rattle.vdp.specs.declared.Refusal.{Refusal}
 use Rattle.vdp.specs.Device.{withRaster, withStatus, withCache}
@@ -19,8 +19,19 @@ use Rattle.step.specs.declared.DrawnRow.the-variants.{NoRow, Drawn}
 use Rattle.step.specs.declared.Points.{Points}
 use Rattle.step.specs.declared.Stepped.{Stepped}
 use Rattle.step.specs.Points.{Reading, reading, risen, pointsOf}
+use Rattle.step.specs.Points as points
 -- what others need beside the step, of its points
-unfoldable pub use Rattle.step.specs.Points.{interruptNumber, reportNumber, rowOn, rowLines, frameLines}
+unfoldable pub use Rattle.step.specs.Points.{interruptNumber, reportNumber}
+
+-- an area's, which are its screen's: the row of a line, and the lines of the table that a step can meet
+abbrev pub rowOn : RenderArea → ℕ → DrawnRow
+rowOn a = points.rowOn (screenOf a)
+
+abbrev pub rowLines : RenderArea → List ℕ → ℕ → List Line
+rowLines a = points.rowLines (screenOf a)
+
+abbrev pub frameLines : RenderArea → List ℕ → ℕ → List Line
+frameLines a = points.frameLines (screenOf a)
 
 abbrev pub register : VdpState → ℕ → ℕ
 register d = at (d .reg)
@@ -63,7 +74,7 @@ joined d points =
 
 -- an accepted step
 unfoldable pub stepped : RenderArea → List ℕ → VdpState → Stepped
-stepped a vram d = joined d (pointsOf a vram (readingOf d))
+stepped a vram d = joined d (pointsOf (screenOf a) vram (readingOf d))
 
 -- R2.3: a refused step tells and changes nothing
 abbrev pub refusedStep : Refusal → VdpState → Stepped

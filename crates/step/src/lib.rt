@@ -6,8 +6,9 @@ ghost use Prim.Native.Nat.{_≤_, _<_};
 ghost use lib.ListN.{length};
 ghost use Rattle.laws.specs.Sizes.{vramSize};
 ghost use Rattle.colour.specs.Colour.{coloursOf};
-ghost use Rattle.picture.specs.declared.RenderArea.the-variants.{VisibleOnly};
-ghost use Rattle.picture.specs.Area.{columns, rows, rowSize, frameSize, pictureOf};
+ghost use Rattle.picture.specs.declared.Screen.the-variants.{VisibleOnly};
+ghost use Rattle.picture.specs.Screen.{columns, rows, rowSize, frameSize, pictureOf};
+ghost use Rattle.picture.specs.Area.{screenOf};
 ghost use Rattle.picture.specs.Layers.{layersOf};
 ghost use Rattle.step.specs.Points.{interruptNumber, reportNumber, reading, rowOn, RowIn, bitsOf, endedBy, reportBy, interruptBy, refusedPoints, rowLines};
 ghost use Rattle.step.specs.Bytes.{rowWith, layersBy, startOf, layersUnder, RowPointsLeave, FramePointsLeave, RowLayerPointsLeave, FrameLayerPointsLeave};
@@ -16,8 +17,9 @@ ghost use Rattle.step.specs.Layers.{RowLayersLeave, FrameLayersLeave};
 ghost use Rattle.step.specs.Lend.{LentOut};
 ghost use Rattle.step.specs.Dump.{DumpLeaves};
 ghost use Rattle.step.specs.Pixel.{pixelOf};
-ghost use Rattle.step.specs.Frame.{RowStepLeaves, FrameStepLeaves, rowView};
+ghost use Rattle.step.specs.Frame.{RowStepLeaves, FrameStepLeaves, screenRow, rowView};
 use picture::RenderArea;
+use picture::Screen;
 use raster::Raster;
 use vdp::Refusal;
 use vdp::VdpState;
@@ -93,7 +95,7 @@ pub struct Stepped {
     pub vdp: VdpState,
 }
 
-// R4.2: the row that a line draws, in an area of the visible size and in each area.
+// R4.2: the row that a line draws, on a screen of the visible size and on each screen.
 fn visible_row(line: u8) -> DrawnRow
     ensures { λ r. ⌜ r ≡ rowOn VisibleOnly line ⌝ }
 {
@@ -106,18 +108,18 @@ fn visible_row(line: u8) -> DrawnRow
     DrawnRow::Drawn(line - GG_VISIBLE_AREA_START_Y)
 }
 
-fn row_on(area: RenderArea, line: u8) -> DrawnRow
-    ensures { λ r. ⌜ r ≡ rowOn area line ⌝ }
+fn row_on(screen: Screen, line: u8) -> DrawnRow
+    ensures { λ r. ⌜ r ≡ rowOn screen line ⌝ }
 {
-    match area {
-        RenderArea::VisibleOnly => visible_row(line),
-        RenderArea::EffectiveArea => {
+    match screen {
+        Screen::VisibleOnly => visible_row(line),
+        Screen::EffectiveArea => {
             if SCROLL_PIXEL_HEIGHT <= line {
                 return DrawnRow::NoRow;
             }
             DrawnRow::Drawn(line)
         }
-        RenderArea::TrueEdges => visible_row(line),
+        Screen::TrueEdges => visible_row(line),
     }
 }
 
@@ -141,18 +143,18 @@ fn draw(
     vram: &[u8],
     row: &mut [u8],
     layers: &mut [u8],
-    area: RenderArea,
+    screen: Screen,
     drawn: DrawnRow,
 ) -> u8
-    requires { ⌜ (length (now vram) ≡ vramSize) × (rowSize area ≤ length (now row)) × RowIn area drawn ⌝ }
-    ensures { λ r. ⌜ r ≡ bitsOf drawn (pictureOf area reg scroll (now (vram .entry))) ⌝ }
-    ensures { λ r. ⌜ now (row .exit) ≡ rowWith drawn area (now (colours .entry)) (pictureOf area reg scroll (now (vram .entry))) (now (row .entry)) ⌝ }
-    ensures { λ r. ⌜ now (layers .exit) ≡ layersBy drawn area (layersOf area reg scroll (now (vram .entry))) (now (layers .entry)) ⌝ }
+    requires { ⌜ (length (now vram) ≡ vramSize) × (rowSize screen ≤ length (now row)) × RowIn screen drawn ⌝ }
+    ensures { λ r. ⌜ r ≡ bitsOf drawn (pictureOf screen reg scroll (now (vram .entry))) ⌝ }
+    ensures { λ r. ⌜ now (row .exit) ≡ rowWith drawn screen (now (colours .entry)) (pictureOf screen reg scroll (now (vram .entry))) (now (row .entry)) ⌝ }
+    ensures { λ r. ⌜ now (layers .exit) ≡ layersBy drawn screen (layersOf screen reg scroll (now (vram .entry))) (now (layers .entry)) ⌝ }
 {
     let DrawnRow::Drawn(line) = drawn else {
         return 0;
     };
-    row::render_line(row, layers, vram, colours, area, reg, scroll, line)
+    row::render_line(row, layers, vram, colours, screen, reg, scroll, line)
 }
 
 // R4.3: the screen ends at line C1.
@@ -200,52 +202,52 @@ fn refused(refusal: Refusal, status: u8, raster: Raster) -> Points
 }
 
 // How many columns a row has and how many rows a frame, the bytes of a row and of a frame, and where a row's part of a frame starts (with no row, the first row's).
-fn column_count(area: RenderArea) -> usize
-    ensures { λ r. ⌜ r ≡ columns area ⌝ }
+fn column_count(screen: Screen) -> usize
+    ensures { λ r. ⌜ r ≡ columns screen ⌝ }
 {
-    match area {
-        RenderArea::VisibleOnly => 160,
-        RenderArea::EffectiveArea => 256,
-        RenderArea::TrueEdges => 160,
+    match screen {
+        Screen::VisibleOnly => 160,
+        Screen::EffectiveArea => 256,
+        Screen::TrueEdges => 160,
     }
 }
 
-fn row_count(area: RenderArea) -> usize
-    ensures { λ r. ⌜ r ≡ rows area ⌝ }
+fn row_count(screen: Screen) -> usize
+    ensures { λ r. ⌜ r ≡ rows screen ⌝ }
 {
-    match area {
-        RenderArea::VisibleOnly => 144,
-        RenderArea::EffectiveArea => 224,
-        RenderArea::TrueEdges => 144,
+    match screen {
+        Screen::VisibleOnly => 144,
+        Screen::EffectiveArea => 224,
+        Screen::TrueEdges => 144,
     }
 }
 
-fn row_size(area: RenderArea) -> usize
-    ensures { λ r. ⌜ r ≡ rowSize area ⌝ }
+fn row_size(screen: Screen) -> usize
+    ensures { λ r. ⌜ r ≡ rowSize screen ⌝ }
 {
-    match area {
-        RenderArea::VisibleOnly => 640,
-        RenderArea::EffectiveArea => 1024,
-        RenderArea::TrueEdges => 640,
+    match screen {
+        Screen::VisibleOnly => 640,
+        Screen::EffectiveArea => 1024,
+        Screen::TrueEdges => 640,
     }
 }
 
-fn frame_size(area: RenderArea) -> usize
-    ensures { λ r. ⌜ r ≡ frameSize area ⌝ }
+fn frame_size(screen: Screen) -> usize
+    ensures { λ r. ⌜ r ≡ frameSize screen ⌝ }
 {
-    match area {
-        RenderArea::VisibleOnly => 92160,
-        RenderArea::EffectiveArea => 229376,
-        RenderArea::TrueEdges => 92160,
+    match screen {
+        Screen::VisibleOnly => 92160,
+        Screen::EffectiveArea => 229376,
+        Screen::TrueEdges => 92160,
     }
 }
 
-fn start_of(area: RenderArea, row: DrawnRow) -> usize
-    ensures { λ r. ⌜ r ≡ startOf area row ⌝ }
+fn start_of(screen: Screen, row: DrawnRow) -> usize
+    ensures { λ r. ⌜ r ≡ startOf screen row ⌝ }
 {
     match row {
         DrawnRow::NoRow => 0,
-        DrawnRow::Drawn(y) => (y as usize) * row_size(area),
+        DrawnRow::Drawn(y) => (y as usize) * row_size(screen),
     }
 }
 
@@ -259,21 +261,21 @@ fn row_points_into(
     vram: &[u8],
     row: &mut [u8],
     layers: &mut [u8],
-    area: RenderArea,
+    screen: Screen,
 ) -> Points
-    ensures { λ r. ⌜ RowPointsLeave area (now (vram .entry)) (reading reg raster status (now (colours .entry))) (now (row .entry)) r (now (row .exit)) ⌝ }
-    ensures { λ r. ⌜ now (layers .exit) ≡ layersUnder (rowLines area (now (vram .entry)) (length (now (row .entry)))) area (now (vram .entry)) (reading reg raster status (now (colours .entry))) (now (layers .entry)) ⌝ }
+    ensures { λ r. ⌜ RowPointsLeave screen (now (vram .entry)) (reading reg raster status (now (colours .entry))) (now (row .entry)) r (now (row .exit)) ⌝ }
+    ensures { λ r. ⌜ now (layers .exit) ≡ layersUnder (rowLines screen (now (vram .entry)) (length (now (row .entry)))) screen (now (vram .entry)) (reading reg raster status (now (colours .entry))) (now (layers .entry)) ⌝ }
 {
     if vram.len() != VRAM_SIZE {
         return refused(Refusal::VramLength, status, raster);
     }
-    let need = row_size(area);
+    let need = row_size(screen);
     if row.len() < need {
         return refused(Refusal::PixelLength, status, raster);
     }
     let up = raster.advance(reg);
     let line = up.v_counter;
-    let drawn = row_on(area, line);
+    let drawn = row_on(screen, line);
     let bits = draw(
         reg,
         up.vertical_scroll,
@@ -281,7 +283,7 @@ fn row_points_into(
         vram,
         row,
         layers,
-        area,
+        screen,
         drawn,
     );
     let last = ended(status | bits, line);
@@ -303,12 +305,12 @@ pub fn row_points(
     colours: &[u32; 32],
     vram: &[u8],
     row: &mut [u8],
-    area: RenderArea,
+    screen: Screen,
 ) -> Points
-    ensures { λ r. ⌜ RowPointsLeave area (now (vram .entry)) (reading reg raster status (now (colours .entry))) (now (row .entry)) r (now (row .exit)) ⌝ }
+    ensures { λ r. ⌜ RowPointsLeave screen (now (vram .entry)) (reading reg raster status (now (colours .entry))) (now (row .entry)) r (now (row .exit)) ⌝ }
 {
     let mut none = [0u8; 0];
-    row_points_into(reg, raster, status, colours, vram, row, &mut none, area)
+    row_points_into(reg, raster, status, colours, vram, row, &mut none, screen)
 }
 
 // The same, with the row's layers.
@@ -320,22 +322,22 @@ pub fn layer_row_points(
     vram: &[u8],
     row: &mut [u8],
     layers: &mut [u8],
-    area: RenderArea,
+    screen: Screen,
 ) -> Points
-    ensures { λ r. ⌜ RowLayerPointsLeave area (now (vram .entry)) (reading reg raster status (now (colours .entry))) (now (row .entry)) (now (layers .entry)) r (now (row .exit)) (now (layers .exit)) ⌝ }
+    ensures { λ r. ⌜ RowLayerPointsLeave screen (now (vram .entry)) (reading reg raster status (now (colours .entry))) (now (row .entry)) (now (layers .entry)) r (now (row .exit)) (now (layers .exit)) ⌝ }
 {
     if vram.len() != VRAM_SIZE {
         return refused(Refusal::VramLength, status, raster);
     }
-    let need = row_size(area);
+    let need = row_size(screen);
     if row.len() < need {
         return refused(Refusal::PixelLength, status, raster);
     }
-    let least = column_count(area);
+    let least = column_count(screen);
     if layers.len() < least {
         return refused(Refusal::LayerLength, status, raster);
     }
-    row_points_into(reg, raster, status, colours, vram, row, layers, area)
+    row_points_into(reg, raster, status, colours, vram, row, layers, screen)
 }
 
 // How a frame is lent to a step: not at all, by this refusal; or the row's part of it, and with no row to draw the first row's, which stays as it is.
@@ -357,13 +359,13 @@ fn not_lent(refusal: Refusal) -> Lent
     }
 }
 
-fn lend(reg: [u8; 11], raster: Raster, vram: &[u8], frame: &[u8], area: RenderArea) -> Lent
-    ensures { λ r. ⌜ LentOut area reg raster (now (vram .entry)) (length (now (frame .entry))) r ⌝ }
+fn lend(reg: [u8; 11], raster: Raster, vram: &[u8], frame: &[u8], screen: Screen) -> Lent
+    ensures { λ r. ⌜ LentOut screen reg raster (now (vram .entry)) (length (now (frame .entry))) r ⌝ }
 {
     if vram.len() != VRAM_SIZE {
         return not_lent(Refusal::VramLength);
     }
-    let need = frame_size(area);
+    let need = frame_size(screen);
     if frame.len() < need {
         return not_lent(Refusal::PixelLength);
     }
@@ -371,13 +373,13 @@ fn lend(reg: [u8; 11], raster: Raster, vram: &[u8], frame: &[u8], area: RenderAr
         return not_lent(Refusal::FrameTooLong);
     }
     let up = raster.advance(reg);
-    let drawn = row_on(area, up.v_counter);
-    let start = start_of(area, drawn);
+    let drawn = row_on(screen, up.v_counter);
+    let start = start_of(screen, drawn);
     Lent {
         good: true,
         refusal: Refusal::Accepted,
         start: start,
-        end: start + row_size(area),
+        end: start + row_size(screen),
     }
 }
 
@@ -389,11 +391,11 @@ pub fn frame_points(
     colours: &[u32; 32],
     vram: &[u8],
     frame: &mut [u8],
-    area: RenderArea,
+    screen: Screen,
 ) -> Points
-    ensures { λ r. ⌜ FramePointsLeave area (now (vram .entry)) (reading reg raster status (now (colours .entry))) (now (frame .entry)) r (now (frame .exit)) ⌝ }
+    ensures { λ r. ⌜ FramePointsLeave screen (now (vram .entry)) (reading reg raster status (now (colours .entry))) (now (frame .entry)) r (now (frame .exit)) ⌝ }
 {
-    let part = lend(reg, raster, vram, frame, area);
+    let part = lend(reg, raster, vram, frame, screen);
     let refusal = part.refusal;
     let a = part.start;
     let e = part.end;
@@ -409,7 +411,7 @@ pub fn frame_points(
         vram,
         &mut frame[a..e],
         &mut none,
-        area,
+        screen,
     )
 }
 
@@ -422,18 +424,18 @@ pub fn layer_frame_points(
     vram: &[u8],
     frame: &mut [u8],
     layers: &mut [u8],
-    area: RenderArea,
+    screen: Screen,
 ) -> Points
-    ensures { λ r. ⌜ FrameLayerPointsLeave area (now (vram .entry)) (reading reg raster status (now (colours .entry))) (now (frame .entry)) (now (layers .entry)) r (now (frame .exit)) (now (layers .exit)) ⌝ }
+    ensures { λ r. ⌜ FrameLayerPointsLeave screen (now (vram .entry)) (reading reg raster status (now (colours .entry))) (now (frame .entry)) (now (layers .entry)) r (now (frame .exit)) (now (layers .exit)) ⌝ }
 {
-    let part = lend(reg, raster, vram, frame, area);
+    let part = lend(reg, raster, vram, frame, screen);
     let refusal = part.refusal;
     let a = part.start;
     let e = part.end;
     if !part.good {
         return refused(refusal, status, raster);
     }
-    let least = column_count(area);
+    let least = column_count(screen);
     if layers.len() < least {
         return refused(Refusal::LayerLength, status, raster);
     }
@@ -445,7 +447,7 @@ pub fn layer_frame_points(
         vram,
         &mut frame[a..e],
         layers,
-        area,
+        screen,
     )
 }
 
@@ -487,7 +489,15 @@ pub fn row_step(vdp: VdpState, vram: &[u8], row: &mut [u8], area: RenderArea) ->
     let reg = vdp.reg;
     let raster = vdp.raster;
     let colours = colours_of(vdp, vdp.cram_dirty);
-    let points = row_points(reg, raster, vdp.status, &colours, vram, row, area);
+    let points = row_points(
+        reg,
+        raster,
+        vdp.status,
+        &colours,
+        vram,
+        row,
+        picture::screen_of(area),
+    );
     join(vdp, points, colours)
 }
 
@@ -498,7 +508,15 @@ pub fn frame_step(vdp: VdpState, vram: &[u8], frame: &mut [u8], area: RenderArea
     let reg = vdp.reg;
     let raster = vdp.raster;
     let colours = colours_of(vdp, vdp.cram_dirty);
-    let points = frame_points(reg, raster, vdp.status, &colours, vram, frame, area);
+    let points = frame_points(
+        reg,
+        raster,
+        vdp.status,
+        &colours,
+        vram,
+        frame,
+        picture::screen_of(area),
+    );
     join(vdp, points, colours)
 }
 
@@ -510,12 +528,21 @@ pub fn layer_row_step(
     layers: &mut [u8],
     area: RenderArea,
 ) -> Stepped
-    ensures { λ r. ⌜ RowLayersLeave (columns area) area (now (vram .entry)) vdp (now (row .entry)) (now (layers .entry)) r (now (row .exit)) (now (layers .exit)) ⌝ }
+    ensures { λ r. ⌜ RowLayersLeave (columns (screenOf area)) area (now (vram .entry)) vdp (now (row .entry)) (now (layers .entry)) r (now (row .exit)) (now (layers .exit)) ⌝ }
 {
     let reg = vdp.reg;
     let raster = vdp.raster;
     let colours = colours_of(vdp, vdp.cram_dirty);
-    let points = layer_row_points(reg, raster, vdp.status, &colours, vram, row, layers, area);
+    let points = layer_row_points(
+        reg,
+        raster,
+        vdp.status,
+        &colours,
+        vram,
+        row,
+        layers,
+        picture::screen_of(area),
+    );
     join(vdp, points, colours)
 }
 
@@ -526,29 +553,45 @@ pub fn layer_frame_step(
     layers: &mut [u8],
     area: RenderArea,
 ) -> Stepped
-    ensures { λ r. ⌜ FrameLayersLeave (columns area) area (now (vram .entry)) vdp (now (frame .entry)) (now (layers .entry)) r (now (frame .exit)) (now (layers .exit)) ⌝ }
+    ensures { λ r. ⌜ FrameLayersLeave (columns (screenOf area)) area (now (vram .entry)) vdp (now (frame .entry)) (now (layers .entry)) r (now (frame .exit)) (now (layers .exit)) ⌝ }
 {
     let reg = vdp.reg;
     let raster = vdp.raster;
     let colours = colours_of(vdp, vdp.cram_dirty);
-    let points = layer_frame_points(reg, raster, vdp.status, &colours, vram, frame, layers, area);
+    let points = layer_frame_points(
+        reg,
+        raster,
+        vdp.status,
+        &colours,
+        vram,
+        frame,
+        layers,
+        picture::screen_of(area),
+    );
     join(vdp, points, colours)
 }
 
 // A row of a frame, as a part of the caller's own frame; the empty part where it does not fit.
-pub fn row_view<'a>(frame: &'a [u8], area: RenderArea, row: usize) -> &'a [u8]
-    ensures { λ r. ⌜ now r ≡ rowView (now (frame .entry)) area row ⌝ }
+pub fn screen_row<'a>(frame: &'a [u8], screen: Screen, row: usize) -> &'a [u8]
+    ensures { λ r. ⌜ now r ≡ screenRow (now (frame .entry)) screen row ⌝ }
 {
-    if row_count(area) <= row {
+    if row_count(screen) <= row {
         return &frame[0..0];
     }
-    if frame.len() != frame_size(area) {
+    if frame.len() != frame_size(screen) {
         return &frame[0..0];
     }
-    let size = row_size(area);
+    let size = row_size(screen);
     let start = row * size;
     let end = start + size;
     &frame[start..end]
+}
+
+// The same of an area.
+pub fn row_view<'a>(frame: &'a [u8], area: RenderArea, row: usize) -> &'a [u8]
+    ensures { λ r. ⌜ now r ≡ rowView (now (frame .entry)) area row ⌝ }
+{
+    screen_row(frame, picture::screen_of(area), row)
 }
 
 // All tiles, side by side. It draws with the cache as it stands, and leaves the device.

@@ -19,6 +19,7 @@ use Rattle.face.proofs.store.Reads as store-reads
 use Rattle.face.proofs.word_of.Reads as word-of-reads
 use Rattle.picture.proofs.area_from.Reads as area-from-reads
 use Rattle.step.proofs.layer_frame_points.Reads as layer-frame-points-reads
+use Rattle.picture.proofs.screen_of.Reads as screen-of-reads
 
 -- src/lib.rt:215:9
 well-formed-requires : tie.Need-well-formed-requires
@@ -68,13 +69,17 @@ slice-read-layer-frame-points c = omega (arith, long (c .before .before .before 
 area-from-requires : tie.Need-area-from-requires
 area-from-requires c κs = search needs
 
+-- src/lib.rt:237:9
+screen-of-requires : tie.Need-screen-of-requires
+screen-of-requires c κs = search needs
+
 -- src/lib.rt:222:9
 layer-frame-points-requires : tie.Need-layer-frame-points-requires
 layer-frame-points-requires c κs = search needs
 
 -- src/lib.rt:232:5
 store-requires : tie.Need-store-requires
-store-requires c κs = long (c .before .before .before .before .before .before .before .before .before .before .before .before .before .before .before .before .before .before .before .before .before .before .before .before .before .before .args .state .now) (sym (c .before .before .before .before .before .before .before .before .before .before .before .before .before .before .before .before .before .before .before .before .well-formed .ensures) ∙ not-false _ (c .before .before .before .before .before .before .before .before .before .before .before .before .before .before .before .before .before .before .before .if1 .left))
+store-requires c κs = long (c .before .before .before .before .before .before .before .before .before .before .before .before .before .before .before .before .before .before .before .before .before .before .before .before .before .before .before .args .state .now) (sym (c .before .before .before .before .before .before .before .before .before .before .before .before .before .before .before .before .before .before .before .before .before .well-formed .ensures) ∙ not-false _ (c .before .before .before .before .before .before .before .before .before .before .before .before .before .before .before .before .before .before .before .before .if1 .left))
 
 -- src/lib.rt:233:5
 word-of-requires : tie.Need-word-of-requires
@@ -96,15 +101,15 @@ same-length-5 c = search needs
 returns-3 : tie.Need-returns-3
 unfolding stateOf
 returns-3 c =
-    layer-frame-kept (c .before .before .before .before .before .before .before .before .before .before .before .before .before .before .before .before .before .before .before .before .before .before .before .before .before .before .before .before .before .before .args .state .now) (c .before .before .before .before .before .before .before .before .before .before .before .before .before .before .before .before .before .before .before .before .before .before .before .before .before .before .before .before .before .before .args .vram .now) (c .before .before .before .before .before .before .before .before .before .before .before .before .before .before .before .before .before .before .before .before .before .before .before .before .before .before .before .before .before .before .args .frame .now) (c .before .before .before .before .before .before .before .before .before .before .before .before .before .before .before .before .before .before .before .before .before .before .before .before .before .before .before .before .before .before .args .area)
-    (λ i. omega (arith, c .before .before .before .before .before .before .before .before .before .before .before .before .before .before .before .before .before .before .before .before .before .before .before .before .before .before .before .before .before .slice-known .given i))
-    (sym (c .before .before .before .before .before .before .before .before .before .before .before .before .before .before .before .before .before .before .before .before .before .before .before .before .well-formed .ensures) ∙ not-false _ (c .before .before .before .before .before .before .before .before .before .before .before .before .before .before .before .before .before .before .before .before .before .before .before .if1 .left))
-    (c .before .before .before .before .before .before .before .before .before .before .before .before .before .before .before .before .before .before .before .before .before .before .if2 .left)
-    (c .before .before .before .before .before .before .before .before .before .before .before .area-from .ensures)
-    (reading-of (stateOf (c .before .before .before .before .before .before .before .before .before .before .before .before .before .before .before .before .before .before .before .before .before .before .before .before .before .before .before .before .before .before .args .state .now)) (c .before .before .before .before .before .before .before .before .before .before .before .before .before .before .before .before .before .before .registers .ensures) (c .before .before .before .before .before .before .before .before .before .before .before .before .before .before .before .before .raster-in .ensures) refl (c .before .before .before .before .before .before .before .before .before .before .before .before .before .before .before .before .before .before .before .before .colours-of .ensures))
+    layer-frame-kept (c .before .before .before .before .before .before .before .before .before .before .before .before .before .before .before .before .before .before .before .before .before .before .before .before .before .before .before .before .before .before .before .args .state .now) (c .before .before .before .before .before .before .before .before .before .before .before .before .before .before .before .before .before .before .before .before .before .before .before .before .before .before .before .before .before .before .before .args .vram .now) (c .before .before .before .before .before .before .before .before .before .before .before .before .before .before .before .before .before .before .before .before .before .before .before .before .before .before .before .before .before .before .before .args .frame .now) (c .before .before .before .before .before .before .before .before .before .before .before .before .before .before .before .before .before .before .before .before .before .before .before .before .before .before .before .before .before .before .before .args .area)
+    (λ i. omega (arith, c .before .before .before .before .before .before .before .before .before .before .before .before .before .before .before .before .before .before .before .before .before .before .before .before .before .before .before .before .before .before .slice-known .given i))
+    (sym (c .before .before .before .before .before .before .before .before .before .before .before .before .before .before .before .before .before .before .before .before .before .before .before .before .before .well-formed .ensures) ∙ not-false _ (c .before .before .before .before .before .before .before .before .before .before .before .before .before .before .before .before .before .before .before .before .before .before .before .before .if1 .left))
+    (c .before .before .before .before .before .before .before .before .before .before .before .before .before .before .before .before .before .before .before .before .before .before .before .if2 .left)
+    (c .before .before .before .before .before .before .before .before .before .before .before .before .area-from .ensures) (c .before .before .before .before .before .before .before .before .before .before .before .screen-of .ensures)
+    (reading-of (stateOf (c .before .before .before .before .before .before .before .before .before .before .before .before .before .before .before .before .before .before .before .before .before .before .before .before .before .before .before .before .before .before .before .args .state .now)) (c .before .before .before .before .before .before .before .before .before .before .before .before .before .before .before .before .before .before .before .registers .ensures) (c .before .before .before .before .before .before .before .before .before .before .before .before .before .before .before .before .before .raster-in .ensures) refl (c .before .before .before .before .before .before .before .before .before .before .before .before .before .before .before .before .before .before .before .before .before .colours-of .ensures))
     (c .before .before .before .store .ensures)
     (c .word-of .ensures)
-    (c .before .before .before .before .before .before .before .before .before .before .before .before .before .before .before .before .before .before .before .before .before .before .before .before .before .before .before .before .before .before .args .layers .now)
+    (c .before .before .before .before .before .before .before .before .before .before .before .before .before .before .before .before .before .before .before .before .before .before .before .before .before .before .before .before .before .before .before .args .layers .now)
     (c .before .before .before .before .before .before .before .before .before .before .layer-frame-points .ensures)
 
 pub vdp-layer-step-spec : {M : Type 1} → statement M
@@ -123,6 +128,7 @@ vdp-layer-step-spec =
     raster-in-requires
     slice-read-layer-frame-points
     area-from-requires
+    screen-of-requires
     layer-frame-points-requires
     store-requires
     word-of-requires

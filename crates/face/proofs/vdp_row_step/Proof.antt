@@ -19,6 +19,7 @@ use Rattle.face.proofs.number.Reads as number-reads
 use Rattle.face.proofs.store.Reads as store-reads
 use Rattle.face.proofs.word_of.Reads as word-of-reads
 use Rattle.step.proofs.row_points.Reads as row-points-reads
+use Rattle.picture.proofs.screen_of.Reads as screen-of-reads
 
 -- src/lib.rt:203:9
 well-formed-requires : tie.Need-well-formed-requires
@@ -68,13 +69,17 @@ slice-read-row-points c = omega (arith, long (c .before .before .before .before 
 area-from-requires : tie.Need-area-from-requires
 area-from-requires c κs = search needs
 
+-- src/lib.rt:205:9
+screen-of-requires : tie.Need-screen-of-requires
+screen-of-requires c κs = search needs
+
 -- src/lib.rt:210:9
 row-points-requires : tie.Need-row-points-requires
 row-points-requires c κs = search needs
 
 -- src/lib.rt:219:5
 store-requires : tie.Need-store-requires
-store-requires c κs = long (c .before .before .before .before .before .before .before .before .before .before .before .before .before .before .before .before .before .before .before .before .before .before .args .state .now) (sym (c .before .before .before .before .before .before .before .before .before .before .before .before .before .before .before .before .before .well-formed .ensures) ∙ not-false _ (c .before .before .before .before .before .before .before .before .before .before .before .before .before .before .before .before .if1 .left))
+store-requires c κs = long (c .before .before .before .before .before .before .before .before .before .before .before .before .before .before .before .before .before .before .before .before .before .before .before .args .state .now) (sym (c .before .before .before .before .before .before .before .before .before .before .before .before .before .before .before .before .before .before .well-formed .ensures) ∙ not-false _ (c .before .before .before .before .before .before .before .before .before .before .before .before .before .before .before .before .before .if1 .left))
 
 -- src/lib.rt:220:5
 word-of-requires : tie.Need-word-of-requires
@@ -92,12 +97,12 @@ same-length-4 c = search needs
 returns-3 : tie.Need-returns-3
 unfolding stateOf
 returns-3 c =
-    row-kept (c .before .before .before .before .before .before .before .before .before .before .before .before .before .before .before .before .before .before .before .before .before .before .before .before .before .before .args .state .now) (c .before .before .before .before .before .before .before .before .before .before .before .before .before .before .before .before .before .before .before .before .before .before .before .before .before .before .args .vram .now) (c .before .before .before .before .before .before .before .before .before .before .before .before .before .before .before .before .before .before .before .before .before .before .before .before .before .before .args .row .now) (c .before .before .before .before .before .before .before .before .before .before .before .before .before .before .before .before .before .before .before .before .before .before .before .before .before .before .args .area)
-    (λ i. omega (arith, c .before .before .before .before .before .before .before .before .before .before .before .before .before .before .before .before .before .before .before .before .before .before .before .before .before .slice-known .given i))
-    (sym (c .before .before .before .before .before .before .before .before .before .before .before .before .before .before .before .before .before .before .before .before .before .well-formed .ensures) ∙ not-false _ (c .before .before .before .before .before .before .before .before .before .before .before .before .before .before .before .before .before .before .before .before .if1 .left))
-    (c .before .before .before .before .before .before .before .before .before .before .before .before .before .before .before .before .before .before .before .if2 .left)
-    (c .before .before .before .before .before .before .before .before .before .area-from .ensures)
-    (reading-of (stateOf (c .before .before .before .before .before .before .before .before .before .before .before .before .before .before .before .before .before .before .before .before .before .before .before .before .before .before .args .state .now)) (c .before .before .before .before .before .before .before .before .before .before .before .before .before .before .before .registers .ensures) (c .before .before .before .before .before .before .before .before .before .before .before .before .before .raster-in .ensures) refl (c .before .before .before .before .before .before .before .before .before .before .before .before .before .before .before .before .before .colours-of .ensures))
+    row-kept (c .before .before .before .before .before .before .before .before .before .before .before .before .before .before .before .before .before .before .before .before .before .before .before .before .before .before .before .args .state .now) (c .before .before .before .before .before .before .before .before .before .before .before .before .before .before .before .before .before .before .before .before .before .before .before .before .before .before .before .args .vram .now) (c .before .before .before .before .before .before .before .before .before .before .before .before .before .before .before .before .before .before .before .before .before .before .before .before .before .before .before .args .row .now) (c .before .before .before .before .before .before .before .before .before .before .before .before .before .before .before .before .before .before .before .before .before .before .before .before .before .before .before .args .area)
+    (λ i. omega (arith, c .before .before .before .before .before .before .before .before .before .before .before .before .before .before .before .before .before .before .before .before .before .before .before .before .before .before .slice-known .given i))
+    (sym (c .before .before .before .before .before .before .before .before .before .before .before .before .before .before .before .before .before .before .before .before .before .before .well-formed .ensures) ∙ not-false _ (c .before .before .before .before .before .before .before .before .before .before .before .before .before .before .before .before .before .before .before .before .before .if1 .left))
+    (c .before .before .before .before .before .before .before .before .before .before .before .before .before .before .before .before .before .before .before .before .if2 .left)
+    (c .before .before .before .before .before .before .before .before .before .before .area-from .ensures) (c .before .before .before .before .before .before .before .before .before .screen-of .ensures)
+    (reading-of (stateOf (c .before .before .before .before .before .before .before .before .before .before .before .before .before .before .before .before .before .before .before .before .before .before .before .before .before .before .before .args .state .now)) (c .before .before .before .before .before .before .before .before .before .before .before .before .before .before .before .before .registers .ensures) (c .before .before .before .before .before .before .before .before .before .before .before .before .before .before .raster-in .ensures) refl (c .before .before .before .before .before .before .before .before .before .before .before .before .before .before .before .before .before .before .colours-of .ensures))
     (c .before .before .before .store .ensures)
     (c .word-of .ensures)
     (c .before .before .before .before .before .before .before .before .row-points .ensures)
@@ -118,6 +123,7 @@ vdp-row-step-spec =
     raster-in-requires
     slice-read-row-points
     area-from-requires
+    screen-of-requires
     row-points-requires
     store-requires
     word-of-requires

@@ -19,6 +19,7 @@ use Rattle.face.proofs.number.Reads as number-reads
 use Rattle.face.proofs.store.Reads as store-reads
 use Rattle.face.proofs.word_of.Reads as word-of-reads
 use Rattle.step.proofs.frame_points.Reads as frame-points-reads
+use Rattle.picture.proofs.screen_of.Reads as screen-of-reads
 
 -- src/lib.rt:178:9
 well-formed-requires : tie.Need-well-formed-requires
@@ -68,13 +69,17 @@ slice-read-frame-points c = omega (arith, long (c .before .before .before .befor
 area-from-requires : tie.Need-area-from-requires
 area-from-requires c κs = search needs
 
+-- src/lib.rt:180:9
+screen-of-requires : tie.Need-screen-of-requires
+screen-of-requires c κs = search needs
+
 -- src/lib.rt:185:9
 frame-points-requires : tie.Need-frame-points-requires
 frame-points-requires c κs = search needs
 
 -- src/lib.rt:194:5
 store-requires : tie.Need-store-requires
-store-requires c κs = long (c .before .before .before .before .before .before .before .before .before .before .before .before .before .before .before .before .before .before .before .before .before .before .args .state .now) (sym (c .before .before .before .before .before .before .before .before .before .before .before .before .before .before .before .before .before .well-formed .ensures) ∙ not-false _ (c .before .before .before .before .before .before .before .before .before .before .before .before .before .before .before .before .if1 .left))
+store-requires c κs = long (c .before .before .before .before .before .before .before .before .before .before .before .before .before .before .before .before .before .before .before .before .before .before .before .args .state .now) (sym (c .before .before .before .before .before .before .before .before .before .before .before .before .before .before .before .before .before .before .well-formed .ensures) ∙ not-false _ (c .before .before .before .before .before .before .before .before .before .before .before .before .before .before .before .before .before .if1 .left))
 
 -- src/lib.rt:195:5
 word-of-requires : tie.Need-word-of-requires
@@ -92,12 +97,12 @@ same-length-4 c = search needs
 returns-3 : tie.Need-returns-3
 unfolding stateOf
 returns-3 c =
-    step-kept (c .before .before .before .before .before .before .before .before .before .before .before .before .before .before .before .before .before .before .before .before .before .before .before .before .before .before .args .state .now) (c .before .before .before .before .before .before .before .before .before .before .before .before .before .before .before .before .before .before .before .before .before .before .before .before .before .before .args .vram .now) (c .before .before .before .before .before .before .before .before .before .before .before .before .before .before .before .before .before .before .before .before .before .before .before .before .before .before .args .frame .now) (c .before .before .before .before .before .before .before .before .before .before .before .before .before .before .before .before .before .before .before .before .before .before .before .before .before .before .args .area)
-    (λ i. omega (arith, c .before .before .before .before .before .before .before .before .before .before .before .before .before .before .before .before .before .before .before .before .before .before .before .before .before .slice-known .given i))
-    (sym (c .before .before .before .before .before .before .before .before .before .before .before .before .before .before .before .before .before .before .before .before .before .well-formed .ensures) ∙ not-false _ (c .before .before .before .before .before .before .before .before .before .before .before .before .before .before .before .before .before .before .before .before .if1 .left))
-    (c .before .before .before .before .before .before .before .before .before .before .before .before .before .before .before .before .before .before .before .if2 .left)
-    (c .before .before .before .before .before .before .before .before .before .area-from .ensures)
-    (reading-of (stateOf (c .before .before .before .before .before .before .before .before .before .before .before .before .before .before .before .before .before .before .before .before .before .before .before .before .before .before .args .state .now)) (c .before .before .before .before .before .before .before .before .before .before .before .before .before .before .before .registers .ensures) (c .before .before .before .before .before .before .before .before .before .before .before .before .before .raster-in .ensures) refl (c .before .before .before .before .before .before .before .before .before .before .before .before .before .before .before .before .before .colours-of .ensures))
+    step-kept (c .before .before .before .before .before .before .before .before .before .before .before .before .before .before .before .before .before .before .before .before .before .before .before .before .before .before .before .args .state .now) (c .before .before .before .before .before .before .before .before .before .before .before .before .before .before .before .before .before .before .before .before .before .before .before .before .before .before .before .args .vram .now) (c .before .before .before .before .before .before .before .before .before .before .before .before .before .before .before .before .before .before .before .before .before .before .before .before .before .before .before .args .frame .now) (c .before .before .before .before .before .before .before .before .before .before .before .before .before .before .before .before .before .before .before .before .before .before .before .before .before .before .before .args .area)
+    (λ i. omega (arith, c .before .before .before .before .before .before .before .before .before .before .before .before .before .before .before .before .before .before .before .before .before .before .before .before .before .before .slice-known .given i))
+    (sym (c .before .before .before .before .before .before .before .before .before .before .before .before .before .before .before .before .before .before .before .before .before .before .well-formed .ensures) ∙ not-false _ (c .before .before .before .before .before .before .before .before .before .before .before .before .before .before .before .before .before .before .before .before .before .if1 .left))
+    (c .before .before .before .before .before .before .before .before .before .before .before .before .before .before .before .before .before .before .before .before .if2 .left)
+    (c .before .before .before .before .before .before .before .before .before .before .area-from .ensures) (c .before .before .before .before .before .before .before .before .before .screen-of .ensures)
+    (reading-of (stateOf (c .before .before .before .before .before .before .before .before .before .before .before .before .before .before .before .before .before .before .before .before .before .before .before .before .before .before .before .args .state .now)) (c .before .before .before .before .before .before .before .before .before .before .before .before .before .before .before .before .registers .ensures) (c .before .before .before .before .before .before .before .before .before .before .before .before .before .before .raster-in .ensures) refl (c .before .before .before .before .before .before .before .before .before .before .before .before .before .before .before .before .before .before .colours-of .ensures))
     (c .before .before .before .store .ensures)
     (c .word-of .ensures)
     (c .before .before .before .before .before .before .before .before .frame-points .ensures)
@@ -118,6 +123,7 @@ vdp-step-spec =
     raster-in-requires
     slice-read-frame-points
     area-from-requires
+    screen-of-requires
     frame-points-requires
     store-requires
     word-of-requires

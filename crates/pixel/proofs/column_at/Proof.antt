@@ -7,6 +7,7 @@ use lib.ListN.{length}
 use Rattle.laws.specs.Lists.{at}
 use Rattle.picture.specs.Tile.{mapColour}
 use Rattle.picture.specs.View.{early}
+use Rattle.picture.specs.Area.{screenOf}
 use Rattle.background.specs.Background.{Room}
 use Rattle.sprites.specs.Sprites.{standOf, Follows}
 use Rattle.sprites.proofs.List.{Going, going-on, going-ends, with-sprite-is}
@@ -29,7 +30,7 @@ Inv-loop vram area reg b line col table e off column₀ from₀ count₀ column 
     (from ≤ 64)
     × (count ≤ 8)
     × ((f : ℕ → Bool) (colour : ℕ → ℕ) → ((i : ℕ) → i < 256 → frontAt vram b i ≡ f i) → mapColour (at vram) (b .names) ((b .sx + col) % 256) (b .y) ≡ colour col →
-    Going (at vram) (at reg) (standOf area (early (at reg))) line f colour from count (λ q L. Shows col off q column))
+    Going (at vram) (at reg) (standOf (screenOf area) (early (at reg))) line f colour from count (λ q L. Shows col off q column))
 
 abbrev μ-loop : tie.MeasureT-loop
 μ-loop vram area reg b line col table e off column₀ from₀ count₀ column from count = 8 - count
@@ -116,7 +117,7 @@ loop-again c =
       λ f colour pe ue.
           let w = v .2 f colour pe ue in
           going-on _ _ _ _ _ _ _ (o .next l) k refl w
-          (rw (← with-sprite-is (a .vram .now) (a .reg) (a .area) (a .line) n (c .before .before .next-sprite .result .d) f (w .canvas) (c .before .before .before .before .before .before .before .before .before .before .table-at .ensures .0) (c .before .before .before .before .before .before .before .before .before .early-of .ensures .0) refl (o .below l) refl)
+          (rw (← with-sprite-is (a .vram .now) (a .reg) (screenOf (a .area)) (a .line) n (c .before .before .next-sprite .result .d) f (w .canvas) (c .before .before .before .before .before .before .before .before .before .before .table-at .ensures .0) (c .before .before .before .before .before .before .before .before .before .early-of .ensures .0) refl (o .below l) refl)
           (c .sprite-at .ensures f (w .canvas) pe (w .shows))),
     )
 

@@ -4,7 +4,7 @@ use Prim.Native.Nat.{ℕ, _+_, _-_, _*_, _/_, _%_, _<_, _≤_}
 use Rattle.laws.specs.Lists.{at}
 use Rattle.picture.specs.View.{View, effective}
 use Rattle.picture.specs.Picture.{back, front, picture}
-use Rattle.picture.specs.Area.{pictureOf}
+use Rattle.picture.specs.Screen.{pictureOf}
 use Rattle.background.specs.Background.{backColour}
 use Rattle.background.proofs.Views.{back-at, front-at, effective-x, effective-mark}
 use Rattle.pixel.proofs.effective_number.Statement.{statement}

@@ -8,7 +8,7 @@ use lib.ListN.{length}
 use borrow.Author.Tests.{ltb-true}
 use Rattle.laws.specs.Sizes.{vramSize}
 use Rattle.laws.proofs.Tests.{both}
-use Rattle.picture.specs.Area.{rows, columns}
+use Rattle.picture.specs.Area.{screenOf, rows, columns}
 use Rattle.picture.proofs.Laws.{colour-of-lt}
 use Rattle.pixel.specs.Pixel.{inArea, spotOf}
 use Rattle.pixel.proofs.spot_at.Statement.{statement}
@@ -62,7 +62,7 @@ colour-number-requires c κs =
 -- src/lib.rt:364:1
 returns-3 : tie.Need-returns-3
 unfolding spotOf
-returns-3 c = (rw (eq-eqb (length (c .before .before .before .before .before .before .before .args .vram .now)) vramSize (c .before .before .before .before .before .if1 .left), sym (c .before .before .before .before .long .ensures), sym (c .before .before .before .long2 .ensures), sym (c .before .before .in-area .ensures) ∙ not-false (c .before .before .in-area .result) (c .before .if2 .left), c .colour-number .ensures), rw (c .colour-number .ensures) (colour-of-lt (c .before .before .before .before .before .before .before .args .area) (c .before .before .before .before .before .before .before .args .reg) (c .before .before .before .before .before .before .before .args .scroll) (c .before .before .before .before .before .before .before .args .vram .now) (c .before .before .before .before .long .result) (c .before .before .before .long2 .result)))
+returns-3 c = (rw (eq-eqb (length (c .before .before .before .before .before .before .before .args .vram .now)) vramSize (c .before .before .before .before .before .if1 .left), sym (c .before .before .before .before .long .ensures), sym (c .before .before .before .long2 .ensures), sym (c .before .before .in-area .ensures) ∙ not-false (c .before .before .in-area .result) (c .before .if2 .left), c .colour-number .ensures), rw (c .colour-number .ensures) (colour-of-lt (screenOf (c .before .before .before .before .before .before .before .args .area)) (c .before .before .before .before .before .before .before .args .reg) (c .before .before .before .before .before .before .before .args .scroll) (c .before .before .before .before .before .before .before .args .vram .now) (c .before .before .before .before .long .result) (c .before .before .before .long2 .result)))
 
 pub spot-at-spec : {M : Type 1} → statement M
 spot-at-spec =

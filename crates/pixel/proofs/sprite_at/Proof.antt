@@ -1,7 +1,9 @@
 use borrow.Author.Needs.{needs}
-use mathlib.Core.Path.{_∙_}
+use mathlib.Core.Path.{_≡_, ap, _∙_}
 use Prim.Native.Nat.{ℕ, _+_, _-_, _%_, _<_, _≤_, min}
 use Rattle.laws.specs.Lists.{at}
+use Rattle.picture.specs.declared.Screen.{Screen}
+use Rattle.picture.specs.Area.{screenOf}
 use Rattle.sprites.specs.Sprites.{standOf}
 use Rattle.picture.specs.Picture.{spriteLine}
 use Rattle.pixel.specs.Column.{Tied, backOf, aheadOf}
@@ -10,6 +12,7 @@ use Rattle.pixel.proofs.sprite_at.Statement.{statement}
 use Rattle.pixel.proofs.sprite_at.Tie as tie
 use Rattle.pixel.proofs.sprite_at.Reads as reads
 use Rattle.pixel.proofs.sprite_at.Lts as lts
+use Rattle.picture.proofs.screen_of.Reads as screen-of-reads
 use Rattle.pixel.proofs.ahead_of.Reads as ahead-of-reads
 use Rattle.pixel.proofs.back_of.Reads as back-of-reads
 use Rattle.pixel.proofs.with_sprite.Reads as with-sprite-reads
@@ -55,11 +58,15 @@ returns : tie.Need-returns
 returns c =
     let a = c .before .before .before .before .before .before .args in
     let h = at (a .vram .now) (a .k) in
-    let s = standOf (a .area) (a .e) h in
+    let s = standOf (screenOf (a .area)) (a .e) h in
     let low : h < 256 = rw (c .before .wide .ensures .0) at (c .before .wide .ensures .1) in
     let far : 15 - min (a .col) 7 ≤ (a .col + aheadOf (a .area) (a .e) + 256 - h) % 256 = rw (c .before .wide .ensures .0, c .before .before .ahead-of .ensures .0, c .before .before .before .smaller .ensures) at (c .if1 .taken) in
     let t : Tied (a .off) (backOf (a .area) (s .start)) s = rw (c .before .before .before .before .before .before .pre .1 .4) (tied (a .area) (a .e) h (c .before .before .before .before .before .before .pre .1 .1)) in
     λ f q pe sh. column-far (a .vram .now) (a .b) s (spriteLine (at (a .reg)) (at (a .vram .now) (a .k + 1)) (a .d)) (a .col) (a .off) (backOf (a .area) (s .start)) (end-low (a .area) (a .e) h) (λ j l. rw (c .before .before .before .before .before .before .pre .1 .4) (far-at (a .e) h (a .col) j (c .before .before .before .before .before .before .pre .1 .1) low (c .before .before .before .before .before .before .pre .1 .3) l (a .area) far)) f q (a .under) t (c .before .before .before .before .before .before .pre .1 .3) pe sh
+
+-- src/lib.rt:333:9
+screen-of-requires : tie.Need-screen-of-requires
+screen-of-requires c κs = search needs
 
 -- src/lib.rt:333:9
 settings-requires : tie.Need-settings-requires
@@ -88,10 +95,13 @@ with-sprite-requires c κs = search needs
 -- src/lib.rt:312:1
 returns-2 : tie.Need-returns-2
 returns-2 c =
-    let a = c .before .before .before .before .before .before .before .before .before .before .before .args in
+    let a = c .before .before .before .before .before .before .before .before .before .before .before .before .args in
+    let p = c .before .before .before .before .before .before .before .before .before .before .before .before .pre .1 in
     let h = at (a .vram .now) (a .k) in
-    let t : Tied (a .off) (c .before .back-of .result) (c .before .before .before .before .settings .result) = rw (c .before .back-of .ensures .0, c .before .before .before .before .settings .ensures .0, c .before .before .before .before .before .before .before .before .before .before .before .pre .1 .4) (tied (a .area) (a .e) h (c .before .before .before .before .before .before .before .before .before .before .before .pre .1 .1)) in
-    λ f q pe sh. rw (← c .before .before .before .before .settings .ensures .0, ← c .before .before .line-at .ensures .0) (c .with-sprite .ensures t f q pe sh)
+    let s = c .before .before .before .before .settings .result in
+    let e : s ≡ standOf (screenOf (a .area)) (a .e) h = c .before .before .before .before .settings .ensures .0 ∙ ap (λ (k : Screen). standOf k (a .e) h) (c .before .before .before .before .before .screen-of .ensures) in
+    let t : Tied (a .off) (c .before .back-of .result) s = rw (c .before .back-of .ensures .0, e, p .4) (tied (a .area) (a .e) h (p .1)) in
+    λ f q pe sh. rw (← e, ← c .before .before .line-at .ensures .0) (c .with-sprite .ensures t f q pe sh)
 
 pub sprite-at-spec : {M : Type 1} → statement M
 sprite-at-spec =
@@ -106,6 +116,7 @@ sprite-at-spec =
     wide-requires
     sub-if1
     returns
+    screen-of-requires
     settings-requires
     add-line-at
     shared-slice-read-line-at

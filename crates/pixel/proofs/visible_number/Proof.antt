@@ -13,6 +13,7 @@ use Rattle.pixel.proofs.visible_number.Reads as reads
 use Rattle.pixel.proofs.visible_number.Lts as lts
 use Rattle.background.proofs.cut_of.Reads as cut-of-reads
 use Rattle.background.proofs.names_at.Reads as names-at-reads
+use Rattle.picture.proofs.screen_of.Reads as screen-of-reads
 use Rattle.pixel.proofs.column_at.Reads as column-at-reads
 use Rattle.small.proofs.wide.Reads as wide-reads
 
@@ -40,6 +41,10 @@ add-t14 c = search needs
 add-t16 : tie.Need-add-t16
 add-t16 c = search needs
 
+-- src/lib.rt:392:45
+screen-of-requires : tie.Need-screen-of-requires
+screen-of-requires c κs = search needs
+
 -- src/lib.rt:392:51
 cast-cut-of : tie.Need-cast-cut-of
 cast-cut-of c = search needs
@@ -63,10 +68,11 @@ column-at-requires c κs = (record { room = search needs; cut-low = ⊎-elim (λ
 -- src/lib.rt:376:1
 returns : tie.Need-returns
 returns c =
-    let a = c .before .before .before .before .before .before .args in
+    let a = c .before .before .before .before .before .before .before .args in
+    let p = c .before .before .before .before .before .before .before .pre in
     let fit : Fits w8 (getD (a .t3) 8 0) = search needs in
-    scrolled-number (a .area) (a .vram .now) (a .t3) _ _ _ (a .scroll) (a .row) (a .col) (c .before .before .before .before .before .before .pre .4) (fit .fits) (c .before .before .before .names-at .ensures .0) (ap (λ (k : ℕ). (304 - k) % 256) (c .before .before .before .before .wide .ensures .0))
-    (c .before .wide2 .ensures .0 ∙ c .before .before .cut-of .ensures .0) (c .before .before .before .before .before .before .pre .3) (c .column-at .ensures)
+    scrolled-number (a .area) (a .vram .now) (a .t3) _ _ _ (a .scroll) (a .row) (a .col) (p .4) (fit .fits) (c .before .before .before .before .names-at .ensures .0) (ap (λ (k : ℕ). (304 - k) % 256) (c .before .before .before .before .before .wide .ensures .0))
+    (c .before .wide2 .ensures .0 ∙ (rw (c .before .before .before .screen-of .ensures) at (c .before .before .cut-of .ensures .0))) (p .3) (c .column-at .ensures)
 
 pub visible-number-spec : {M : Type 1} → statement M
 visible-number-spec =
@@ -78,6 +84,7 @@ visible-number-spec =
     names-at-requires
     add-t14
     add-t16
+    screen-of-requires
     cast-cut-of
     cut-of-requires
     wide-requires-2

@@ -4,7 +4,7 @@ use mathlib.Core.Logic.{inl}
 use Rattle.laws.specs.Lists.{at}
 use Rattle.picture.specs.View.{View, effective}
 use Rattle.picture.specs.Picture.{back, front}
-use Rattle.picture.specs.Area.{pictureOf}
+use Rattle.picture.specs.Screen.{pictureOf}
 use Rattle.picture.specs.Layers.{layersOf}
 use Rattle.background.proofs.Views.{effective-x, effective-mark}
 use Rattle.row.proofs.Laws.{back-is, front-is, row-is}

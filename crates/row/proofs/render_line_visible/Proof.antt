@@ -82,7 +82,7 @@ returns : tie.Need-returns
 returns c =
     let a = c .before .before .before .before .before .before .before .before .before .before .before .before .before .before .before .before .before .before .before .before .before .before .args in
     let fit : Fits w8 (getD (a .t6) 8 0) = search needs in
-    scrolled (a .area) (a .vram .now) (a .t6) _ _ _ (a .scroll) (a .line) (a .row .now) (a .layers .now) (a .colours .now)
+    scrolled (a .screen) (a .vram .now) (a .t6) _ _ _ (a .scroll) (a .line) (a .row .now) (a .layers .now) (a .colours .now)
     (c .before .before .before .before .before .before .before .before .before .before .before .before .before .before .before .before .before .before .before .before .before .before .pre .4) (fit .fits) (c .before .before .before .before .before .before .before .before .before .before .before .names-at .ensures .0) (ap (λ (k : ℕ). (304 - k) % 256) (c .before .before .before .before .before .before .before .before .before .before .before .before .before .before .wide .ensures .0)) (c .before .before .before .before .before .before .before .before .before .before .before .before .before .cut-of .ensures .0) (c .before .before .before .before .before .before .before .before .before .before .before .before .before .before .before .before .before .before .before .before .before .before .pre .1)
     (c .before .before .before .before .before .before .before .before .before .before .render-background-line .ensures .0) (c .before .before .before .before .before .before .before .before .before .before .render-background-line .ensures .1) (c .before .before .before .before .before .before .before .before .before .before .before .before .before .before .before .before .before .clear .ensures) (c .before .before .before .before .before .render-sprites-line .ensures) (c .status-bits .ensures)
 

@@ -35,7 +35,7 @@ use Rattle.sprites.proofs.settings.Reads as settings-reads
 use Rattle.sprites.proofs.table_at.Reads as table-at-reads
 
 abbrev Inv-loop : tie.InvT-loop
-Inv-loop row₀ layers₀ vram colours area line width reg prio mask₀ table lines e hit₀ count₀ next₀ row layers mask hit count next =
+Inv-loop row₀ layers₀ vram colours screen line width reg prio mask₀ table lines e hit₀ count₀ next₀ row layers mask hit count next =
     (next .n ≤ 64)
     × (next .d < 16)
     × (count ≤ 8)
@@ -43,10 +43,10 @@ Inv-loop row₀ layers₀ vram colours area line width reg prio mask₀ table li
     × (length layers ≡ length layers₀)
     × ((base told : List ℕ) (f : ℕ → Bool) (colour : ℕ → ℕ) → prio .bits ≡ bytesOf f → mask₀ .bits ≡ cleared → row₀ ≡ painted base 0 width (λ x. at colours (colour x)) →
     layers₀ ≡ layersIn told width (λ x. 0) →
-    Facing (at vram) (at reg) (standOf area (early (at reg))) line f colour (next .n) (next .d) count (Told base told colours width row (mask .bits) layers hit))
+    Facing (at vram) (at reg) (standOf screen (early (at reg))) line f colour (next .n) (next .d) count (Told base told colours width row (mask .bits) layers hit))
 
 abbrev μ-loop : tie.MeasureT-loop
-μ-loop row₀ layers₀ vram colours area line width reg prio mask₀ table lines e hit₀ count₀ next₀ row layers mask hit count next = 64 - next .n
+μ-loop row₀ layers₀ vram colours screen line width reg prio mask₀ table lines e hit₀ count₀ next₀ row layers mask hit count next = 64 - next .n
 
 -- src/lib.rt:331:9
 table-at-requires : tie.Need-table-at-requires Inv-loop μ-loop
@@ -242,14 +242,14 @@ loop-again c =
           facing-on _ _ _ _ _ _ _ l k (c .before .before .before .before .before .before .before .before .before .before .before .before .render-sprite .ensures .1 .1 .0) o
           (record {
             canvas =
-                rw (← with-sprite-is (a .vram .now) (a .t6) (a .area) (a .line) (c .before .before .before .before .before .before .before .before .before .before .before .before .before .before .before .before .before .before .before .before .before .before .before .before .before .before .before .before .before .before .before .loop .next .n) (c .before .before .before .before .before .before .before .before .before .before .before .before .before .before .before .before .before .before .before .before .before .before .before .before .before .before .before .before .before .before .before .loop .next .d) f q (c .before .before .before .before .before .before .before .before .before .before .before .before .before .before .before .before .before .before .before .before .before .before .before .before .before .before .before .before .before .before .before .before .before .before .before .before .table-at .ensures .0) (c .before .before .before .before .before .before .before .before .before .before .before .before .before .before .before .before .before .before .before .before .before .before .before .before .before .before .before .before .before .before .before .before .before .early-of .ensures .0) (c .before .before .before .before .before .before .before .before .before .before .before .before .before .before .before .before .before .before .before .before .before .before .before .before .before .settings .ensures .0) below (c .before .before .before .before .before .before .before .before .before .before .before .before .before .before .before .before .before .before .before .before .before .before .before .line-at .ensures .0))
+                rw (← with-sprite-is (a .vram .now) (a .t6) (a .screen) (a .line) (c .before .before .before .before .before .before .before .before .before .before .before .before .before .before .before .before .before .before .before .before .before .before .before .before .before .before .before .before .before .before .before .loop .next .n) (c .before .before .before .before .before .before .before .before .before .before .before .before .before .before .before .before .before .before .before .before .before .before .before .before .before .before .before .before .before .before .before .loop .next .d) f q (c .before .before .before .before .before .before .before .before .before .before .before .before .before .before .before .before .before .before .before .before .before .before .before .before .before .before .before .before .before .before .before .before .before .before .before .before .table-at .ensures .0) (c .before .before .before .before .before .before .before .before .before .before .before .before .before .before .before .before .before .before .before .before .before .before .before .before .before .before .before .before .before .before .before .before .before .early-of .ensures .0) (c .before .before .before .before .before .before .before .before .before .before .before .before .before .before .before .before .before .before .before .before .before .before .before .before .before .settings .ensures .0) below (c .before .before .before .before .before .before .before .before .before .before .before .before .before .before .before .before .before .before .before .before .before .before .before .line-at .ensures .0))
                 (shows-laid s (a .vram .now) (c .before .before .before .before .before .before .before .before .before .before .before .before .before .before .before .before .before .before .before .before .before .before .before .line-at .result) f q (c .before .before .before .before .before .before .before .before .before .before .before .before .before .before .before .before .before .before .before .before .before .before .before .before .before .settings .ensures .1 .end-low) (a .width) (a .colours .now) base (omega (arith, c .before .before .before .before .before .before .before .before .before .before .before .before .before .before .before .before .before .before .before .before .before .before .before .before .before .before .before .before .before .before .before .before .before .before .before .before .before .before .before .before .pre .bytes, v .3)) pe sh
                 held taken (small .fits)
                 (c .before .before .before .before .before .before .before .before .before .before .before .before .render-sprite .ensures .0) (c .before .before .before .before .before .before .before .before .before .before .before .before .render-sprite .ensures .1 .0)
                 (c .before .before .before .before .before .before .or .ensures ∙ ap (λ (b : Bool). c .before .before .before .before .before .before .before .before .before .before .before .before .before .before .before .before .before .before .before .before .before .before .before .before .before .before .before .before .before .before .before .loop .hit || b) (c .before .before .before .before .before .before .before .collision-calc .ensures))
                 (rw (c .before .before .before .before .before .lower .ensures, c .before .before .before .upper .ensures) (mark-is (q .mask) (s .mark) bits (sh .mask) (small .fits))));
             owners =
-                rw (← owned-is (a .vram .now) (a .t6) (a .area) (a .line) (c .before .before .before .before .before .before .before .before .before .before .before .before .before .before .before .before .before .before .before .before .before .before .before .before .before .before .before .before .before .before .before .loop .next .n) (c .before .before .before .before .before .before .before .before .before .before .before .before .before .before .before .before .before .before .before .before .before .before .before .before .before .before .before .before .before .before .before .loop .next .d) f q (o .going .layer) (c .before .before .before .before .before .before .before .before .before .before .before .before .before .before .before .before .before .before .before .before .before .before .before .before .before .before .before .before .before .before .before .before .before .before .before .before .table-at .ensures .0) (c .before .before .before .before .before .before .before .before .before .before .before .before .before .before .before .before .before .before .before .before .before .before .before .before .before .before .before .before .before .before .before .before .before .early-of .ensures .0) (c .before .before .before .before .before .before .before .before .before .before .before .before .before .before .before .before .before .before .before .before .before .before .before .before .before .settings .ensures .0) below (c .before .before .before .before .before .before .before .before .before .before .before .before .before .before .before .before .before .before .before .before .before .before .before .line-at .ensures .0))
+                rw (← owned-is (a .vram .now) (a .t6) (a .screen) (a .line) (c .before .before .before .before .before .before .before .before .before .before .before .before .before .before .before .before .before .before .before .before .before .before .before .before .before .before .before .before .before .before .before .loop .next .n) (c .before .before .before .before .before .before .before .before .before .before .before .before .before .before .before .before .before .before .before .before .before .before .before .before .before .before .before .before .before .before .before .loop .next .d) f q (o .going .layer) (c .before .before .before .before .before .before .before .before .before .before .before .before .before .before .before .before .before .before .before .before .before .before .before .before .before .before .before .before .before .before .before .before .before .before .before .before .table-at .ensures .0) (c .before .before .before .before .before .before .before .before .before .before .before .before .before .before .before .before .before .before .before .before .before .before .before .before .before .before .before .before .before .before .before .before .before .early-of .ensures .0) (c .before .before .before .before .before .before .before .before .before .before .before .before .before .before .before .before .before .before .before .before .before .before .before .before .before .settings .ensures .0) below (c .before .before .before .before .before .before .before .before .before .before .before .before .before .before .before .before .before .before .before .before .before .before .before .line-at .ensures .0))
                 (owns-laid s (a .vram .now) (c .before .before .before .before .before .before .before .before .before .before .before .before .before .before .before .before .before .before .before .before .before .before .before .line-at .result) f q (c .before .before .before .before .before .before .before .before .before .before .before .before .before .before .before .before .before .before .before .before .before .before .before .before .before .settings .ensures .1 .end-low) (a .width) (c .before .before .before .before .before .before .before .before .before .before .before .before .before .before .before .before .before .before .before .before .before .before .before .before .before .before .before .before .before .before .before .loop .next .n) told (o .going .layer) pe sh (o .going .shows .owners)
                 held taken (c .before .before .before .before .before .before .before .before .before .before .before .before .render-sprite .ensures .1 .1 .1));
           })

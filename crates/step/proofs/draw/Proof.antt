@@ -1,6 +1,6 @@
 use borrow.Author.Needs.{needs}
 use Rattle.step.proofs.Steps.{drawn-none, drawn-one}
-use Rattle.picture.specs.Area.{pictureOf}
+use Rattle.picture.specs.Screen.{pictureOf}
 use Rattle.picture.specs.Layers.{layersOf}
 use Rattle.step.proofs.draw.Statement.{statement}
 use Rattle.step.proofs.draw.Tie as tie
@@ -18,7 +18,7 @@ enum-told c = search needs
 
 -- src/lib.rt:152:9
 returns : tie.Need-returns
-returns c = drawn-none (c .before .before .before .before .before .args .area) (c .before .before .before .before .before .args .colours .now) (pictureOf (c .before .before .before .before .before .args .area) (c .before .before .before .before .before .args .reg) (c .before .before .before .before .before .args .scroll) (c .before .before .before .before .before .args .vram .now)) (layersOf (c .before .before .before .before .before .args .area) (c .before .before .before .before .before .args .reg) (c .before .before .before .before .before .args .scroll) (c .before .before .before .before .before .args .vram .now)) (c .before .before .before .before .before .args .row .now) (c .before .before .before .before .before .args .layers .now) (c .enum-told .given .1)
+returns c = drawn-none (c .before .before .before .before .before .args .screen) (c .before .before .before .before .before .args .colours .now) (pictureOf (c .before .before .before .before .before .args .screen) (c .before .before .before .before .before .args .reg) (c .before .before .before .before .before .args .scroll) (c .before .before .before .before .before .args .vram .now)) (layersOf (c .before .before .before .before .before .args .screen) (c .before .before .before .before .before .args .reg) (c .before .before .before .before .before .args .scroll) (c .before .before .before .before .before .args .vram .now)) (c .before .before .before .before .before .args .row .now) (c .before .before .before .before .before .args .layers .now) (c .enum-told .given .1)
 
 -- src/lib.rt:154:5
 render-line-requires : tie.Need-render-line-requires
@@ -34,7 +34,7 @@ same-length-2 c = search needs
 
 -- src/lib.rt:136:1
 returns-2 : tie.Need-returns-2
-returns-2 c = drawn-one (c .before .before .before .before .before .before .before .before .before .before .before .before .before .args .area) (c .before .before .before .before .before .before .before .before .before .before .before .before .before .args .colours .now) (pictureOf (c .before .before .before .before .before .before .before .before .before .before .before .before .before .args .area) (c .before .before .before .before .before .before .before .before .before .before .before .before .before .args .reg) (c .before .before .before .before .before .before .before .before .before .before .before .before .before .args .scroll) (c .before .before .before .before .before .before .before .before .before .before .before .before .before .args .vram .now)) (layersOf (c .before .before .before .before .before .before .before .before .before .before .before .before .before .args .area) (c .before .before .before .before .before .before .before .before .before .before .before .before .before .args .reg) (c .before .before .before .before .before .before .before .before .before .before .before .before .before .args .scroll) (c .before .before .before .before .before .before .before .before .before .before .before .before .before .args .vram .now)) (c .before .before .before .before .before .before .before .before .before .before .before .before .before .args .row .now) (c .before .before .before .before .before .before .before .before .before .before .before .before .before .args .layers .now) _ (c .before .before .before .before .before .before .before .before .drawn .given .1) (c .before .before .before .before .render-line .ensures .0 .bytes) (c .before .before .before .before .render-line .ensures .0 .status) (c .before .before .before .before .render-line .ensures .1)
+returns-2 c = drawn-one (c .before .before .before .before .before .before .before .before .before .before .before .before .before .args .screen) (c .before .before .before .before .before .before .before .before .before .before .before .before .before .args .colours .now) (pictureOf (c .before .before .before .before .before .before .before .before .before .before .before .before .before .args .screen) (c .before .before .before .before .before .before .before .before .before .before .before .before .before .args .reg) (c .before .before .before .before .before .before .before .before .before .before .before .before .before .args .scroll) (c .before .before .before .before .before .before .before .before .before .before .before .before .before .args .vram .now)) (layersOf (c .before .before .before .before .before .before .before .before .before .before .before .before .before .args .screen) (c .before .before .before .before .before .before .before .before .before .before .before .before .before .args .reg) (c .before .before .before .before .before .before .before .before .before .before .before .before .before .args .scroll) (c .before .before .before .before .before .before .before .before .before .before .before .before .before .args .vram .now)) (c .before .before .before .before .before .before .before .before .before .before .before .before .before .args .row .now) (c .before .before .before .before .before .before .before .before .before .before .before .before .before .args .layers .now) _ (c .before .before .before .before .before .before .before .before .drawn .given .1) (c .before .before .before .before .render-line .ensures .0 .bytes) (c .before .before .before .before .render-line .ensures .0 .status) (c .before .before .before .before .render-line .ensures .1)
 
 pub draw-spec : {M : Type 1} → statement M
 draw-spec =

@@ -26,7 +26,7 @@ same-length c = search needs
 
 -- src/lib.rt:396:9
 returns : tie.Need-returns
-returns c = frame-refuses (c .before .before .before .before .before .before .before .args .area) (c .before .before .before .before .before .before .before .args .vram .now) (reading (c .before .before .before .before .before .before .before .args .reg) (c .before .before .before .before .before .before .before .args .raster) (c .before .before .before .before .before .before .before .args .status) (c .before .before .before .before .before .before .before .args .colours .now)) (c .before .before .before .before .before .before .before .args .frame .now) [] (c .before .before .before .lend .ensures .refused (not-true _ (c .before .if1 .taken))) (c .refused .ensures)
+returns c = frame-refuses (c .before .before .before .before .before .before .before .args .screen) (c .before .before .before .before .before .before .before .args .vram .now) (reading (c .before .before .before .before .before .before .before .args .reg) (c .before .before .before .before .before .before .before .args .raster) (c .before .before .before .before .before .before .before .args .status) (c .before .before .before .before .before .before .before .args .colours .now)) (c .before .before .before .before .before .before .before .args .frame .now) [] (c .before .before .before .lend .ensures .refused (not-true _ (c .before .if1 .taken))) (c .refused .ensures)
 
 -- src/lib.rt:405:9
 sub-row-points-into : tie.Need-sub-row-points-into
@@ -57,7 +57,7 @@ returns-2 : tie.Need-returns-2
 returns-2 c =
     let g = not-false _ (c .before .before .before .before .before .before .if1 .left) in
     let l = c .before .before .before .before .before .before .before .before .lend .ensures in
-    frame-accepts (c .before .before .before .before .before .before .before .before .before .before .before .before .args .area) (c .before .before .before .before .before .before .before .before .before .before .before .before .args .vram .now) (reading (c .before .before .before .before .before .before .before .before .before .before .before .before .args .reg) (c .before .before .before .before .before .before .before .before .before .before .before .before .args .raster) (c .before .before .before .before .before .before .before .before .before .before .before .before .args .status) (c .before .before .before .before .before .before .before .before .before .before .before .before .args .colours .now)) (c .before .before .before .before .before .before .before .before .before .before .before .before .args .frame .now) _ (l .memory g) (l .exact g) (l .place g) (l .part g) (c .before .before .before .row-points-into .ensures) .0
+    frame-accepts (c .before .before .before .before .before .before .before .before .before .before .before .before .args .screen) (c .before .before .before .before .before .before .before .before .before .before .before .before .args .vram .now) (reading (c .before .before .before .before .before .before .before .before .before .before .before .before .args .reg) (c .before .before .before .before .before .before .before .before .before .before .before .before .args .raster) (c .before .before .before .before .before .before .before .before .before .before .before .before .args .status) (c .before .before .before .before .before .before .before .before .before .before .before .before .args .colours .now)) (c .before .before .before .before .before .before .before .before .before .before .before .before .args .frame .now) _ (l .memory g) (l .exact g) (l .place g) (l .part g) (c .before .before .before .row-points-into .ensures) .0
 
 pub frame-points-spec : {M : Type 1} → statement M
 frame-points-spec =

@@ -8,10 +8,15 @@ use Rattle.step.proofs.frame_step.Lts as lts
 use Rattle.step.proofs.join.Reads as join-reads
 use Rattle.step.proofs.colours_of.Reads as colours-of-reads
 use Rattle.step.proofs.frame_points.Reads as frame-points-reads
+use Rattle.picture.proofs.screen_of.Reads as screen-of-reads
 
 -- src/lib.rt:350:19
 colours-of-requires : tie.Need-colours-of-requires
 colours-of-requires c κs = search needs
+
+-- src/lib.rt:503:79
+screen-of-requires : tie.Need-screen-of-requires
+screen-of-requires c κs = search needs
 
 -- src/lib.rt:351:9
 frame-points-requires : tie.Need-frame-points-requires
@@ -27,9 +32,15 @@ same-length c = search needs
 
 -- src/lib.rt:345:1
 returns : tie.Need-returns
-returns c = frame-joined (c .before .before .before .before .before .before .before .before .before .before .before .args .area) (c .before .before .before .before .before .before .before .before .before .before .before .args .vram .now) (c .before .before .before .before .before .before .before .before .before .before .before .args .vdp) (reading-of (c .before .before .before .before .before .before .before .before .before .before .before .args .vdp) refl refl refl (c .before .before .before .before .before .before .colours-of .ensures)) (c .join .ensures) (c .before .before .before .before .before .before .before .before .before .before .before .args .frame .now) (c .before .before .before .frame-points .ensures)
+returns c = frame-joined (c .before .before .before .before .before .before .before .before .before .before .before .before .args .area) (c .before .before .before .before .before .before .before .before .before .before .before .before .args .vram .now) (c .before .before .before .before .before .before .before .before .before .before .before .before .args .vdp) (reading-of (c .before .before .before .before .before .before .before .before .before .before .before .before .args .vdp) refl refl refl (c .before .before .before .before .before .before .before .colours-of .ensures)) (c .join .ensures) (c .before .before .before .before .before .before .before .before .before .before .before .before .args .frame .now) (rw (c .before .before .before .before .screen-of .ensures) at (c .before .before .before .frame-points .ensures))
 
 pub frame-step-spec : {M : Type 1} → statement M
 frame-step-spec =
     tie.close
-    (tie.spec colours-of-requires frame-points-requires join-requires same-length returns)
+    (tie.spec
+    colours-of-requires
+    screen-of-requires
+    frame-points-requires
+    join-requires
+    same-length
+    returns)

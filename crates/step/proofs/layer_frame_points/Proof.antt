@@ -26,7 +26,7 @@ same-length c = search needs
 
 -- src/lib.rt:429:9
 returns : tie.Need-returns
-returns c = frame-layers-refuse (c .before .before .before .before .before .before .before .before .args .area) (c .before .before .before .before .before .before .before .before .args .vram .now) (reading (c .before .before .before .before .before .before .before .before .args .reg) (c .before .before .before .before .before .before .before .before .args .raster) (c .before .before .before .before .before .before .before .before .args .status) (c .before .before .before .before .before .before .before .before .args .colours .now)) (c .before .before .before .before .before .before .before .before .args .frame .now) (c .before .before .before .before .before .before .before .before .args .layers .now) (c .before .before .before .lend .ensures .refused (not-true _ (c .before .if1 .taken))) (c .refused .ensures)
+returns c = frame-layers-refuse (c .before .before .before .before .before .before .before .before .args .screen) (c .before .before .before .before .before .before .before .before .args .vram .now) (reading (c .before .before .before .before .before .before .before .before .args .reg) (c .before .before .before .before .before .before .before .before .args .raster) (c .before .before .before .before .before .before .before .before .args .status) (c .before .before .before .before .before .before .before .before .args .colours .now)) (c .before .before .before .before .before .before .before .before .args .frame .now) (c .before .before .before .before .before .before .before .before .args .layers .now) (c .before .before .before .lend .ensures .refused (not-true _ (c .before .if1 .taken))) (c .refused .ensures)
 
 -- src/lib.rt:431:9
 column-count-requires : tie.Need-column-count-requires
@@ -45,7 +45,7 @@ returns-2 : tie.Need-returns-2
 returns-2 c =
     let g = not-false _ (c .before .before .before .if1 .left) in
     let l = c .before .before .before .before .before .lend .ensures in
-    frame-layers-refuse-16 (c .before .before .before .before .before .before .before .before .before .before .args .area) (c .before .before .before .before .before .before .before .before .before .before .args .vram .now) (reading (c .before .before .before .before .before .before .before .before .before .before .args .reg) (c .before .before .before .before .before .before .before .before .before .before .args .raster) (c .before .before .before .before .before .before .before .before .before .before .args .status) (c .before .before .before .before .before .before .before .before .before .before .args .colours .now)) (c .before .before .before .before .before .before .before .before .before .before .args .frame .now) (c .before .before .before .before .before .before .before .before .before .before .args .layers .now) (l .memory g) (l .exact g) (omega (arith, c .before .before .column-count .ensures, c .before .if2 .taken)) (c .refused2 .ensures)
+    frame-layers-refuse-16 (c .before .before .before .before .before .before .before .before .before .before .args .screen) (c .before .before .before .before .before .before .before .before .before .before .args .vram .now) (reading (c .before .before .before .before .before .before .before .before .before .before .args .reg) (c .before .before .before .before .before .before .before .before .before .before .args .raster) (c .before .before .before .before .before .before .before .before .before .before .args .status) (c .before .before .before .before .before .before .before .before .before .before .args .colours .now)) (c .before .before .before .before .before .before .before .before .before .before .args .frame .now) (c .before .before .before .before .before .before .before .before .before .before .args .layers .now) (l .memory g) (l .exact g) (omega (arith, c .before .before .column-count .ensures, c .before .if2 .taken)) (c .refused2 .ensures)
 
 -- src/lib.rt:441:9
 sub-row-points-into : tie.Need-sub-row-points-into
@@ -76,8 +76,8 @@ returns-3 : tie.Need-returns-3
 returns-3 c =
     let g = not-false _ (c .before .before .before .before .before .before .before .before .before .if1 .left) in
     let l = c .before .before .before .before .before .before .before .before .before .before .before .lend .ensures in
-    with-room (c .before .before .before .before .before .before .before .before .before .before .before .before .before .before .before .before .args .area) (c .before .before .before .before .before .before .before .before .before .before .before .before .before .before .before .before .args .vram .now) (reading (c .before .before .before .before .before .before .before .before .before .before .before .before .before .before .before .before .args .reg) (c .before .before .before .before .before .before .before .before .before .before .before .before .before .before .before .before .args .raster) (c .before .before .before .before .before .before .before .before .before .before .before .before .before .before .before .before .args .status) (c .before .before .before .before .before .before .before .before .before .before .before .before .before .before .before .before .args .colours .now)) _ _ _ (c .before .before .before .before .before .before .before .before .before .before .before .before .before .before .before .before .args .layers .now) (omega (arith, c .before .before .before .before .before .before .before .before .column-count .ensures, c .before .before .before .before .before .before .before .if2 .left))
-    (frame-accepts (c .before .before .before .before .before .before .before .before .before .before .before .before .before .before .before .before .args .area) (c .before .before .before .before .before .before .before .before .before .before .before .before .before .before .before .before .args .vram .now) (reading (c .before .before .before .before .before .before .before .before .before .before .before .before .before .before .before .before .args .reg) (c .before .before .before .before .before .before .before .before .before .before .before .before .before .before .before .before .args .raster) (c .before .before .before .before .before .before .before .before .before .before .before .before .before .before .before .before .args .status) (c .before .before .before .before .before .before .before .before .before .before .before .before .before .before .before .before .args .colours .now)) (c .before .before .before .before .before .before .before .before .before .before .before .before .before .before .before .before .args .frame .now) (c .before .before .before .before .before .before .before .before .before .before .before .before .before .before .before .before .args .layers .now) (l .memory g) (l .exact g) (l .place g) (l .part g) (c .before .before .before .before .row-points-into .ensures))
+    with-room (c .before .before .before .before .before .before .before .before .before .before .before .before .before .before .before .before .args .screen) (c .before .before .before .before .before .before .before .before .before .before .before .before .before .before .before .before .args .vram .now) (reading (c .before .before .before .before .before .before .before .before .before .before .before .before .before .before .before .before .args .reg) (c .before .before .before .before .before .before .before .before .before .before .before .before .before .before .before .before .args .raster) (c .before .before .before .before .before .before .before .before .before .before .before .before .before .before .before .before .args .status) (c .before .before .before .before .before .before .before .before .before .before .before .before .before .before .before .before .args .colours .now)) _ _ _ (c .before .before .before .before .before .before .before .before .before .before .before .before .before .before .before .before .args .layers .now) (omega (arith, c .before .before .before .before .before .before .before .before .column-count .ensures, c .before .before .before .before .before .before .before .if2 .left))
+    (frame-accepts (c .before .before .before .before .before .before .before .before .before .before .before .before .before .before .before .before .args .screen) (c .before .before .before .before .before .before .before .before .before .before .before .before .before .before .before .before .args .vram .now) (reading (c .before .before .before .before .before .before .before .before .before .before .before .before .before .before .before .before .args .reg) (c .before .before .before .before .before .before .before .before .before .before .before .before .before .before .before .before .args .raster) (c .before .before .before .before .before .before .before .before .before .before .before .before .before .before .before .before .args .status) (c .before .before .before .before .before .before .before .before .before .before .before .before .before .before .before .before .args .colours .now)) (c .before .before .before .before .before .before .before .before .before .before .before .before .before .before .before .before .args .frame .now) (c .before .before .before .before .before .before .before .before .before .before .before .before .before .before .before .before .args .layers .now) (l .memory g) (l .exact g) (l .place g) (l .part g) (c .before .before .before .before .row-points-into .ensures))
 
 pub layer-frame-points-spec : {M : Type 1} → statement M
 layer-frame-points-spec =

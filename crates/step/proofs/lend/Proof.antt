@@ -6,7 +6,7 @@ use mathlib.Core.List.{[]}
 use lib.ListN.{length}
 use Rattle.laws.proofs.Tests.{clash}
 use Rattle.raster.specs.declared.Raster.{Raster}
-use Rattle.picture.specs.Area.{frameSize}
+use Rattle.picture.specs.Screen.{frameSize}
 use Rattle.step.specs.Points.{rowOn, exactly}
 use Rattle.step.specs.Bytes.{startOf}
 use Rattle.step.proofs.Rows.{row-in, part-end, frame-small}
@@ -28,7 +28,7 @@ not-lent-requires c κs = search needs
 
 -- src/lib.rt:359:9
 returns : tie.Need-returns
-returns c = not-lent-is (first-8 (c .before .before .before .before .args .vram .now) (exactly (frameSize (c .before .before .before .before .args .area)) (length (c .before .before .before .before .args .frame .now))) (c .before .if1 .taken)) (λ z. omega arith) (c .not-lent .ensures)
+returns c = not-lent-is (first-8 (c .before .before .before .before .args .vram .now) (exactly (frameSize (c .before .before .before .before .args .screen)) (length (c .before .before .before .before .args .frame .now))) (c .before .if1 .taken)) (λ z. omega arith) (c .not-lent .ensures)
 
 -- src/lib.rt:361:9
 frame-size-requires : tie.Need-frame-size-requires
@@ -40,7 +40,7 @@ not-lent-requires-2 c κs = search needs
 
 -- src/lib.rt:363:9
 returns-2 : tie.Need-returns-2
-returns-2 c = not-lent-is (first-size (c .before .before .before .before .before .before .args .vram .now) (exactly (frameSize (c .before .before .before .before .before .before .args .area)) (length (c .before .before .before .before .before .before .args .frame .now))) (c .before .before .before .if1 .left) ∙ short-frame (frameSize (c .before .before .before .before .before .before .args .area)) (length (c .before .before .before .before .before .before .args .frame .now)) [] (omega (arith, c .before .before .frame-size .ensures, c .before .if2 .taken))) (λ z. omega arith) (c .not-lent2 .ensures)
+returns-2 c = not-lent-is (first-size (c .before .before .before .before .before .before .args .vram .now) (exactly (frameSize (c .before .before .before .before .before .before .args .screen)) (length (c .before .before .before .before .before .before .args .frame .now))) (c .before .before .before .if1 .left) ∙ short-frame (frameSize (c .before .before .before .before .before .before .args .screen)) (length (c .before .before .before .before .before .before .args .frame .now)) [] (omega (arith, c .before .before .frame-size .ensures, c .before .if2 .taken))) (λ z. omega arith) (c .not-lent2 .ensures)
 
 -- src/lib.rt:366:9
 not-lent-requires-3 : tie.Need-not-lent-requires-3
@@ -48,7 +48,7 @@ not-lent-requires-3 c κs = search needs
 
 -- src/lib.rt:366:9
 returns-3 : tie.Need-returns-3
-returns-3 c = not-lent-is (first-size (c .before .before .before .before .before .before .before .args .vram .now) (exactly (frameSize (c .before .before .before .before .before .before .before .args .area)) (length (c .before .before .before .before .before .before .before .args .frame .now))) (c .before .before .before .before .if1 .left) ∙ long-frame (frameSize (c .before .before .before .before .before .before .before .args .area)) (length (c .before .before .before .before .before .before .before .args .frame .now)) [] (omega (arith, c .before .before .before .frame-size .ensures, c .before .if3 .taken))) (λ z. omega arith) (c .not-lent3 .ensures)
+returns-3 c = not-lent-is (first-size (c .before .before .before .before .before .before .before .args .vram .now) (exactly (frameSize (c .before .before .before .before .before .before .before .args .screen)) (length (c .before .before .before .before .before .before .before .args .frame .now))) (c .before .before .before .before .if1 .left) ∙ long-frame (frameSize (c .before .before .before .before .before .before .before .args .screen)) (length (c .before .before .before .before .before .before .before .args .frame .now)) [] (omega (arith, c .before .before .before .frame-size .ensures, c .before .if3 .taken))) (λ z. omega arith) (c .not-lent3 .ensures)
 
 -- src/lib.rt:368:9
 advance-requires : tie.Need-advance-requires
@@ -68,12 +68,12 @@ row-size-requires c κs = search needs
 
 -- src/lib.rt:375:14
 add-t16 : tie.Need-add-t16
-add-t16 c = omega (arith, part-end (c .before .before .before .before .before .before .before .before .before .before .args .area) _ (row-in (c .before .before .before .before .before .before .before .before .before .before .args .area) _ (c .before .before .row-on .ensures)), frame-small (c .before .before .before .before .before .before .before .before .before .before .args .area), c .before .start-of .ensures, c .row-size .ensures)
+add-t16 c = omega (arith, part-end (c .before .before .before .before .before .before .before .before .before .before .args .screen) _ (row-in (c .before .before .before .before .before .before .before .before .before .before .args .screen) _ (c .before .before .row-on .ensures)), frame-small (c .before .before .before .before .before .before .before .before .before .before .args .screen), c .before .start-of .ensures, c .row-size .ensures)
 
 -- src/lib.rt:355:1
 returns-4 : tie.Need-returns-4
 returns-4 c =
-    let area = c .before .before .before .before .before .before .before .before .before .before .args .area in
+    let area = c .before .before .before .before .before .before .before .before .before .before .args .screen in
     let r = c .before .before .row-on .ensures in
     let e = c .before .start-of .ensures in
     let w = c .row-size .ensures in

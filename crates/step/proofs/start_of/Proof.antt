@@ -25,7 +25,7 @@ row-size-requires c κs = search needs
 
 -- src/lib.rt:186:31
 mul-result : tie.Need-mul-result
-mul-result c = rw (c .row-size .ensures) (omega (arith, start-small (c .before .before .before .before .args .area) (c .before .before .row .given .0 .0) (omega (arith, c .before .known-told .given))))
+mul-result c = rw (c .row-size .ensures) (omega (arith, start-small (c .before .before .before .before .args .screen) (c .before .before .row .given .0 .0) (omega (arith, c .before .known-told .given))))
 
 -- src/lib.rt:181:1
 returns : tie.Need-returns

@@ -1,5 +1,5 @@
 use borrow.Author.Tests.{lt-ltb, le-ltb, le-leb, lt-leb}
-use Rattle.step.specs.Step.{rowOn}
+use Rattle.step.specs.Points.{rowOn}
 use Rattle.step.proofs.visible_row.Statement.{statement}
 use Rattle.step.proofs.visible_row.Tie as tie
 use Rattle.step.proofs.visible_row.Reads as reads
