@@ -7,7 +7,7 @@ CALLS ?= 1000000
 SEED ?= 1
 ROUNDS ?= 400
 PREFIX ?= /usr/local
-PROGRAMS := trace snapshot layers trace_261 snapshot_261 sheet repair
+PROGRAMS := trace snapshot layers trace_261 snapshot_261 home_trace home_snapshot sheet repair
 # A program's file has a hyphen where its crate has a line.
 BINS := $(addprefix build/bin/,$(subst _,-,$(PROGRAMS)))
 # The library that a C program for this very machine links.
@@ -71,8 +71,9 @@ compare: gears setup-rust build ## hold every call beside the published Rust: CA
 memcheck: gears setup-rust native ## hold 10,000 calls beside the Rust under valgrind, with each buffer in memory of its own
 	@sh oracle/memcheck.sh 10000 $(SEED)
 
-damaged: gears setup-rust native ## show that the comparison catches copies of the library with one constant changed
+damaged: gears setup-rust native ## show that the comparisons catch copies of the library, and of the home machine's second writing, with a slip in each
 	@sh oracle/damaged.sh
+	@sh oracle/slips.sh
 
 bench: gears setup-rust build ## time passes of 261 steps, ours and the published Rust's, and count their instructions: ROUNDS=400 SEED=1
 	@sh bench/run.sh $(ROUNDS) $(SEED)

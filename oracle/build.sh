@@ -2,6 +2,7 @@
 # build.sh WHAT..: builds programs of this folder into build/oracle/. WHAT is one or more of
 #   compare   build/oracle/compare, for x86-64, with build/libvdp.a and the published Rust (GEARS)
 #   traces    build/oracle/traces, for this machine; needs neither of the two
+#   homes     build/oracle/homes, the same
 #   tiles     build/oracle/tiles, for x86-64, with build/libvdp.a
 #   pixels    build/oracle/pixels, for x86-64, with build/libvdp.a; where HERE_LIB is set, build/oracle/here/pixels, for this machine, with that
 #   repair    build/oracle/repair, the same
@@ -45,10 +46,10 @@ for what in "$@"; do
             $RUSTC $flags --extern rules=$out/x86/librules.rlib -L native=build -l static=vdp oracle/pixels.rs -o $out/pixels
         fi
         ;;
-    traces)
+    traces | homes)
         mkdir -p $out/here
         $RUSTC_HERE $flags --crate-type rlib --crate-name rules oracle/rules.rs -o $out/here/librules.rlib
-        $RUSTC_HERE $flags --extern rules=$out/here/librules.rlib oracle/traces.rs -o $out/traces
+        $RUSTC_HERE $flags --extern rules=$out/here/librules.rlib oracle/$what.rs -o $out/$what
         ;;
     here | repair-here | records-here)
         program=${what%-here}

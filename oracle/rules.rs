@@ -1,6 +1,7 @@
 //! The rules a second time, and what is asked of them: all that the programs of this folder share.
 
 pub mod call;
+pub mod home;
 pub mod model;
 pub mod random;
 pub mod recording;

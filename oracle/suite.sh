@@ -29,6 +29,12 @@ tell "traces by the table with 261 steps beside the model" $?
 build/oracle/traces snapshot $((${TRACES:-1000} / 10)) "${SEED:-1}" build/bin/snapshot-261 --table=0
 tell "snapshots by the table with 261 steps beside the model" $?
 
+# The home machine's programs beside its second writing.
+sh oracle/build.sh homes && build/oracle/homes trace $((${TRACES:-1000} / 5)) "${SEED:-1}" build/bin/home-trace
+tell "the home machine: traces beside its rules written a second time" $?
+build/oracle/homes snapshot $((${TRACES:-1000} / 10)) "${SEED:-1}" build/bin/home-snapshot
+tell "the home machine: snapshots beside them" $?
+
 # One pixel beside the row step, on the library for this machine and as it is shipped.
 HERE_LIB=build/native/libvdp.a sh oracle/build.sh pixels && build/oracle/here/pixels "${STATES:-300}" "${SEED:-1}"
 tell "every pixel of both areas on ${STATES:-300} states, the library for this machine" $?

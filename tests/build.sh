@@ -24,7 +24,7 @@ cat >"$work/bin/rt" <<END
 #!/bin/sh
 case \$1 in
 version) cat "$work/version" ;;
-check) echo "check" >>"$work/calls"; mkdir -p target/bin; cp "$PWD"/build/bin/* target/bin/; for twin in trace snapshot; do cp "$PWD/build/bin/\$twin-261" target/bin/\${twin}_261; done ;;
+check) echo "check" >>"$work/calls"; mkdir -p target/bin; cp "$PWD"/build/bin/* target/bin/; for name in trace-261 snapshot-261 home-trace home-snapshot; do cp "$PWD/build/bin/\$name" target/bin/\${name%-*}_\${name#*-}; done ;;
 staticlib) echo "staticlib" >>"$work/calls"; mkdir -p target/staticlib; cp "$PWD/build/libvdp.a" target/staticlib/libface.a ;;
 *) echo "\$1" >>"$work/calls"; exit 1 ;;
 esac

@@ -61,15 +61,22 @@ tell "every public function has its theorem of one outcome, or is an exception o
 # constructors FILE TYPE: those of a data type, as the code writes them. named FILE WORDS: the names behind `-- WORDS: `, up to the full stop.
 constructors() { awk -v type="$2" '/^[^ ]/ { on = $0 ~ "^pub data " type " " } on && /^  [a-z]/ { print $1 }' "$1" | tr - _; }
 named() { sed -nE "s/^-- $2: ([a-z0-9_, ]+)\..*/\1/p" "$1" | tr -d ' ' | tr , '\n'; }
-pass=crates/demands/specs/Handheld.antt seven=crates/demands/specs/Seven.antt
-public=$(for crate in vdp step tiles; do
-    sed -nE 's/^ *pub fn ([a-z0-9_]+).*/\1/p; s/^pub use [a-z_]+::([a-z0-9_]+);/\1/p' crates/$crate/src/lib.rt
-done | sort)
-calls=$(constructors $pass Call)
-[ -n "$calls" ] && diff <(printf '%s\n' "$public") <({ printf '%s\n' "$calls"; named $pass 'No calls of [a-z]+'; } | sort)
+# calls_of MACHINE CRATE...: what is public in these crates is a call of this machine, or is named in its file as none.
+calls_of() {
+    local file=crates/demands/specs/$1.antt calls
+    shift
+    calls=$(constructors "$file" Call)
+    [ -n "$calls" ] && diff <(for crate; do
+        sed -nE 's/^ *pub fn ([a-z0-9_]+).*/\1/p; s/^pub use [a-z_]+::([a-z0-9_]+);/\1/p' "crates/$crate/src/lib.rt"
+    done | sort) <({ printf '%s\n' "$calls"; named "$file" 'No calls of [a-z]+'; } | sort)
+}
+calls_of Handheld vdp step tiles
 tell "the theorem on refusal 7 speaks of every call of a device, and what else is public is named there" $?
+calls_of Home home tiles
+tell "and of every call of a home device" $?
 
 # The calls of the face, each with a 1 where it takes a state.
+seven=crates/demands/specs/Seven.antt
 face=$(awk '/^pub extern "C" fn/ { name = $5; sub(/[(].*/, "", name); on = 1; takes = 0 } on && /state:/ { takes = 1 } on && /-> / { print name, takes; on = 0 }' crates/face/src/lib.rt)
 calls=$(constructors $seven FaceCall)
 status=0

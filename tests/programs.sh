@@ -28,7 +28,7 @@ run() {
     status=$?
 }
 
-for program in trace snapshot layers repair; do
+for program in trace snapshot layers home-trace home-snapshot repair; do
     # an input that is told nothing of: a trace, or a block with nothing wrong
     case $program in
     repair) sample=crates/repair/stdout ;;
@@ -83,7 +83,7 @@ done
 
 # By name as on standard input: 65,536 bytes and more are too long, a bad record is told.
 head -c 65536 /dev/zero >"$work/long"
-for program in trace snapshot layers; do
+for program in trace snapshot layers home-trace home-snapshot; do
     run $program "$work/long"
     printf 'long\n' | cmp - "$work/out" && [ ! -s "$work/err" ]
     tell "$program: 65,536 bytes by name" $?

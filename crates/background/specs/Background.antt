@@ -10,7 +10,7 @@ use Rattle.laws.specs.Bits.{any}
 use Rattle.laws.specs.Lists.{at}
 use Rattle.laws.specs.Sizes.{vramSize}
 use Rattle.picture.specs.declared.Screen.{Screen}
-use Rattle.picture.specs.declared.Screen.the-variants.{VisibleOnly, EffectiveArea, TrueEdges}
+use Rattle.picture.specs.declared.Screen.the-variants.{VisibleOnly, EffectiveArea, TrueEdges, Home}
 use Rattle.picture.specs.Tile.{mapColour, mapFront}
 use Rattle.picture.specs.View.{cutMark}
 
@@ -30,6 +30,7 @@ abbrev pub cutOf : Screen → ℕ → ℕ
 cutOf VisibleOnly s = s
 cutOf EffectiveArea s = 0
 cutOf TrueEdges s = 0
+cutOf Home s = 0
 
 -- bit i of the priority mask after the pixels below n
 unfoldable pub prioTo : List ℕ → ℕ → ℕ → ℕ → ℕ → ℕ → ℕ → Bool

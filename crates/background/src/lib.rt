@@ -56,6 +56,7 @@ pub fn cut_of(screen: Screen, s: u8) -> u8
         Screen::VisibleOnly => s,
         Screen::EffectiveArea => 0,
         Screen::TrueEdges => 0,
+        Screen::Home => 0,
     }
 }
 

@@ -1,19 +1,21 @@
 -- The laws of the circular mask: what its callers cite, and what the code of `set` and `get` comes to.
 -- Assumes nothing.
 use mathlib.Core.Logic.{_≢_}
-use mathlib.Core.Path.{_≡_, sym, ap, ap₂, _∙_}
-use mathlib.Core.Bool.{Bool, false, _||_, or-false}
-use mathlib.Core.List.{List}
+use mathlib.Core.Path.{_≡_, refl, sym, ap, ap₂, _∙_}
+use mathlib.Core.Bool.{Bool, false, cond, _||_, or-false}
+use mathlib.Core.List.{List, _++_, append-nil}
 use Prim.Native.Nat.{ℕ, _+_, _-_, _*_, _/_, _%_, _^_, _≤_, _<_}
 use native.Mathlib.Decide.{decLt, ℕ-discrete}
 use native.Mathlib.Omega.{arith}
-use lib.ListN.{length, getD, set, length-set, List·getD-eq-default}
-use lib.Seq.{getD-set-same, getD-set-other}
+use lib.ListN.{length, getD, set, take, length-set, List·getD-eq-default, drop-of-length-le}
+use lib.Seq.{paste, getD-set-same, getD-set-other}
+use lib.Dec.{ltb}
 use lib.Pow.{shr-le}
 use lib.Bits.{bitOr}
-use Rattle.laws.specs.Bits.{bit, byteOf}
+use Rattle.laws.specs.Bits.{bit, number, byteOf}
 use Rattle.laws.specs.Circle.{past}
-use Rattle.bitmap.specs.Mask.{bitOf, bytesOf, laid, cleared, withByte, byteAt}
+use Rattle.laws.specs.Table.{tableFrom, table}
+use Rattle.bitmap.specs.Mask.{bitOf, bytesOf, laid, cleared, withByte, byteAt, joined}
 use Rattle.laws.proofs.Tables.{length-table, getD-table, is-table, table-ext}
 use Rattle.laws.proofs.Bits.{number-ext, number-lt, bit-above, bit-shr, bit-shl, bit-shl-low, byte-or, byte-is, bit-byteOf}
 
@@ -80,6 +82,18 @@ withByte-bytesOf f off value =
 pub byteAt-bytesOf : (f : ℕ → Bool) (off : ℕ) → byteAt (bytesOf f) off ≡ byteOf (λ j. f ((off + j) % 256))
 unfolding byteAt byteOf
 byteAt-bytesOf f off = number-ext 8 (λ j. bitOf (bytesOf f) (off + j)) (λ j. f ((off + j) % 256)) (λ j h. bitOf-bytesOf f (off + j))
+
+-- two masks joined: the places below 192 are the one's, and the others the other's
+pub joined-bytesOf : (f g : ℕ → Bool) → joined (bytesOf f) (bytesOf g) ≡ bytesOf (λ i. cond (ltb i 192) (f i) (g (i - 192)))
+unfolding joined bytesOf table tableFrom byteOf number
+joined-bytesOf f g = refl
+
+-- ---- the code of `join`: its eight stores
+pub joined-is : (m n : List ℕ) {i : ℕ} → length m ≡ 32 → i ≡ 8 → paste m 24 n i ≡ joined m n
+unfolding joined
+joined-is m n len e =
+    let all : length m ≤ 24 + 8 = omega arith in
+    ap (paste m 24 n) e ∙ ap (λ (x : List ℕ). (take 24 m ++ take 8 n) ++ x) (drop-of-length-le m all) ∙ append-nil (take 24 m ++ take 8 n)
 
 -- ---- the code of `set`: the place o is bit s of byte q
 module _ (v q s o : ℕ) (hv : v < 256) (hq : q < 32) (hs : s < 8) (ho : o ≡ 8 * q + s) where

@@ -1,2 +1,3 @@
 -- What the contracts of `colour` cite.
 pub mod Colour
+pub mod Home

@@ -1,7 +1,8 @@
-// Colours: one from two palette bytes, and the 32 of the whole palette.
+// Colours: one from two palette bytes, and the 32 of the whole palette; and those of the home machine, one from each palette byte.
 ghost use mathlib.Core.Path.{_≡_};
 ghost use Prim.Native.Nat.{_*_, _/_, _%_, _<_};
 ghost use Rattle.colour.specs.Colour.{colour, coloursOf};
+ghost use Rattle.colour.specs.Home.{shade, homeColour, homeColoursOf};
 
 // The low four bits of a palette byte, spread over a byte.
 fn spread_low(x: u8) -> u8
@@ -41,6 +42,36 @@ pub fn palette_recompute(cram: [u8; 64]) -> [u32; 32]
     let mut color: usize = 0;
     while color < 32 {
         color_cache[color] = rgb(cram[2 * color], cram[2 * color + 1]);
+        color += 1;
+    }
+    color_cache
+}
+
+// The low two bits of a palette byte, spread over a byte.
+fn spread_two(x: u8) -> u8
+    ensures { λ r. ⌜ r ≡ shade x ⌝ }
+{
+    85 * (x % 4)
+}
+
+// R20.2: the colour of a byte of the home machine's palette, red in its lowest byte.
+pub fn home_rgb(byte: u8) -> u32
+    ensures { λ r. ⌜ r ≡ homeColour byte ⌝ }
+{
+    wide(spread_two(byte))
+        + 256 * wide(spread_two(byte / 4))
+        + 65536 * wide(spread_two(byte / 16))
+        + 16777216 * 255
+}
+
+// The 32 colours of that palette.
+pub fn home_palette_recompute(cram: [u8; 32]) -> [u32; 32]
+    ensures { λ r. ⌜ r ≡ homeColoursOf cram ⌝ }
+{
+    let mut color_cache = [0u32; 32];
+    let mut color: usize = 0;
+    while color < 32 {
+        color_cache[color] = home_rgb(cram[color]);
         color += 1;
     }
     color_cache

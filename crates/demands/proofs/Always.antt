@@ -13,12 +13,14 @@ use Rattle.block.specs.Block.{wellFormed, stateOf}
 use Rattle.salvage.specs.Repair.{matching, mended}
 use Rattle.salvage.proofs.Salvaged.{sound as mended-sound}
 use Rattle.demands.specs.Machine.{Machine}
+use Rattle.demands.specs.Home.{home}
 use Rattle.demands.specs.Pass.{History, deviceAfter}
-use Rattle.demands.specs.Always.{Always, RepairedAnswers}
+use Rattle.demands.specs.Always.{TableKept, Always, RepairedAnswers}
 use Rattle.demands.proofs.Counter.{Within}
 use Rattle.demands.proofs.Lawful.{Lawful}
-use Rattle.demands.proofs.Sound.{sound}
+use Rattle.demands.proofs.Sound.{sound, table-kept}
 use Rattle.demands.proofs.Handheld.{not-seven}
+use Rattle.demands.proofs.Home.{home-lawful}
 
 early : (J T : ℕ) (b : Bool) (c : ℕ) → Within J T b c → b ≡ false → c < J
 early J T b c w e = subst (λ (x : Bool). Within J T x c) e w
@@ -38,6 +40,13 @@ always {M} ok t h =
       in-memory = s .aimed;
       no-seven = λ c. ok .no-seven c d (s .aimed);
     }
+
+-- the home machine
+pub always-home : (t : LineTable) (h : History home) → Always home (deviceAfter home t h)
+always-home = always home-lawful
+
+pub table-kept-home : TableKept home
+table-kept-home = table-kept home-lawful
 
 pub repaired-answers : RepairedAnswers
 repaired-answers b s c =

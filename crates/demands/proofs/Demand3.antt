@@ -11,7 +11,7 @@ use Rattle.laws.specs.Lists.{rowOf}
 use Rattle.laws.specs.Once.{ExactlyOnce, ExactlyTwice}
 use Rattle.laws.proofs.Once.{once-iff, twice-iff}
 use Rattle.picture.specs.declared.Screen.{Screen}
-use Rattle.picture.specs.declared.Screen.the-variants.{VisibleOnly, EffectiveArea, TrueEdges}
+use Rattle.picture.specs.declared.Screen.the-variants.{VisibleOnly, EffectiveArea, TrueEdges, Home}
 use Rattle.picture.specs.Screen.{columns, rows, firstLine, rowSize, frameSize, rowBytes, pictureOf}
 use Rattle.raster.specs.declared.Raster.{Raster}
 use Rattle.raster.specs.Raster.{jumpLine, jumpTo, advanced, counted, ticked}
@@ -38,6 +38,7 @@ lines-end : (a : Screen) → firstLine a + rows a ≤ 256
 lines-end VisibleOnly = omega arith
 lines-end EffectiveArea = omega arith
 lines-end TrueEdges = omega arith
+lines-end Home = omega arith
 
 module _ {M : Machine} (ok : Lawful M) {a : M .Area} (r : Run M a) where
   abbrev dev : ℕ → M .Device

@@ -2,17 +2,17 @@
 -- Assumes nothing.
 use mathlib.Core.Path.{_≡_, refl, sym, _∙_, ap, subst}
 use mathlib.Core.Logic.{_↔_, _≢_, _⊎_, inl, inr, ⊎-elim}
-use mathlib.Core.Bool.{Bool, true, false, cond, not, _&&_}
+use mathlib.Core.Bool.{Bool, true, false, not, _&&_}
 use mathlib.Core.List.{List, [], _∷_}
-use Prim.Native.Nat.{ℕ, suc, _+_, _*_, _≤_, _<_}
+use Prim.Native.Nat.{ℕ, suc, _+_, _*_, _%_, _≤_, _<_}
 use native.Mathlib.Omega.{arith}
 use lib.Dec.{eqb, ltb}
 use lib.ListN.{length, set, List·getD-eq-default}
 use lib.Seq.{getD-set-other}
-use borrow.Author.Tests.{eq-eqb, eqb-true, ltb-true, ltb-false, not-true}
+use borrow.Author.Tests.{ltb-true, ltb-false}
 use Rattle.laws.specs.Bits.{bit}
 use Rattle.laws.specs.Lists.{at, rowOf}
-use Rattle.laws.proofs.Tests.{either, split, both}
+use Rattle.laws.proofs.Tests.{split}
 use Rattle.colour.specs.Colour.{colour, coloursOf}
 use Rattle.colour.proofs.Laws.{colours-at, length-colours}
 use Rattle.picture.specs.declared.RenderArea.{RenderArea}
@@ -22,28 +22,27 @@ use Rattle.raster.specs.declared.LineTable.{LineTable}
 use Rattle.raster.specs.declared.LineTable.the-variants.{Steps261, Steps262}
 use Rattle.raster.specs.Raster.{jumpLine, jumpTo, advanced, lineInterrupt, ticked}
 use Rattle.vdp.specs.declared.VdpState.{VdpState}
-use Rattle.vdp.specs.declared.Refusal.{Refusal}
-use Rattle.vdp.specs.declared.Refusal.the-variants.{Accepted, LayerLength}
-use Rattle.vdp.specs.Refusals.{refusalNumber, Line, first, size, isPort, writeLines, readLines}
+use Rattle.vdp.specs.declared.Refusal.the-variants.{Accepted, NoPaletteByte, LayerLength}
+use Rattle.vdp.specs.Device.{frontOf}
+use Rattle.vdp.specs.Refusals.{Line, line as refusalLine, isPort, isPalette, isEmpty}
 use Rattle.vdp.specs.Ports.{portWrite, portRead}
 use Rattle.vdp.proofs.Exact.{write-exact, read-exact}
-use Rattle.vdp.proofs.Invariant.{Aimed, write-aimed, read-aimed}
+use Rattle.vdp.proofs.Invariant.{Aimed, write-aimed, read-aimed, front-write-inside, front-read-inside}
 use Rattle.vdp.proofs.Tables.{Refusing, refuses, under-either}
 use Rattle.pixel.specs.Pixel.{pixelLines}
 use Rattle.step.specs.declared.Stepped.{Stepped}
 use Rattle.step.specs.declared.VdpInt.the-variants.{InterruptGenerated}
 use Rattle.step.specs.declared.DisplayRefresh.{DisplayRefresh}
-use Rattle.step.specs.declared.DisplayRefresh.the-variants.{NoDisplay, ScreenDone, ScreenDoneNoRefresh}
+use Rattle.step.specs.declared.DisplayRefresh.the-variants.{NoDisplay}
 use Rattle.step.specs.declared.DrawnRow.the-variants.{Drawn}
-use Rattle.step.specs.Points.{reportBy}
 use Rattle.step.specs.Step.{register, lineOf, counterUp, rowOn, stepped, refusedStep, rowLines, frameLines, stepWith, rowStep, frameStep}
 use Rattle.step.specs.Frame.{frameAfter, FrameStepLeaves}
 use Rattle.step.specs.Layers.{alsoLayers}
 use Rattle.step.specs.Dump.{dumpLines}
 use Rattle.step.proofs.Kept.{write-keeps, read-keeps}
-use Rattle.step.proofs.Laws.{stepped-row, stepped-report, stepped-raster, stepped-addr, stepped-dest, row-refusing, frame-refusing, step-accepted, step-exact, dump-exact, frame-fits, frame-memory, frame-step-length, frame-step-other, frame-step-here}
+use Rattle.step.proofs.Laws.{stepped-row, stepped-report, stepped-raster, stepped-addr, stepped-dest, stepped-interrupt, row-refusing, frame-refusing, step-accepted, step-exact, dump-exact, frame-fits, frame-memory, frame-step-length, frame-step-other, frame-step-here}
 use Rattle.step.proofs.Pixels.{pixel-exact}
-use Rattle.face.proofs.Exact.{none, never}
+use Rattle.face.proofs.Exact.{none}
 use Rattle.tiles.specs.Calls.{readTileLines, writeTileLines, readTileRefusal, writeTileRefusal}
 use Rattle.demands.specs.Machine.{Told}
 use Rattle.demands.specs.Handheld.{Call, out, input, frame-step, row-step, layer-frame-step, layer-row-step, dump-tileset, pixel-at, write-tile, read-tile, layerFrameStep, layerRowStep, after, refusalOf, told, Steps, handheld}
@@ -54,10 +53,11 @@ use Rattle.demands.specs.Shows.{SameUntil, WriteShows}
 use Rattle.demands.proofs.Counter.{line}
 use Rattle.demands.proofs.Lines.{line-next}
 use Rattle.demands.proofs.Lawful.{stays, ticks, Clean, Left, Lawful}
+use Rattle.demands.proofs.Answers.{NotSeven, without, line-alone, end-line}
 use Rattle.demands.proofs.Demand3.{line-of, same-length, rows-drawn, demand3}
 use Rattle.demands.proofs.Split.{goes-on, set-row, colour-split, changed}
 use Rattle.demands.proofs.Shows.{write-shows}
-use Rattle.demands.proofs.Steps.{colours-now, stepped-clean, line-alone, is-stepped, refused-raster, frame-taken}
+use Rattle.demands.proofs.Steps.{colours-now, stepped-clean, is-stepped, refused-raster, frame-taken}
 
 -- ---- a call
 -- what only reads the device leaves it
@@ -149,43 +149,17 @@ interrupt-by :
     (s .interrupt ≡ InterruptGenerated) ↔ (lineInterrupt (register d) (advanced (register d) (d .raster)) ≡ true)
 interrupt-by d s i off =
     subst (λ (x : Told VdpState). (x .interrupt ≡ InterruptGenerated) ↔ (lineInterrupt (register d) (advanced (register d) (d .raster)) ≡ true)) (sym (i .is))
-    (line-alone (i .area) (i .vram) d off)
+    (rw (stepped-interrupt (i .area) (i .vram) d) (line-alone (bit (register d 1) 5) (bit (stepped (i .area) (i .vram) d .vdp .status) 7) _ off))
 
 -- ---- refusal 7
-abbrev NotSeven : Refusal → Type 0
-NotSeven r = refusalNumber r ≢ 7
-
--- a table of which no line that holds gives 7
-abbrev Silent : List Line → Type 0
-Silent [] = Unit {0}
-Silent (l ∷ ls) = (l .holds ≡ true → NotSeven (l .refusal)) × Silent ls
-
-first-not : (ls : List Line) → Silent ls → NotSeven (first ls)
-first-not [] s = omega arith
-first-not (l ∷ ls) s = either NotSeven (l .holds) (s .0) (λ _. first-not ls (s .1))
-
 module _ (d : VdpState) (m : List ℕ) (p : ℕ) (aimed : Aimed d) where
-  -- the line of 7 does not hold
-  inside : (b : Bool) → (b && not (ltb (d .addr) (size (d .dest)))) ≡ true → ⊥
-  inside b e =
-      let out = not-true (ltb (d .addr) (size (d .dest))) (both b (not (ltb (d .addr) (size (d .dest)))) e .1) in
-      omega (arith, ltb-false (d .addr) (size (d .dest)) out)
-
   write-not : (v : ℕ) → NotSeven (portWrite d m p v .answer .refusal)
   write-not v =
-      rw (write-exact d m p v)
-      (first-not (writeLines d m p v)
-      (λ _. omega arith, (λ _. omega arith, (λ _. omega arith, (λ _. omega arith, (λ e. absurd (inside (isPort 0xBE p) e), (λ _. omega arith, tt)))))))
+      let own : Bool = isPort 0xBE p && isPalette (d .dest) && not (eqb (d .addr % 2) 0) && isEmpty (d .«cram_byte1») in
+      rw (write-exact d m p v) (front-write-inside 64 (frontOf d) m p aimed v (refusalLine own NoPaletteByte ∷ []) (λ _. omega arith, tt))
 
   read-not : NotSeven (portRead d m p .refusal)
-  read-not =
-      rw (read-exact d m p)
-      (first-not (readLines d m p)
-      (λ _. omega arith, (λ _. omega arith, (λ _. omega arith, (λ _. omega arith, (λ _. omega arith, (λ e. absurd (inside (isPort 0xBE p) e), tt)))))))
-
--- a table that has no line of 7
-without : (ls : List Line) → none 7 ls ≡ true → NotSeven (first ls)
-without ls h = never 7 ls (λ z. omega arith) h
+  read-not = rw (read-exact d m p) (front-read-inside 64 (frontOf d) m p aimed)
 
 step-not : (ls : List Line) (a : RenderArea) (vram : List ℕ) (d : VdpState) → none 7 ls ≡ true → NotSeven (stepWith ls a vram d .refusal)
 step-not ls a vram d h = rw (step-exact ls a vram d) (without ls h)
@@ -203,24 +177,6 @@ not-seven (pixel-at a vram y x) d h = rw (pixel-exact a vram d y x) (without (pi
 not-seven (write-tile vram n codes) d h = without (writeTileLines vram n codes) refl
 not-seven (read-tile vram n k) d h = without (readTileLines vram n k) refl
 
--- ---- the screen end is reported by the step that sets line C1, and by no other
-end-line : (d : VdpState) → (lineOf d ≡ 193) ↔ (reportBy (d .reg) (lineOf d) ≢ NoDisplay)
-unfolding reportBy
-end-line d = (there, λ f. back (eqb (lineOf d) 193) refl f)
-  where
-    told : (b : Bool) → cond b ScreenDone ScreenDoneNoRefresh ≢ NoDisplay
-    told true e = let z : _≡_ {A = ℕ} 0 1 = cc in omega arith
-    told false e = let z : _≡_ {A = ℕ} 0 1 = cc in omega arith
-
-    there : lineOf d ≡ 193 → reportBy (d .reg) (lineOf d) ≢ NoDisplay
-    there e = rw (eq-eqb (lineOf d) 193 e) (told (bit (register d 1) 6))
-
-    back :
-        (b : Bool) → eqb (lineOf d) 193 ≡ b →
-        cond b (cond (bit (register d 1) 6) ScreenDone ScreenDoneNoRefresh) NoDisplay ≢ NoDisplay → lineOf d ≡ 193
-    back true e f = eqb-true (lineOf d) 193 e
-    back false e f = absurd (f refl)
-
 -- ---- the step on a frame
 module _ (a : RenderArea) (vram : List ℕ) (n : ℕ) (d : VdpState) (ok : frameStep a vram n d .refusal ≡ Accepted) where
   took : frameStep a vram n d ≡ stepped a vram d
@@ -234,7 +190,7 @@ module _ (a : RenderArea) (vram : List ℕ) (n : ℕ) (d : VdpState) (ok : frame
   unfolding advanced
   report-is =
       subst (λ (x : DisplayRefresh). (line (d .raster) ≡ 193) ↔ (x ≢ NoDisplay)) (sym (ap (λ (s : Stepped). s .report) took ∙ stepped-report a vram d))
-      (end-line (counterUp d))
+      (end-line (d .reg) (lineOf (counterUp d)))
 
 module _ (a : RenderArea) (vram : List ℕ) (d : VdpState) (frame : List ℕ) (y : ℕ) where
   other : rowOn a (line (d .raster)) ≢ Drawn y → rowOf (rowSize a) y (frameAfter a vram d frame) ≡ rowOf (rowSize a) y frame

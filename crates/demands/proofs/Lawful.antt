@@ -1,4 +1,4 @@
--- What the demands need of a machine, law by law; each machine shows them once (Handheld.antt).
+-- What the demands need of a machine, law by law; each machine shows them once (Handheld.antt, Home.antt).
 -- Assumes nothing.
 use mathlib.Core.Path.{_≡_}
 use mathlib.Core.Logic.{_↔_, _≢_}

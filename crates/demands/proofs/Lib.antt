@@ -8,7 +8,9 @@ pub mod Demand3
 pub mod Split
 pub mod Shows
 pub mod Steps
+pub mod Answers
 pub mod Handheld
+pub mod Home
 pub mod Always
 pub mod Seven
 pub mod Author

@@ -11,11 +11,14 @@ use Rattle.demands.specs.Outcome.{OneOutcome, OneOutcomeSeen, PaintedRow
 use Rattle.bitmap.proofs.Bitmap.new as bitmap-new
 use Rattle.bitmap.proofs.Bitmap.set as bitmap-set
 use Rattle.bitmap.proofs.Bitmap.get as bitmap-get
+use Rattle.bitmap.proofs.Bitmap.join as bitmap-join
 use Rattle.bitmap.proofs.window
 use Rattle.bitmap.proofs.lower
 use Rattle.bitmap.proofs.upper
 use Rattle.colour.proofs.rgb
 use Rattle.colour.proofs.palette_recompute
+use Rattle.colour.proofs.home_rgb
+use Rattle.colour.proofs.home_palette_recompute
 use Rattle.raster.proofs.Raster.advance
 use Rattle.raster.proofs.Raster.line_interrupt_is_up
 use Rattle.raster.proofs.Raster.line_interrupt_update
@@ -73,6 +76,14 @@ use Rattle.sprites.proofs.render_sprites_line
 use Rattle.dump.proofs.dump_tileset as dump_rows
 use Rattle.step.proofs.dump_tileset
 use Rattle.step.proofs.pixel_at
+use Rattle.home.proofs.HomeState.new as home-new
+use Rattle.home.proofs.HomeState.with_table as home-with-table
+use Rattle.home.proofs.HomeState.out as home-out
+use Rattle.home.proofs.HomeState.input as home-input
+use Rattle.home.proofs.row_step as home-row-step
+use Rattle.home.proofs.frame_step as home-frame-step
+use Rattle.home.proofs.row_view as home-row-view
+use Rattle.home.proofs.dump_tileset as home-dump-tileset
 use Rattle.tiles.proofs.write_tile
 use Rattle.tiles.proofs.read_tile
 use Rattle.tiles.proofs.sheet
@@ -113,6 +124,8 @@ use Rattle.face.proofs.vdp_record_out
 use Rattle.face.proofs.vdp_record_input
 use Rattle.face.proofs.vdp_record_step
 use Rattle.face.proofs.vdp_record_next
+use Rattle.recording.proofs.Device.handheld as device-handheld
+use Rattle.recording.proofs.Device.home as device-home
 use Rattle.recording.proofs.trace
 use Rattle.recording.proofs.snapshot
 use Rattle.recording.proofs.layers
@@ -126,6 +139,9 @@ bitmap-set-once κs a q z z′ w w′ e f = (λ i. record { bits = (e ∙ sym f)
 
 pub bitmap-get-once : OneOutcome 0 bitmap-get.Kinds.ps bitmap-get.Kinds.r bitmap-get.Reads.Asked bitmap-get.Reads.Learnt
 bitmap-get-once κs a q z z′ w w′ e f = (e ∙ sym f, refl)
+
+pub bitmap-join-once : OneOutcome 0 bitmap-join.Kinds.ps bitmap-join.Kinds.r bitmap-join.Reads.Asked bitmap-join.Reads.Learnt
+bitmap-join-once κs a q z z′ w w′ e f = (λ i. record { bits = (e ∙ sym f) i }, refl)
 
 pub window-once : OneOutcome 0 window.Kinds.ps window.Kinds.r window.Reads.Asked window.Reads.Learnt
 window-once κs a q z z′ w w′ e f = (e ∙ sym f, refl)
@@ -142,6 +158,12 @@ rgb-once κs a q z z′ w w′ e f = (e ∙ sym f, refl)
 
 pub palette-recompute-once : OneOutcome 0 palette_recompute.Kinds.ps palette_recompute.Kinds.r palette_recompute.Reads.Asked palette_recompute.Reads.Learnt
 palette-recompute-once κs a q z z′ w w′ e f = (e ∙ sym f, refl)
+
+pub home-rgb-once : OneOutcome 0 home_rgb.Kinds.ps home_rgb.Kinds.r home_rgb.Reads.Asked home_rgb.Reads.Learnt
+home-rgb-once κs a q z z′ w w′ e f = (e ∙ sym f, refl)
+
+pub home-palette-recompute-once : OneOutcome 0 home_palette_recompute.Kinds.ps home_palette_recompute.Kinds.r home_palette_recompute.Reads.Asked home_palette_recompute.Reads.Learnt
+home-palette-recompute-once κs a q z z′ w w′ e f = (e ∙ sym f, refl)
 
 -- ---- raster
 pub table-number-once : OneOutcome 0 table_number.Kinds.ps table_number.Kinds.r table_number.Reads.Asked table_number.Reads.Learnt
@@ -378,6 +400,31 @@ row-view-once κs a q z z′ w w′ e f = (e ∙ sym f, refl)
 pub screen-row-once : OneOutcomeSeen 1 screen_row.Kinds.ps screen_row.Kinds.r screen_row.Reads.Asked screen_row.Reads.Learnt (λ κs z. now z)
 screen-row-once κs a q z z′ w w′ e f = (e ∙ sym f, refl)
 
+-- ---- home
+pub home-new-once : OneOutcome 0 home-new.Kinds.ps home-new.Kinds.r home-new.Reads.Asked home-new.Reads.Learnt
+home-new-once κs a q z z′ w w′ e f = (e ∙ sym f, refl)
+
+pub home-with-table-once : OneOutcome 0 home-with-table.Kinds.ps home-with-table.Kinds.r home-with-table.Reads.Asked home-with-table.Reads.Learnt
+home-with-table-once κs a q z z′ w w′ e f = (e ∙ sym f, refl)
+
+pub home-out-once : OneOutcome 1 home-out.Kinds.ps home-out.Kinds.r home-out.Reads.Asked home-out.Reads.Learnt
+home-out-once κs a q z z′ w w′ e f = (e .answer ∙ sym (f .answer), λ i. (tt, ((e .memory ∙ sym (f .memory)) i, w .1 .1)))
+
+pub home-input-once : OneOutcome 1 home-input.Kinds.ps home-input.Kinds.r home-input.Reads.Asked home-input.Reads.Learnt
+home-input-once κs a q z z′ w w′ e f = (e ∙ sym f, refl)
+
+pub home-row-step-once : OneOutcome 2 home-row-step.Kinds.ps home-row-step.Kinds.r home-row-step.Reads.Asked home-row-step.Reads.Learnt
+home-row-step-once κs a q z z′ w w′ e f = (e .answer ∙ sym (f .answer), λ i. (tt, (tt, ((e .bytes ∙ sym (f .bytes)) i, w .1 .1 .1))))
+
+pub home-frame-step-once : OneOutcome 2 home-frame-step.Kinds.ps home-frame-step.Kinds.r home-frame-step.Reads.Asked home-frame-step.Reads.Learnt
+home-frame-step-once κs a q z z′ w w′ e f = (e .answer ∙ sym (f .answer), λ i. (tt, (tt, ((e .bytes ∙ sym (f .bytes)) i, w .1 .1 .1))))
+
+pub home-row-view-once : OneOutcomeSeen 1 home-row-view.Kinds.ps home-row-view.Kinds.r home-row-view.Reads.Asked home-row-view.Reads.Learnt (λ κs z. now z)
+home-row-view-once κs a q z z′ w w′ e f = (e ∙ sym f, refl)
+
+pub home-dump-tileset-once : OneOutcome 2 home-dump-tileset.Kinds.ps home-dump-tileset.Kinds.r home-dump-tileset.Reads.Asked home-dump-tileset.Reads.Learnt
+home-dump-tileset-once κs a q z z′ w w′ e f = (e .refusal ∙ sym (f .refusal), λ i. (tt, (tt, ((e .bytes ∙ sym (f .bytes)) i, tt))))
+
 -- ---- dump
 pub dump-rows-once : OneOutcome 3 dump_rows.Kinds.ps dump_rows.Kinds.r dump_rows.Reads.Asked dump_rows.Reads.Learnt
 dump-rows-once κs a q z z′ w w′ e f = (refl, λ i. ((e ∙ sym f) i, w .1))
@@ -522,6 +569,12 @@ pub vdp-record-next-once : OneOutcome 1 vdp_record_next.Kinds.ps vdp_record_next
 vdp-record-next-once κs a q z z′ w w′ e f = (e ∙ sym f, refl)
 
 -- ---- recording
+pub device-handheld-once : OneOutcome 0 device-handheld.Kinds.ps device-handheld.Kinds.r device-handheld.Reads.Asked device-handheld.Reads.Learnt
+device-handheld-once κs a q z z′ w w′ e f = (e ∙ sym f, refl)
+
+pub device-home-once : OneOutcome 0 device-home.Kinds.ps device-home.Kinds.r device-home.Reads.Asked device-home.Reads.Learnt
+device-home-once κs a q z z′ w w′ e f = (e ∙ sym f, refl)
+
 pub trace-once : OneOutcome 4 trace.Kinds.ps trace.Kinds.r trace.Reads.Asked trace.Reads.Learnt
 trace-once κs a q z z′ w w′ e f = (
   e .0 .count ∙ sym (f .0 .count),

@@ -1,26 +1,22 @@
--- Of a step: clean colours stay the palette's, the interrupt with frame interrupts off, and what an acceptance and a refusal tell.
+-- Of a step of the handheld: clean colours stay the palette's, and what an acceptance and a refusal tell.
 -- Assumes nothing.
 use mathlib.Core.Path.{_≡_, refl, sym, _∙_}
-use mathlib.Core.Logic.{_↔_, _≢_}
-use mathlib.Core.Bool.{Bool, true, false, cond}
+use mathlib.Core.Logic.{_≢_}
+use mathlib.Core.Bool.{false}
 use mathlib.Core.List.{List}
 use Prim.Native.Nat.{ℕ}
-use native.Mathlib.Omega.{arith}
-use Rattle.laws.specs.Bits.{bit}
 use Rattle.laws.proofs.Tests.{either}
 use Rattle.colour.specs.Colour.{coloursOf}
 use Rattle.picture.specs.declared.RenderArea.{RenderArea}
 use Rattle.picture.specs.Area.{screenOf}
-use Rattle.raster.specs.Raster.{advanced, lineInterrupt}
 use Rattle.vdp.specs.declared.VdpState.{VdpState}
 use Rattle.vdp.specs.declared.Refusal.the-variants.{Accepted}
 use Rattle.vdp.specs.Refusals.{Line}
 use Rattle.vdp.proofs.Tables.{Passed, Refusing, passed}
 use Rattle.step.specs.declared.DrawnRow.{DrawnRow}
 use Rattle.step.specs.declared.DrawnRow.the-variants.{NoRow, Drawn}
-use Rattle.step.specs.declared.VdpInt.the-variants.{InterruptGenerated, NoInterrupt}
-use Rattle.step.specs.Step.{register, lineOf, counterUp, rowOn, coloursNow, stepped, frameLines, stepWith, frameStep}
-use Rattle.step.proofs.Laws.{stepped-refusal, dirtyAfter, cacheAfter, stepped-dirty, stepped-cache, stepped-cram, stepped-interrupt, step-exact, step-accepted, step-left, frame-refusing}
+use Rattle.step.specs.Step.{lineOf, counterUp, rowOn, coloursNow, stepped, frameLines, stepWith, frameStep}
+use Rattle.step.proofs.Laws.{stepped-refusal, dirtyAfter, cacheAfter, stepped-dirty, stepped-cache, stepped-cram, step-exact, step-accepted, step-left, frame-refusing}
 use Rattle.step.proofs.Kept.{Clean}
 
 -- ---- colours
@@ -35,18 +31,6 @@ drawn-clean (Drawn y) d k = λ _. colours-now d k
 pub stepped-clean : (a : RenderArea) (vram : List ℕ) (d : VdpState) → Clean d → Clean (stepped a vram d .vdp)
 stepped-clean a vram d k =
     rw (stepped-dirty a vram d refl, stepped-cache a vram d refl, stepped-cram a vram d) (drawn-clean (rowOn a (lineOf (counterUp d))) d k)
-
--- ---- the interrupt
-raised : (b : Bool) → (cond b InterruptGenerated NoInterrupt ≡ InterruptGenerated) ↔ (b ≡ true)
-raised true = (λ _. refl, λ _. refl)
-raised false = (λ e. absurd (let z : _≡_ {A = ℕ} 0 1 = cc in omega arith), λ e. absurd (let z : _≡_ {A = ℕ} 0 1 = cc in omega arith))
-
--- with frame interrupts off it is the line's
-pub line-alone :
-    (a : RenderArea) (vram : List ℕ) (d : VdpState) → bit (register d 1) 5 ≡ false →
-    (stepped a vram d .interrupt ≡ InterruptGenerated) ↔ (lineInterrupt (register d) (advanced (register d) (d .raster)) ≡ true)
-line-alone a vram d off =
-    rw (stepped-interrupt a vram d, off) (raised (lineInterrupt (register d) (advanced (register d) (d .raster))))
 
 -- ---- accepted or refused
 module _ (ls : List Line) (a : RenderArea) (vram : List ℕ) (d : VdpState) where

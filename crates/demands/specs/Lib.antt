@@ -1,6 +1,7 @@
 -- The demands, as statements.
 pub mod Machine
 pub mod Handheld
+pub mod Home
 pub mod Pass
 pub mod Rows
 pub mod Interrupts

@@ -1,8 +1,8 @@
--- THE ROWS OF A PASS, in either area and by either table: which are drawn twice, and how each ends.
+-- THE ROWS OF A PASS, in any area and by either table: which are drawn twice, and how each ends.
 -- R4.2: in the effective area the lines that the jump goes back over draw their rows a second time.
 -- Assumes nothing.
 use mathlib.Core.Path.{_≡_}
-use mathlib.Core.Logic.{_≢_, _⊎_}
+use mathlib.Core.Logic.{_↔_, _≢_, _⊎_}
 use Prim.Native.Nat.{ℕ, _+_, _≤_, _<_}
 use Rattle.laws.specs.Once.{ExactlyOnce, ExactlyTwice}
 use Rattle.picture.specs.declared.RenderArea.the-variants.{EffectiveArea}
@@ -13,7 +13,8 @@ use Rattle.raster.specs.Raster.{jumpLine, jumpTo}
 use Rattle.step.specs.declared.DrawnRow.the-variants.{Drawn}
 use Rattle.demands.specs.Machine.{Machine}
 use Rattle.demands.specs.Handheld.{handheld}
-use Rattle.demands.specs.Pass.{Run, pass, coloursAt, answer, rowAtEnd, pictureAt}
+use Rattle.demands.specs.Home.{home}
+use Rattle.demands.specs.Pass.{Run, pass, coloursAt, answer, lineSet, rowAtEnd, pictureAt}
 
 pub record RowsDrawn {M : Machine} {a : M .Area} (r : Run M a) : Type 0 where
   -- a row whose line the jump goes back over, D5 to D9 or to DA, is drawn exactly twice
@@ -36,3 +37,9 @@ lastTwice Steps262 = 218
 pub record EffectiveRows (r : Run handheld EffectiveArea) : Type 0 where
   pub twice : (y : ℕ) → 213 ≤ y → y ≤ lastTwice (r .table) → ExactlyTwice (pass r) (λ i. answer r i .row ≡ Drawn y)
   pub once : (y : ℕ) → y < 224 → (y < 213) ⊎ (lastTwice (r .table) < y) → ExactlyOnce (pass r) (λ i. answer r i .row ≡ Drawn y)
+
+-- In numbers, of the home machine (R20.1): row y, 0 to 191, is drawn by the step that sets line y, once a pass, and no other row is drawn.
+pub record HomeRows (r : Run home tt) : Type 0 where
+  pub at-line : (i y : ℕ) → y < 192 → (answer r i .row ≡ Drawn y) ↔ (lineSet r i ≡ y)
+  pub once : (y : ℕ) → y < 192 → ExactlyOnce (pass r) (λ i. answer r i .row ≡ Drawn y)
+  pub no-other : (i y : ℕ) → answer r i .row ≡ Drawn y → y < 192

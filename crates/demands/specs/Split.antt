@@ -9,6 +9,7 @@ use lib.Dec.{ltb}
 use Rattle.laws.specs.Lists.{at, rowOf}
 use Rattle.laws.specs.Paint.{byteOfColour}
 use Rattle.picture.specs.declared.Screen.{Screen}
+use Rattle.picture.specs.declared.Screen.the-variants.{Home}
 use Rattle.picture.specs.declared.RenderArea.the-variants.{VisibleOnly}
 use Rattle.picture.specs.Screen.{columns, rows, firstLine, rowBytes}
 use Rattle.raster.specs.Raster.{jumpTo}
@@ -22,6 +23,11 @@ use Rattle.demands.specs.Pass.{Run, pass, ready, answer, lineSet, rowAtE
 -- last row's line on none (144, which is no row).
 abbrev pub firstNew : Screen → ℕ → ℕ
 firstNew a L = cond (ltb L (firstLine a + rows a)) (L + 1 - firstLine a) (rows a)
+
+-- At home, where row y is line y's: row L + 1 for a line below 191, and from there on none (192, which is no row).
+pub record FirstAtHome : Type 0 where
+  pub next-row : (L : ℕ) → L < 191 → firstNew Home L ≡ L + 1
+  pub none : (L : ℕ) → 191 ≤ L → firstNew Home L ≡ 192
 
 -- A pass that begins at line s takes its rows and line L from the top down: it begins no later than at the first row, line 24, nor than at L; or it
 -- begins after the last row and after L, a line below the jump's end.

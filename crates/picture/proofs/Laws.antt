@@ -5,7 +5,7 @@ use mathlib.Core.Bool.{Bool, true, false, _&&_}
 use mathlib.Core.List.{List, [], _∷_}
 use Prim.Native.Nat.{ℕ, _+_, _-_, _*_, _/_, _%_, _<_, _≤_}
 use native.Mathlib.Omega.{arith}
-use lib.Dec.{leb}
+use lib.Dec.{ltb, leb}
 use lib.ListN.{length, take}
 use Rattle.laws.specs.Bits.{bit, digit}
 use Rattle.laws.specs.Lists.{at}
@@ -14,11 +14,11 @@ use Rattle.laws.proofs.Tables.{length-table, getD-table, table-ext}
 use Rattle.laws.proofs.Tests.{either}
 use Rattle.picture.specs.declared.Stand.{Stand}
 use Rattle.picture.specs.declared.Screen.{Screen}
-use Rattle.picture.specs.declared.Screen.the-variants.{VisibleOnly, EffectiveArea, TrueEdges}
+use Rattle.picture.specs.declared.Screen.the-variants.{VisibleOnly, EffectiveArea, TrueEdges, Home}
 use Rattle.picture.specs.Tile.{codeOf, codeAt, turned, entryAt, tileLine, entryCode, entryColour, mapColour}
 use Rattle.picture.specs.View.{View}
-use Rattle.picture.specs.Picture.{Canvas, Row, back, front, drawn, laid, spriteCode, withSprite, withSprites, bare, listed, picture}
-use Rattle.picture.specs.Screen.{columns, rowSize, viewOf, pictureOf, rowBytes}
+use Rattle.picture.specs.Picture.{Canvas, Row, back, front, drawn, laid, spriteCode, withSprite, withSprites, bare, listed, picture, filled}
+use Rattle.picture.specs.Screen.{columns, rowSize, viewOf, shownOn, pictureOf, rowBytes}
 
 -- ---- codes and colour numbers
 digit-le : (b : Bool) → digit b ≤ 1
@@ -60,9 +60,19 @@ pub colour-lt : (m g : ℕ → ℕ) (v : View) (x : ℕ) → picture m g v .colo
 unfolding picture bare back
 colour-lt m g v x = sprites-lt m g (v .stand) (v .line) (front m g v) (take 8 (listed m g (v .line) 64 0)) (bare (back m g v)) (λ x. map-colour-lt m _ _ _) x
 
+filled-lt : (g : ℕ → ℕ) (p : Row) → ((x : ℕ) → p .colour x < 32) → (x : ℕ) → filled g p .colour x < 32
+unfolding filled
+filled-lt g p h x = either (λ (k : ℕ). k < 32) (bit (g 0) 5 && ltb x 8) (λ e. omega arith) (λ e. h x)
+
+shown-lt : (s : Screen) (g : ℕ → ℕ) (p : Row) → ((x : ℕ) → p .colour x < 32) → (x : ℕ) → shownOn s g p .colour x < 32
+shown-lt VisibleOnly g p h x = h x
+shown-lt EffectiveArea g p h x = h x
+shown-lt TrueEdges g p h x = h x
+shown-lt Home g p h x = filled-lt g p h x
+
 pub colour-of-lt : (s : Screen) (reg : List ℕ) (scroll : ℕ) (vram : List ℕ) (y x : ℕ) → pictureOf s reg scroll vram y .colour x < 32
 unfolding pictureOf
-colour-of-lt s reg scroll vram y x = colour-lt (at vram) (at reg) (viewOf s (at reg) scroll y) x
+colour-of-lt s reg scroll vram y x = shown-lt s (at reg) _ (λ x. colour-lt (at vram) (at reg) (viewOf s (at reg) scroll y) x) x
 
 -- ---- the bytes of a row
 pub length-rowBytes : (colours : List ℕ) (width : ℕ) (p : Row) → length (rowBytes colours width p) ≡ width * 4
@@ -73,6 +83,7 @@ pub row-size : (s : Screen) → columns s * 4 ≡ rowSize s
 row-size VisibleOnly = refl
 row-size EffectiveArea = refl
 row-size TrueEdges = refl
+row-size Home = refl
 
 -- byte b of pixel x is that of the colour of its number
 pub pixel-byte : (colours : List ℕ) (width : ℕ) (p : Row) (x b : ℕ) → x < width → b < 4 → at (rowBytes colours width p) (4 * x + b) ≡ byteOfColour (at colours (p .colour x)) b

@@ -41,7 +41,7 @@ module _ (m g : ℕ → ℕ) (stand : ℕ → Stand) (l : ℕ) (prio : ℕ → B
 unfoldable pub layers : (ℕ → ℕ) → (ℕ → ℕ) → View → ℕ → ℕ
 layers m g v = layersWith m g (v .stand) (v .line) (front m g v) (take 8 (listed m g (v .line) 64 0)) (bare (back m g v)) (λ x. 0)
 
--- the same of row y of a screen, by the registers, the latched scroll and video memory
+-- the same of row y of a screen, by the registers, the latched scroll and video memory; a fill over the row is no layer
 unfoldable pub layersOf : Screen → List ℕ → ℕ → List ℕ → ℕ → ℕ → ℕ
 layersOf s reg scroll vram y = layers (at vram) (at reg) (viewOf s (at reg) scroll y)
 

@@ -1,4 +1,4 @@
--- R5.4 to R5.12, over any view: `picture m g v` is a row's colour numbers and the status bits that it sets.
+-- R5.4 to R5.12, over any view: `picture m g v` is a row's colour numbers and the status bits that it sets. R20.6: what lies over a finished row.
 -- Assumes nothing.
 use mathlib.Core.Bool.{Bool, true, false, cond, _&&_, _||_, not}
 use mathlib.Core.List.{List, [], _∷_}
@@ -115,3 +115,7 @@ picture m g v =
     let ns = listed m g (v .line) 64 0 in
     let c = withSprites m g (v .stand) (v .line) (front m g v) (take 8 ns) (bare (back m g v)) in
     record { colour = c .colour; hit = c .hit; ninth = ltb 8 (length ns) }
+
+-- R20.6: where register 0 bit 5 is set, columns 0 to 7 show palette 1's colour register 7 mod 16, over everything: it changes what is shown and nothing else
+unfoldable pub filled : (ℕ → ℕ) → Row → Row
+filled g p = record { colour = λ x. cond (bit (g 0) 5 && ltb x 8) (16 + g 7 % 16) (p .colour x); hit = p .hit; ninth = p .ninth }

@@ -1,12 +1,12 @@
--- R5.1, R5.5, R5.9, R5.10: what differs from area to area. All else is said once, over any view.
+-- R5.1, R5.5, R5.9, R5.10, R18.1, R20.4: what differs from screen to screen. All else is said once, over any view.
 -- Assumes nothing.
 use mathlib.Core.Bool.{Bool, true, cond, _&&_}
 use Prim.Native.Nat.{ℕ, _+_, _-_, _%_, min}
-use lib.Dec.{ltb}
+use lib.Dec.{ltb, leb}
 use Rattle.laws.specs.Bits.{bit}
 use Rattle.picture.specs.declared.Stand.{Stand}
 
--- One row of an area.
+-- One row of a screen.
 pub record View : Type 0 where
   pub width : ℕ
   -- the line L that sprites are on
@@ -90,3 +90,16 @@ effectiveStand e h = record { seen = true; x = (h + 256 - e) % 256; start = 0; e
 -- R5.1: the map is the screen; so nothing is cut, and a mark goes to its own column
 unfoldable pub effective : (ℕ → ℕ) → ℕ → View
 effective g row = record { width = 256; line = row; mapX = λ x. x; mapY = λ x. row; markAt = λ x. x; stand = effectiveStand (early g) }
+
+-- ---- the home machine
+-- R20.4: the map scrolled both ways, and sprites on the row's own line; R20.5: register 0 bit 6 stops the sideways scroll of rows 0 to 15, and bit 7 the
+-- vertical scroll of columns 192 and up; R20.7: sprites stand at X or X - 8, and both masks go by the screen column
+unfoldable pub home : (ℕ → ℕ) → ℕ → ℕ → View
+home g scroll row = record {
+  width = 256;
+  line = row;
+  mapX = λ x. cond (bit (g 0) 6 && ltb row 16) x ((x + 256 - g 8) % 256);
+  mapY = λ x. cond (bit (g 0) 7 && leb 192 x) row ((row + scroll) % 224);
+  markAt = λ x. x;
+  stand = edgeStand 0 256 (early g);
+}

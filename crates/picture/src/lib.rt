@@ -22,11 +22,12 @@ pub fn area_from(n: u8) -> RenderArea
     }
 }
 
-// What a row is drawn for: the screens of the handheld's areas.
+// What a row is drawn for: the screens of the handheld's areas, and that of the home machine.
 pub enum Screen {
     VisibleOnly,
     EffectiveArea,
     TrueEdges,
+    Home,
 }
 
 // The screen of an area.

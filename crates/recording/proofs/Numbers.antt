@@ -12,7 +12,7 @@ use Rattle.laws.proofs.Tests.{split}
 use Rattle.vdp.specs.declared.Refusal.{Refusal}
 use Rattle.vdp.specs.declared.Refusal.the-variants.{Accepted, UnknownPort, HorizontalCounter, HighRegister, NothingChosen, PaletteRead, NoPaletteByte, OutsideMemory, VramLength, PixelLength, BlockMalformed, UnknownArea, FrameTooLong, UnknownTile, CodesLength, HighCode, LayerLength, ListLength, RecordRoom}
 use Rattle.vdp.specs.Refusals.{refusalNumber}
-use Rattle.vdp.specs.declared.VdpState.{VdpState}
+use Rattle.recording.specs.declared.Device.{Device}
 use Rattle.recording.specs.Text.{digitOf, decimal}
 use Rattle.recording.specs.Run.{start, rowTurn, ran}
 use Rattle.recording.proofs.Lines.{one, two, three, four, five}
@@ -90,13 +90,13 @@ refusal-low LayerLength = lit≤ tt
 refusal-low ListLength = lit≤ tt
 refusal-low RecordRoom = lit≤ tt
 
-pub place-low : (d : VdpState) (s : List ℕ) (vram row frame : List ℕ) → length s ≤ 65535 → ran rowTurn s (start d vram row frame) .run .at < 100000
+pub place-low : (d : Device) (s : List ℕ) (vram row frame : List ℕ) → length s ≤ 65535 → ran rowTurn s (start d vram row frame) .run .at < 100000
 unfolding ran
 place-low d s vram row frame h =
     let g = ran-small row-moves (length s) s (start d vram row frame) refl refl refl in
     omega (arith, g .inside)
 
-pub count-low : (d : VdpState) (s : List ℕ) (vram row frame : List ℕ) → length s ≤ 65535 → ran rowTurn s (start d vram row frame) .run .count < 100000
+pub count-low : (d : Device) (s : List ℕ) (vram row frame : List ℕ) → length s ≤ 65535 → ran rowTurn s (start d vram row frame) .run .count < 100000
 unfolding ran
 count-low d s vram row frame h =
     let g = ran-small row-moves (length s) s (start d vram row frame) refl refl refl in

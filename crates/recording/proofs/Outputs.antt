@@ -13,11 +13,14 @@ use lib.ListN.{length, take, length-append}
 use lib.Seq.{length-take-le}
 use Rattle.laws.specs.Lists.{at, written}
 use Rattle.picture.specs.declared.RenderArea.{RenderArea}
-use Rattle.vdp.specs.declared.VdpState.{VdpState}
+use Rattle.picture.specs.Screen.{frameSize}
+use Rattle.recording.specs.declared.Machine.{Machine}
+use Rattle.recording.specs.declared.Machine.the-variants.{Handheld, Home}
+use Rattle.recording.specs.declared.Device.{Device}
 use Rattle.recording.specs.declared.run.Run.{Run}
-use Rattle.recording.specs.Text.{numbered, endLine, badLine, longLine}
+use Rattle.recording.specs.Text.{decimal, numbered, endLine, badLine, longLine}
 use Rattle.recording.specs.Run.{World, Turn, start, rowTurn, after, lines, ran}
-use Rattle.recording.specs.Output.{lastLine, text, printed, pixels, header, ppm, drawn, pictured, Left, left, leaves, traced, snapped, TraceLeaves, PictureLeaves}
+use Rattle.recording.specs.Output.{lastLine, text, printed, pixels, screenFor, pixelCount, header, ppm, pictureRoom, drawn, pictured, Left, left, leaves, traced, snapped, TraceLeaves, PictureLeaves}
 use Rattle.laws.proofs.Lists.{written-nil, written-on}
 use Rattle.laws.proofs.Tests.{either}
 use Rattle.recording.proofs.Lines.{decimal-short, grow}
@@ -42,29 +45,59 @@ last-short s run =
     (λ _. numbered-short (0x62 ∷ 0x61 ∷ 0x64 ∷ 0x20 ∷ []) (run .at))
 
 -- ---- the picture
-pub drawn-end : (s : List ℕ) (run : Run) (frame : List ℕ) → length s ≤ run .at → ppm frame ≡ drawn s run frame
+pub drawn-end : (m : Machine) (s : List ℕ) (run : Run) (frame : List ℕ) → length s ≤ run .at → ppm m frame ≡ drawn m s run frame
 unfolding drawn
-drawn-end s run frame h = rw (le-leb (length s) (run .at) h)
+drawn-end m s run frame h = rw (le-leb (length s) (run .at) h)
 
-pub drawn-bad : (s : List ℕ) (run : Run) (frame : List ℕ) → run .at < length s → numbered (0x62 ∷ 0x61 ∷ 0x64 ∷ 0x20 ∷ []) (run .at) ≡ drawn s run frame
+pub drawn-bad :
+    (m : Machine) (s : List ℕ) (run : Run) (frame : List ℕ) → run .at < length s
+    → numbered (0x62 ∷ 0x61 ∷ 0x64 ∷ 0x20 ∷ []) (run .at) ≡ drawn m s run frame
 unfolding drawn badLine
-drawn-bad s run frame h = rw (lt-leb (length s) (run .at) h)
+drawn-bad m s run frame h = rw (lt-leb (length s) (run .at) h)
 
 pub length-pixels : (n : ℕ) (frame : List ℕ) → length (pixels n frame) ≡ 3 * n
 unfolding pixels
 length-pixels zero frame = refl
 length-pixels (suc n) frame = simp length-append (omega (arith, length-pixels n frame))
 
-pub drawn-short : (s : List ℕ) (run : Run) (frame : List ℕ) → length (drawn s run frame) ≤ 69135
-unfolding drawn badLine ppm
-drawn-short s run frame =
-    either (λ (l : List ℕ). length l ≤ 69135) (leb (length s) (run .at))
-    (λ _. omega (arith, length-pixels 23040 frame))
-    (λ _. omega (arith, numbered-short (0x62 ∷ 0x61 ∷ 0x64 ∷ 0x20 ∷ []) (run .at)))
+-- the sizes of each machine's picture
+pub header-handheld :
+    {m : Machine} → m ≡ Handheld
+    → 0x50 ∷ 0x36 ∷ 0x0A ∷ 0x31 ∷ 0x36 ∷ 0x30 ∷ 0x20 ∷ 0x31 ∷ 0x34 ∷ 0x34 ∷ 0x0A ∷ 0x32 ∷ 0x35 ∷ 0x35 ∷ 0x0A ∷ [] ≡ header m
+unfolding header decimal
+header-handheld e = rw e
 
-pub length-ppm : (frame : List ℕ) → length (ppm frame) ≡ 69135
+pub header-home :
+    {m : Machine} → m ≡ Home
+    → 0x50 ∷ 0x36 ∷ 0x0A ∷ 0x32 ∷ 0x35 ∷ 0x36 ∷ 0x20 ∷ 0x31 ∷ 0x39 ∷ 0x32 ∷ 0x0A ∷ 0x32 ∷ 0x35 ∷ 0x35 ∷ 0x0A ∷ [] ≡ header m
+unfolding header decimal
+header-home e = rw e
+
+length-header : (m : Machine) → length (header m) ≡ 15
+unfolding header decimal
+length-header Handheld = refl
+length-header Home = refl
+
+pub frame-bytes : (m : Machine) → frameSize (screenFor m) ≡ 4 * pixelCount m
+unfolding pixelCount
+frame-bytes Handheld = refl
+frame-bytes Home = refl
+
+pub many-pixels : (m : Machine) → 23040 ≤ pixelCount m
+unfolding pixelCount
+many-pixels Handheld = omega arith
+many-pixels Home = omega arith
+
+pub length-ppm : (m : Machine) (frame : List ℕ) → length (ppm m frame) ≡ pictureRoom m
 unfolding ppm
-length-ppm frame = omega (arith, length-pixels 23040 frame)
+length-ppm m frame = simp length-append (omega (arith, length-header m, length-pixels (pixelCount m) frame))
+
+pub drawn-short : (m : Machine) (s : List ℕ) (run : Run) (frame : List ℕ) → length (drawn m s run frame) ≤ pictureRoom m
+unfolding drawn badLine
+drawn-short m s run frame =
+    either (λ (l : List ℕ). length l ≤ pictureRoom m) (leb (length s) (run .at))
+    (λ _. omega (arith, length-ppm m frame))
+    (λ _. omega (arith, numbered-short (0x62 ∷ 0x61 ∷ 0x64 ∷ 0x20 ∷ []) (run .at), many-pixels m))
 
 -- behind the 15 bytes of the header: n pixels, one pixel more, and all
 pub no-pixel : (o frame : List ℕ) → o ≡ written o 15 (pixels 0 frame)
@@ -83,9 +116,15 @@ pixel-more o frame n {a} h ea eo p =
     ∙ written-on o 15 (pixels n frame) px b (omega arith)
     ∙ ap (λ (k : ℕ). written o 15 (pixels k frame)) (sym (add-one n))
 
-pub all-pixels : (o frame : List ℕ) {o′ o″ : List ℕ} → 15 ≤ length o → o′ ≡ written o 0 header → o″ ≡ written o′ 15 (pixels 23040 frame) → o″ ≡ written o 0 (ppm frame)
+pub all-pixels :
+    (m : Machine) (o frame : List ℕ) {o′ o″ : List ℕ} → 15 ≤ length o → o′ ≡ written o 0 (header m) → o″ ≡ written o′ 15 (pixels (pixelCount m) frame)
+    → o″ ≡ written o 0 (ppm m frame)
 unfolding ppm
-all-pixels o frame h e p = p ∙ ap (λ (y : List ℕ). written y 15 (pixels 23040 frame)) e ∙ written-on o 0 header (pixels 23040 frame) refl h
+all-pixels m o frame h e p =
+    let n = length-header m in
+    p
+    ∙ ap (λ (y : List ℕ). written y 15 (pixels (pixelCount m) frame)) e
+    ∙ written-on o 0 (header m) (pixels (pixelCount m) frame) (omega arith) (omega arith)
 
 -- ---- the whole text
 module _ (s : List ℕ) (w : World) {x : World} (e : x ≡ after rowTurn (length s) s w) where
@@ -135,41 +174,46 @@ module _ (s : List ℕ) (w : World) (o : List ℕ) where
         let b : text s w ≡ printed s w = rw (le-ltb 65535 (length s) k) in
         whole (leb 327700 (length o)) rowTurn (printed s w) s w o (le-leb 327700 (length o) h) k ex (p .0 ∙ ap length b) (p .1 ∙ ap (written o 0) b)
 
--- with steps made as `step` makes them
+-- with steps made as `step` makes them, by a machine m
 module _ (step : RenderArea → World → Turn) (s : List ℕ) (w : World) (o : List ℕ) where
-  pub snapshot-no-room : length o < 69135 → left w 0 o ≡ snapped step s w o
-  unfolding snapped
-  snapshot-no-room h =
-      no-room (leb 69135 (length o) && eqb (length (w .frame)) 92160) step (pictured step s w) s w o (rw (lt-leb 69135 (length o) h))
+  abbrev machine : Machine
+  machine = w .run .device .machine
 
-  module _ (h : 69135 ≤ length o) where
-    pub snapshot-no-frame : length (w .frame) ≢ 92160 → left w 0 o ≡ snapped step s w o
+  abbrev room : Bool
+  room = leb (pictureRoom machine) (length o) && eqb (length (w .frame)) (frameSize (screenFor machine))
+
+  pub snapshot-no-room : length o < pictureRoom machine → left w 0 o ≡ snapped step s w o
+  unfolding snapped
+  snapshot-no-room h = no-room room step (pictured step s w) s w o (rw (lt-leb (pictureRoom machine) (length o) h))
+
+  module _ (h : pictureRoom machine ≤ length o) where
+    pub snapshot-no-frame : length (w .frame) ≢ frameSize (screenFor machine) → left w 0 o ≡ snapped step s w o
     unfolding snapped
     snapshot-no-frame k =
-        no-room (leb 69135 (length o) && eqb (length (w .frame)) 92160) step (pictured step s w) s w o
-        (rw (le-leb 69135 (length o) h, ne-eqb (length (w .frame)) 92160 k))
+        no-room room step (pictured step s w) s w o
+        (rw (le-leb (pictureRoom machine) (length o) h, ne-eqb (length (w .frame)) (frameSize (screenFor machine)) k))
 
-    module _ (g : length (w .frame) ≡ 92160) where
-      enough : (leb 69135 (length o) && eqb (length (w .frame)) 92160) ≡ true
-      enough = rw (le-leb 69135 (length o) h, eq-eqb (length (w .frame)) 92160 g)
+    module _ (g : length (w .frame) ≡ frameSize (screenFor machine)) where
+      enough : room ≡ true
+      enough = rw (le-leb (pictureRoom machine) (length o) h, eq-eqb (length (w .frame)) (frameSize (screenFor machine)) g)
 
       pub snapshot-long : 65535 < length s → {n : ℕ} {o′ : List ℕ} → n ≡ length longLine → o′ ≡ written o 0 longLine → left w n o′ ≡ snapped step s w o
       unfolding snapped pictured
       snapshot-long k en eo =
           let b : longLine ≡ pictured step s w = rw (lt-ltb 65535 (length s) k) in
-          too-long (leb 69135 (length o) && eqb (length (w .frame)) 92160) step (pictured step s w) s w o enough k (en ∙ ap length b) (eo ∙ ap (written o 0) b)
+          too-long room step (pictured step s w) s w o enough k (en ∙ ap length b) (eo ∙ ap (written o 0) b)
 
       pub snapshot-whole :
           length s ≤ 65535 → {x : World} {n : ℕ} {o′ : List ℕ} → x ≡ after step (length s) s w
-          → (n ≡ length (drawn s (x .run) (x .frame))) × (o′ ≡ written o 0 (drawn s (x .run) (x .frame))) → left x n o′ ≡ snapped step s w o
+          → (n ≡ length (drawn machine s (x .run) (x .frame))) × (o′ ≡ written o 0 (drawn machine s (x .run) (x .frame))) → left x n o′ ≡ snapped step s w o
       unfolding snapped pictured ran
       snapshot-whole k {x} ex p =
-          let b : drawn s (x .run) (x .frame) ≡ pictured step s w =
-          ap (λ (y : World). drawn s (y .run) (y .frame)) ex ∙ sym (rw (le-ltb 65535 (length s) k)) in
-          whole (leb 69135 (length o) && eqb (length (w .frame)) 92160) step (pictured step s w) s w o enough k ex (p .0 ∙ ap length b) (p .1 ∙ ap (written o 0) b)
+          let b : drawn machine s (x .run) (x .frame) ≡ pictured step s w =
+          ap (λ (y : World). drawn machine s (y .run) (y .frame)) ex ∙ sym (rw (le-ltb 65535 (length s) k)) in
+          whole room step (pictured step s w) s w o enough k ex (p .0 ∙ ap length b) (p .1 ∙ ap (written o 0) b)
 
 pub trace-leaves :
-    {d : VdpState} {s vram row o : List ℕ} (x : World) {n : ℕ} {o′ : List ℕ} → left x n o′ ≡ traced s (start d vram row []) o
+    {d : Device} {s vram row o : List ℕ} (x : World) {n : ℕ} {o′ : List ℕ} → left x n o′ ≡ traced s (start d vram row []) o
     → TraceLeaves d s vram row o n (x .vram) (x .row) o′
 trace-leaves x e =
     record {
@@ -180,7 +224,7 @@ trace-leaves x e =
     }
 
 pub snapshot-leaves :
-    {d : VdpState} {s vram row frame o : List ℕ} (step : RenderArea → World → Turn) (x : World) {n : ℕ} {o′ : List ℕ} → left x n o′ ≡ snapped step s (start d vram row frame) o
+    {d : Device} {s vram row frame o : List ℕ} (step : RenderArea → World → Turn) (x : World) {n : ℕ} {o′ : List ℕ} → left x n o′ ≡ snapped step s (start d vram row frame) o
     → PictureLeaves step d s vram row frame o n (x .vram) (x .row) (x .frame) o′
 snapshot-leaves step x e =
     record {

@@ -5,8 +5,7 @@ use mathlib.Core.List.{List, [], _∷_, _++_}
 use Prim.Native.Nat.{ℕ, zero, suc, _+_, _-_, _*_, _/_, _%_, _<_, _≤_}
 use native.Mathlib.Numerals.{add-one}
 use native.Mathlib.Omega.{arith}
-use borrow.Author.Tests.{ltb-false}
-use lib.Dec.{ltb, leb, eqb, lit≤}
+use lib.Dec.{lit≤}
 use lib.ListN.{length, length-append}
 use Rattle.laws.specs.Lists.{at, written}
 use Rattle.laws.proofs.Tests.{either}
@@ -14,15 +13,16 @@ use Rattle.picture.specs.declared.RenderArea.{RenderArea}
 use Rattle.picture.specs.declared.RenderArea.the-variants.{VisibleOnly, EffectiveArea, TrueEdges}
 use Rattle.vdp.specs.declared.Refusal.{Refusal}
 use Rattle.vdp.specs.Refusals.{refusalNumber}
-use Rattle.vdp.specs.Ports.{portWrite, portRead}
-use Rattle.step.specs.declared.Stepped.{Stepped}
 use Rattle.step.specs.declared.VdpInt.{VdpInt}
 use Rattle.step.specs.declared.VdpInt.the-variants.{NoInterrupt, InterruptGenerated}
 use Rattle.step.specs.declared.DisplayRefresh.{DisplayRefresh}
 use Rattle.step.specs.declared.DisplayRefresh.the-variants.{NoDisplay, ScreenDone, ScreenDoneNoRefresh}
-use Rattle.step.specs.Step.{interruptNumber, reportNumber, rowStep, frameStep}
+use Rattle.step.specs.Step.{interruptNumber, reportNumber}
 use Rattle.record.specs.declared.Record.{Record}
 use Rattle.record.specs.declared.Record.the-variants.{Write, Read, Step, Bad, End}
+use Rattle.recording.specs.declared.Machine.{Machine}
+use Rattle.recording.specs.declared.Machine.the-variants.{Handheld, Home}
+use Rattle.recording.specs.declared.Device.{Device}
 use Rattle.recording.specs.declared.text.Answer.{Answer}
 use Rattle.recording.specs.declared.text.Answer.the-variants as Says
 use Rattle.recording.specs.declared.run.Run.{Run}
@@ -32,8 +32,9 @@ use Rattle.recording.specs.declared.run.Turned.{Turned}
 use Rattle.record.specs.Record.{recordAt}
 use Rattle.record.specs.Writer.{size}
 use Rattle.record.proofs.Records.{fits}
+use Rattle.recording.specs.Device.{AfterStep, writeOn, readOn, rowStepOn, frameStepOn, deviceWrite, deviceRead, deviceRowStep, deviceFrameStep}
 use Rattle.recording.specs.Text.{digitOf, decimal, hexDigit, lineOf}
-use Rattle.recording.specs.Run.{World, Turn, held, stepAnswer, rowTurn, intoFrame, frameTurn, layersInto, layerTurn, turnFor, turnBy, turnOf, after, lines, TurnLeaves}
+use Rattle.recording.specs.Run.{World, Turn, held, stepAnswer, rowTurn, intoFrame, frameTurn, layersInto, layerTurn, turnFor, turnBy, hasArea, takenBy, recordOn, turnOf, after, lines, TurnLeaves}
 use Rattle.recording.proofs.Lines.{decimal-short, one, grow}
 
 -- ---- how long a line is
@@ -69,79 +70,81 @@ stepped-short f c i d =
     let k = ap length (stepped-line f c i d) ∙ ap (λ (m : ℕ). suc (suc m)) (length-append (decimal n) (rest c i d)) in
     omega (arith, decimal-short n)
 
--- ---- all ways to make a step move one record and three bytes on, and print a short line
-pub record Moves (step : RenderArea → World → Turn) : Type 0 where
-  pub place : (a : RenderArea) (w : World) → step a w .world .run .at ≡ w .run .at + 3
-  pub counts : (a : RenderArea) (w : World) → step a w .world .run .count ≡ w .run .count + 1
-  pub short : (a : RenderArea) (w : World) → length (lineOf (step a w .answer)) ≤ 15
+-- ---- no call makes another machine of a device
+module _ (d : Device) (vram : List ℕ) where
+  pub write-machine : (m : Machine) (p v : ℕ) → writeOn m d vram p v .device .machine ≡ d .machine
+  write-machine Handheld p v = refl
+  write-machine Home p v = refl
 
-answer-short : (s : Stepped) → length (lineOf (stepAnswer s)) ≤ 15
-answer-short s = stepped-short (s .refusal) (s .vdp .raster .«v_counter») (s .interrupt) (s .report)
+  pub read-machine : (m : Machine) (p : ℕ) → readOn m d vram p .device .machine ≡ d .machine
+  read-machine Handheld p = refl
+  read-machine Home p = refl
+
+  pub row-machine : (m : Machine) (a : RenderArea) (row : List ℕ) → rowStepOn m a d vram row .device .machine ≡ d .machine
+  row-machine Handheld a row = refl
+  row-machine Home a row = refl
+
+  pub frame-machine : (m : Machine) (a : RenderArea) (frame : List ℕ) → frameStepOn m a d vram frame .device .machine ≡ d .machine
+  frame-machine Handheld a frame = refl
+  frame-machine Home a frame = refl
+
+-- ---- all ways to make a step move one record and three bytes on, keep the machine, and print a short line
+pub record Moved (w : World) (t : Turn) : Type 0 where
+  pub place : t .world .run .at ≡ w .run .at + 3
+  pub counts : t .world .run .count ≡ w .run .count + 1
+  pub machine : t .world .run .device .machine ≡ w .run .device .machine
+  pub short : length (lineOf (t .answer)) ≤ 15
+
+abbrev pub Moves : (RenderArea → World → Turn) → Type 0
+Moves step = (a : RenderArea) (w : World) → Moved w (step a w)
+
+answer-short : (s : AfterStep) → length (lineOf (stepAnswer s)) ≤ 15
+answer-short s = stepped-short (s .refusal) (s .counter) (s .interrupt) (s .report)
 
 pub row-moves : Moves rowTurn
 unfolding rowTurn
-row-moves =
+row-moves a w =
+    let d = w .run .device in
     record {
-      place = λ a w. refl;
-      counts = λ a w. refl;
-      short = λ a w. answer-short (rowStep a (w .vram) (length (w .row)) (w .run .vdp));
+      place = refl;
+      counts = refl;
+      machine = row-machine d (w .vram) (d .machine) a (w .row);
+      short = answer-short (deviceRowStep a d (w .vram) (w .row));
     }
 
 into-moves : Moves intoFrame
 unfolding intoFrame
-into-moves =
+into-moves a w =
+    let d = w .run .device in
     record {
-      place = λ a w. refl;
-      counts = λ a w. refl;
-      short = λ a w. answer-short (frameStep a (w .vram) (length (w .frame)) (w .run .vdp));
+      place = refl;
+      counts = refl;
+      machine = frame-machine d (w .vram) (d .machine) a (w .frame);
+      short = answer-short (deviceFrameStep a d (w .vram) (w .frame));
     }
 
 layered-moves : Moves layersInto
 unfolding layersInto
-layered-moves =
+layered-moves a w =
+    let d = w .run .device in
     record {
-      place = λ a w. refl;
-      counts = λ a w. refl;
-      short = λ a w. answer-short (rowStep a (w .vram) (length (w .row)) (w .run .vdp));
+      place = refl;
+      counts = refl;
+      machine = row-machine d (w .vram) (d .machine) a (w .row);
+      short = answer-short (deviceRowStep a d (w .vram) (w .row));
     }
 
 pub frame-moves : Moves frameTurn
 unfolding frameTurn
-frame-moves = record { place = place; counts = counts; short = short }
-  where
-    place : (a : RenderArea) (w : World) → frameTurn a w .world .run .at ≡ w .run .at + 3
-    place VisibleOnly w = into-moves .place VisibleOnly w
-    place EffectiveArea w = row-moves .place EffectiveArea w
-    place TrueEdges w = into-moves .place TrueEdges w
-
-    counts : (a : RenderArea) (w : World) → frameTurn a w .world .run .count ≡ w .run .count + 1
-    counts VisibleOnly w = into-moves .counts VisibleOnly w
-    counts EffectiveArea w = row-moves .counts EffectiveArea w
-    counts TrueEdges w = into-moves .counts TrueEdges w
-
-    short : (a : RenderArea) (w : World) → length (lineOf (frameTurn a w .answer)) ≤ 15
-    short VisibleOnly w = into-moves .short VisibleOnly w
-    short EffectiveArea w = row-moves .short EffectiveArea w
-    short TrueEdges w = into-moves .short TrueEdges w
+frame-moves VisibleOnly w = into-moves VisibleOnly w
+frame-moves EffectiveArea w = row-moves EffectiveArea w
+frame-moves TrueEdges w = into-moves TrueEdges w
 
 pub layer-moves : Moves layerTurn
 unfolding layerTurn
-layer-moves = record { place = place; counts = counts; short = short }
-  where
-    place : (a : RenderArea) (w : World) → layerTurn a w .world .run .at ≡ w .run .at + 3
-    place VisibleOnly w = layered-moves .place VisibleOnly w
-    place EffectiveArea w = row-moves .place EffectiveArea w
-    place TrueEdges w = layered-moves .place TrueEdges w
-
-    counts : (a : RenderArea) (w : World) → layerTurn a w .world .run .count ≡ w .run .count + 1
-    counts VisibleOnly w = layered-moves .counts VisibleOnly w
-    counts EffectiveArea w = row-moves .counts EffectiveArea w
-    counts TrueEdges w = layered-moves .counts TrueEdges w
-
-    short : (a : RenderArea) (w : World) → length (lineOf (layerTurn a w .answer)) ≤ 15
-    short VisibleOnly w = layered-moves .short VisibleOnly w
-    short EffectiveArea w = row-moves .short EffectiveArea w
-    short TrueEdges w = layered-moves .short TrueEdges w
+layer-moves VisibleOnly w = layered-moves VisibleOnly w
+layer-moves EffectiveArea w = row-moves EffectiveArea w
+layer-moves TrueEdges w = layered-moves TrueEdges w
 
 -- whatever the frame shows
 pub moves-for : (shown : Shown) → Moves (turnFor shown)
@@ -161,6 +164,17 @@ still n r t g = record { inside = g .inside; counted = g .counted; short = simp 
 pub small-start : (n : ℕ) (r : Run) → r .at ≡ 0 → r .count ≡ 0 → Small n r []
 small-start n r e f = record { inside = omega arith; counted = omega arith; short = omega arith }
 
+-- a record that a machine takes has no more bytes
+taken-size : (m : Machine) (x : Record) → size (takenBy m x) ≤ size x
+taken-size m (Write p v) = omega arith
+taken-size m (Read p) = omega arith
+taken-size m (Step a) = either (λ (r : Record). size r ≤ 3) (hasArea m a) (λ _. omega arith) (λ _. omega arith)
+taken-size m Bad = omega arith
+taken-size m End = omega arith
+
+fits-on : (m : Machine) (s : List ℕ) (k : ℕ) → size (recordOn m s k) ≤ length s - k
+fits-on m s k = omega (arith, taken-size m (recordAt s k), fits s k)
+
 module _ {step : RenderArea → World → Turn} (moves : Moves step) where
   small-by :
       (x : Record) (n : ℕ) (w : World) (t : List ℕ) → size x ≤ n - w .run .at → Small n (w .run) t
@@ -170,20 +184,19 @@ module _ {step : RenderArea → World → Turn} (moves : Moves step) where
       let i = g .inside in
       let k = g .counted in
       let s = g .short in
-      record { inside = omega arith; counted = omega arith; short = simp length-append (omega (arith, wrote-short (portWrite (w .run .vdp) (w .vram) p v .answer .refusal))) }
+      record { inside = omega arith; counted = omega arith; short = simp length-append (omega (arith, wrote-short (deviceWrite (w .run .device) (w .vram) p v .refusal))) }
   small-by (Read p) n w t h g =
       let i = g .inside in
       let k = g .counted in
       let s = g .short in
-      let a = portRead (w .run .vdp) (w .vram) p in
+      let a = deviceRead (w .run .device) (w .vram) p in
       record { inside = omega arith; counted = omega arith; short = simp length-append (omega (arith, gave-short (a .refusal) (a .byte))) }
   small-by (Step a) n w t h g =
       let i = g .inside in
       let k = g .counted in
       let s = g .short in
-      let p = moves .place a w in
-      let c = moves .counts a w in
-      record { inside = omega arith; counted = omega arith; short = simp length-append (omega (arith, moves .short a w)) }
+      let p = moves a w in
+      record { inside = omega arith; counted = omega arith; short = simp length-append (omega (arith, p .short)) }
   small-by Bad n w t h g = still n (w .run) t g
   small-by End n w t h g = still n (w .run) t g
 
@@ -192,7 +205,8 @@ module _ {step : RenderArea → World → Turn} (moves : Moves step) where
   small zero s w g = g
   small (suc i) s w g =
       let x = after step i s w in
-      small-by (recordAt s (x .run .at)) (length s) x (lines step i s w) (fits s (x .run .at)) (small i s w g)
+      let m = x .run .device .machine in
+      small-by (recordOn m s (x .run .at)) (length s) x (lines step i s w) (fits-on m s (x .run .at)) (small i s w g)
 
   pub ran-small :
       (i : ℕ) (s : List ℕ) (w : World) {x : World} → x ≡ after step i s w → w .run .at ≡ 0 → w .run .count ≡ 0

@@ -12,6 +12,7 @@ use lib.ListN.{length}
 use Rattle.laws.specs.Lists.{at}
 use Rattle.laws.proofs.Tests.{either, split, clash}
 use Rattle.picture.specs.declared.RenderArea.{RenderArea}
+use Rattle.picture.specs.Area.{areaFrom}
 use Rattle.record.specs.declared.Record.{Record}
 use Rattle.record.specs.declared.Record.the-variants.{Write, Read, Step, Bad, End}
 use Rattle.recording.specs.declared.text.Answer.the-variants as Says
@@ -19,13 +20,16 @@ use Rattle.recording.specs.declared.run.Run.{Run}
 use Rattle.record.specs.Record.{recordAt, marked}
 use Rattle.record.specs.Reader.{isCall}
 use Rattle.recording.specs.Text.{lineOf, endLine, badLine}
-use Rattle.recording.specs.Run.{World, Turn, rowTurn, turnBy, turnOf, after, lines, ran}
+use Rattle.recording.specs.Run.{World, Turn, rowTurn, turnBy, hasArea, takenBy, recordOn, turnOf, after, lines, ran}
 use Rattle.recording.specs.Output.{lastLine, text}
 use Rattle.recording.proofs.Runs.{Moves, row-moves}
 
--- whether there is a call where the run stands
+-- the record where the run stands, and whether it is a call
+abbrev pub here : List ℕ → Run → Record
+here s run = recordOn (run .device .machine) s (run .at)
+
 abbrev pub calls : List ℕ → World → Bool
-calls s w = isCall (recordAt s (w .run .at))
+calls s w = isCall (here s (w .run))
 
 -- From w, reading records of s until one is no call: where that ends, and the lines on the way.
 pub data Reads (step : RenderArea → World → Turn) (s : List ℕ) : World → World → List ℕ → Type 0 where
@@ -55,7 +59,7 @@ module _ (step : RenderArea → World → Turn) (s : List ℕ) where
 
   pub still : (w : World) → calls s w ≡ false → turnOf step s w ≡ record { answer = Says.Nothing; world = w }
   unfolding turnOf
-  still w e = still-by (recordAt s (w .run .at)) w e
+  still w e = still-by (here s (w .run)) w e
 
   pub stays : (n : ℕ) (w : World) → calls s w ≡ false → after step n s w ≡ w
   unfolding after
@@ -92,13 +96,13 @@ module _ {step : RenderArea → World → Turn} (moves : Moves step) (s : List �
   unfolding turnBy
   place-by (Write p v) w e = omega arith
   place-by (Read p) w e = omega arith
-  place-by (Step a) w e = omega (arith, moves .place a w)
+  place-by (Step a) w e = omega (arith, moves a w .place)
   place-by Bad w e = clash (sym e)
   place-by End w e = clash (sym e)
 
   further : (w : World) → calls s w ≡ true → w .run .at + 3 ≤ turnOf step s w .world .run .at
   unfolding turnOf
-  further w e = place-by (recordAt s (w .run .at)) w e
+  further w e = place-by (here s (w .run)) w e
 
   over : (w : World) → length s ≤ w .run .at → calls s w ≡ false
   unfolding recordAt
@@ -128,27 +132,36 @@ closing (Write p v) run = []
 closing (Read p) run = []
 closing (Step a) run = []
 
-marked-bad : (s : List ℕ) (k n m : ℕ) (run : Run) → isCall (marked s k n m) ≡ false → badLine (run .at) ≡ closing (marked s k n m) run
+-- a record that is no call, and not the end, is bad
+abbrev Inside : Run → Record → Type 0
+Inside run x =
+    let y = takenBy (run .device .machine) x in
+    isCall y ≡ false → badLine (run .at) ≡ closing y run
+
+step-bad : (run : Run) (a : RenderArea) → Inside run (Step a)
+step-bad run a =
+    either (λ (y : Record). isCall y ≡ false → badLine (run .at) ≡ closing y run) (hasArea (run .device .machine) a) (λ _ e. clash e) (λ _ _. refl)
+
+marked-bad : (s : List ℕ) (k n m : ℕ) (run : Run) → Inside run (marked s k n m)
 unfolding marked
 marked-bad s k n m run =
-    let P : Record → Type 0 = λ r. isCall r ≡ false → badLine (run .at) ≡ closing r run in
+    let P : Record → Type 0 = Inside run in
     either P (eqb m 0x5057) (λ _. either P (ltb n 4) (λ _ _. refl) (λ _ e. clash e))
     (λ _.
     either P (eqb m 0x5052) (λ _ e. clash e)
-    (λ _. either P (eqb m 0x4C53) (λ _. either P (ltb 2 (at s (k + 2))) (λ _ _. refl) (λ _ e. clash e)) (λ _ _. refl)))
+    (λ _. either P (eqb m 0x4C53) (λ _. either P (ltb 2 (at s (k + 2))) (λ _ _. refl) (λ _. step-bad run (areaFrom (at s (k + 2))))) (λ _ _. refl)))
 
-pub last-is : (s : List ℕ) (run : Run) → isCall (recordAt s (run .at)) ≡ false → lastLine s run ≡ closing (recordAt s (run .at)) run
+pub last-is : (s : List ℕ) (run : Run) → isCall (here s run) ≡ false → lastLine s run ≡ closing (here s run) run
 unfolding lastLine recordAt
 last-is s run =
     let k = run .at in
     let n = length s - k in
     let m = 256 * at s k + at s (k + 1) in
-    split (leb (length s) k) (λ t. rw t (λ _. refl))
-    (λ t. rw t (either (λ (r : Record). isCall r ≡ false → badLine (run .at) ≡ closing r run) (ltb n 3) (λ _ _. refl) (λ _. marked-bad s k n m run)))
+    split (leb (length s) k) (λ t. rw t (λ _. refl)) (λ t. rw t (either (Inside run) (ltb n 3) (λ _ _. refl) (λ _. marked-bad s k n m run)))
 
 -- The text of a trace: the lines of its calls, read until there is none, and the line of what stands there.
 pub text-reads :
-    (s : List ℕ) (w : World) {e : World} {t : List ℕ} → Reads rowTurn s w e t → text s w ≡ t ++ closing (recordAt s (e .run .at)) (e .run)
+    (s : List ℕ) (w : World) {e : World} {t : List ℕ} → Reads rowTurn s w e t → text s w ≡ t ++ closing (here s (e .run)) (e .run)
 unfolding text
 text-reads s w {e} {t} r =
     let h = one-end rowTurn s (reads-all row-moves s w) r in

@@ -1,4 +1,5 @@
 -- What the contracts of `recording` cite.
+pub mod Device
 pub mod Text
 pub mod Run
 pub mod Output

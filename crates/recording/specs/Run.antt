@@ -1,7 +1,7 @@
--- R7.8, R7.13, R15.5: what a recording does, record by record. All programs follow a recording by these definitions.
+-- R7.8, R7.13, R15.5, R20.9: what a recording does, record by record. All programs follow a recording by these definitions.
 -- Assumes nothing.
 use mathlib.Core.Path.{_≡_}
-use mathlib.Core.Bool.{cond}
+use mathlib.Core.Bool.{Bool, true, false, cond}
 use mathlib.Core.List.{List, [], _++_}
 use Prim.Native.Nat.{ℕ, zero, suc, _+_, _-_, _*_, _%_}
 use lib.Dec.{eqb}
@@ -9,16 +9,15 @@ use lib.ListN.{length}
 use Rattle.laws.specs.Paint.{painted, ofBytes}
 use Rattle.picture.specs.declared.RenderArea.{RenderArea}
 use Rattle.picture.specs.declared.RenderArea.the-variants.{VisibleOnly, EffectiveArea, TrueEdges}
-use Rattle.vdp.specs.declared.VdpState.{VdpState}
-use Rattle.vdp.specs.Ports.{portWrite, portRead}
 use Rattle.step.specs.declared.DrawnRow.{DrawnRow}
 use Rattle.step.specs.declared.DrawnRow.the-variants.{NoRow, Drawn}
-use Rattle.step.specs.declared.Stepped.{Stepped}
-use Rattle.step.specs.Step.{counterUp, rowStep, frameStep}
-use Rattle.step.specs.Frame.{rowAfter, frameAfter}
+use Rattle.step.specs.Step.{counterUp, rowStep}
 use Rattle.step.specs.Layers.{rowLayers}
 use Rattle.record.specs.declared.Record.{Record}
 use Rattle.record.specs.declared.Record.the-variants.{Write, Read, Step, Bad, End}
+use Rattle.recording.specs.declared.Machine.{Machine}
+use Rattle.recording.specs.declared.Machine.the-variants.{Handheld, Home}
+use Rattle.recording.specs.declared.Device.{Device}
 use Rattle.recording.specs.declared.text.Answer.{Answer}
 use Rattle.recording.specs.declared.text.Answer.the-variants as Says
 use Rattle.recording.specs.declared.run.Run.{Run}
@@ -26,6 +25,7 @@ use Rattle.recording.specs.declared.run.Shown.{Shown}
 use Rattle.recording.specs.declared.run.Shown.the-variants.{Colours, Layers}
 use Rattle.recording.specs.declared.run.Turned.{Turned}
 use Rattle.record.specs.Record.{recordAt}
+use Rattle.recording.specs.Device.{AfterStep, deviceWrite, deviceRead, deviceRowStep, deviceFrameStep}
 use Rattle.recording.specs.Text.{lineOf}
 
 -- What one who follows a recording holds: the device and its place in the recording (`Run`), and the lent buffers. The trace has no frame.
@@ -39,8 +39,8 @@ abbrev pub held : Run → List ℕ → List ℕ → List ℕ → World
 held run vram row frame = record { run = run; vram = vram; row = row; frame = frame }
 
 -- this device, at the recording's first byte
-abbrev pub start : VdpState → List ℕ → List ℕ → List ℕ → World
-start d vram row frame = held (record { vdp = d; at = 0; count = 0 }) vram row frame
+abbrev pub start : Device → List ℕ → List ℕ → List ℕ → World
+start d vram row frame = held (record { device = d; at = 0; count = 0 }) vram row frame
 
 -- What a record does: the answer of its call, and the world after it.
 pub record Turn : Type 0 where
@@ -48,32 +48,27 @@ pub record Turn : Type 0 where
   pub world : World
 
 -- the run after a call, one record and k bytes on
-abbrev pub on : Run → ℕ → VdpState → Run
-on run k d = record { vdp = d; at = run .at + k; count = run .count + 1 }
+abbrev pub on : Run → ℕ → Device → Run
+on run k d = record { device = d; at = run .at + k; count = run .count + 1 }
 
 -- R7.10: what a step's line tells
-abbrev pub stepAnswer : Stepped → Answer
-stepAnswer s = Says.Stepped (s .refusal) (s .vdp .raster .«v_counter») (s .interrupt) (s .report)
+abbrev pub stepAnswer : AfterStep → Answer
+stepAnswer s = Says.Stepped (s .refusal) (s .counter) (s .interrupt) (s .report)
 
 -- a step into the row buffer, as the trace makes all of its steps
 unfoldable pub rowTurn : RenderArea → World → Turn
 rowTurn a w =
-    let s = rowStep a (w .vram) (length (w .row)) (w .run .vdp) in
-    record {
-      answer = stepAnswer s;
-      world = held (on (w .run) 3 (s .vdp)) (w .vram) (rowAfter a (w .vram) (w .run .vdp) (w .row)) (w .frame);
-    }
+    let s = deviceRowStep a (w .run .device) (w .vram) (w .row) in
+    record { answer = stepAnswer s; world = held (on (w .run) 3 (s .device)) (w .vram) (s .buffer) (w .frame) }
 
 -- a step into the frame
 unfoldable pub intoFrame : RenderArea → World → Turn
 intoFrame a w =
-    let s = frameStep a (w .vram) (length (w .frame)) (w .run .vdp) in
-    record {
-      answer = stepAnswer s;
-      world = held (on (w .run) 3 (s .vdp)) (w .vram) (w .row) (frameAfter a (w .vram) (w .run .vdp) (w .frame));
-    }
+    let s = deviceFrameStep a (w .run .device) (w .vram) (w .frame) in
+    record { answer = stepAnswer s; world = held (on (w .run) 3 (s .device)) (w .vram) (w .row) (s .buffer) }
 
--- R7.13, R18.5: a step as the snapshot makes it: of an area of the visible size into the frame, of the effective area as in the trace
+-- R7.13, R18.5, R20.9: a step as the snapshot makes it: of an area of the visible size into the frame, and so of area 0 at home; of the effective area
+-- as in the trace
 unfoldable pub frameTurn : RenderArea → World → Turn
 frameTurn VisibleOnly w = intoFrame VisibleOnly w
 frameTurn EffectiveArea w = rowTurn EffectiveArea w
@@ -89,15 +84,19 @@ abbrev pub layersPainted : DrawnRow → (ℕ → ℕ → ℕ) → List ℕ → L
 layersPainted NoRow layer frame = frame
 layersPainted (Drawn y) layer frame = painted frame (160 * y) 160 (λ x. layerColour (layer y x))
 
+-- those of the row that a step into a row buffer of n bytes draws; the home machine tells no layers
+abbrev pub layersOn : Machine → RenderArea → Device → List ℕ → ℕ → List ℕ → List ℕ
+layersOn Handheld a d m n frame = layersPainted (rowStep a m n (d .vdp) .row) (rowLayers a m (counterUp (d .vdp))) frame
+layersOn Home a d m n frame = frame
+
 -- a step into the row buffer, with its layers as colours in the frame
 unfoldable pub layersInto : RenderArea → World → Turn
 layersInto a w =
-    let s = rowStep a (w .vram) (length (w .row)) (w .run .vdp) in
+    let d = w .run .device in
+    let s = deviceRowStep a d (w .vram) (w .row) in
     record {
       answer = stepAnswer s;
-      world =
-          held (on (w .run) 3 (s .vdp)) (w .vram) (rowAfter a (w .vram) (w .run .vdp) (w .row))
-          (layersPainted (s .row) (rowLayers a (w .vram) (counterUp (w .run .vdp))) (w .frame));
+      world = held (on (w .run) 3 (s .device)) (w .vram) (s .buffer) (layersOn (d .machine) a d (w .vram) (length (w .row)) (w .frame));
     }
 
 -- R15.5, R18.5: a step as `layers` makes it: the layers of an area of the visible size in the frame, the effective area as in the trace
@@ -114,17 +113,35 @@ turnFor Layers = layerTurn
 -- a record of the recording, with steps made as `step` makes them; at a bad record and at the end nothing happens
 unfoldable pub turnBy : Record → (RenderArea → World → Turn) → World → Turn
 turnBy (Write port value) step w =
-    let a = portWrite (w .run .vdp) (w .vram) port value in
-    record { answer = Says.Wrote (a .answer .refusal); world = held (on (w .run) 4 (a .answer .vdp)) (a .vram) (w .row) (w .frame) }
+    let a = deviceWrite (w .run .device) (w .vram) port value in
+    record { answer = Says.Wrote (a .refusal); world = held (on (w .run) 4 (a .device)) (a .vram) (w .row) (w .frame) }
 turnBy (Read port) step w =
-    let a = portRead (w .run .vdp) (w .vram) port in
-    record { answer = Says.Gave (a .refusal) (a .byte); world = held (on (w .run) 3 (a .vdp)) (w .vram) (w .row) (w .frame) }
+    let a = deviceRead (w .run .device) (w .vram) port in
+    record { answer = Says.Gave (a .refusal) (a .byte); world = held (on (w .run) 3 (a .device)) (w .vram) (w .row) (w .frame) }
 turnBy (Step area) step w = step area w
 turnBy Bad step w = record { answer = Says.Nothing; world = w }
 turnBy End step w = record { answer = Says.Nothing; world = w }
 
+-- R20.9: the areas that a machine has steps of; a step of another is a bad record
+abbrev pub hasArea : Machine → RenderArea → Bool
+hasArea Handheld a = true
+hasArea Home VisibleOnly = true
+hasArea Home EffectiveArea = false
+hasArea Home TrueEdges = false
+
+abbrev pub takenBy : Machine → Record → Record
+takenBy m (Write port value) = Write port value
+takenBy m (Read port) = Read port
+takenBy m (Step area) = cond (hasArea m area) (Step area) Bad
+takenBy m Bad = Bad
+takenBy m End = End
+
+-- the record at offset k, as the machine m takes it
+abbrev pub recordOn : Machine → List ℕ → ℕ → Record
+recordOn m s k = takenBy m (recordAt s k)
+
 unfoldable pub turnOf : (RenderArea → World → Turn) → List ℕ → World → Turn
-turnOf step s w = turnBy (recordAt s (w .run .at)) step w
+turnOf step s w = turnBy (recordOn (w .run .device .machine) s (w .run .at)) step w
 
 -- n records of the recording s, from the world w on: what they leave, and the lines that they print
 unfoldable pub after : (RenderArea → World → Turn) → ℕ → List ℕ → World → World

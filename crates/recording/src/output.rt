@@ -1,12 +1,13 @@
 // A whole recording: the text that it prints, and the pictures that it draws.
 ghost use mathlib.Core.Path.{_≡_};
-ghost use Prim.Native.Nat.{_+_, _≤_};
+ghost use Prim.Native.Nat.{_+_, _*_, _≤_};
 ghost use lib.ListN.{length, take};
 ghost use Rattle.laws.specs.Lists.{written};
-ghost use Rattle.picture.specs.declared.RenderArea.the-variants.{VisibleOnly};
-ghost use Rattle.picture.specs.Area.{frameSize};
-ghost use Rattle.recording.specs.Output.{pictureRoom, lastLine, ppm, drawn, TraceLeaves, PictureLeaves};
+ghost use Rattle.recording.specs.Device.{handheld};
+ghost use Rattle.recording.specs.Output.{pixelCount, pictureRoom, lastLine, header, ppm, drawn, TraceLeaves, PictureLeaves};
 ghost use Rattle.recording.specs.Run.{frameTurn, layerTurn, turnFor};
+use crate::Device;
+use crate::Machine;
 use crate::run::Run;
 use crate::run::Shown;
 use crate::run::frame_turn;
@@ -16,16 +17,10 @@ use crate::text::put_numbered;
 use record::put_all;
 use vdp::VdpState;
 
-// The longest recording that is run, the room that its text may take, and that of its picture: of a frame's bytes, three to a pixel.
+// The longest recording that is run, and the room that its text may take.
 const LONGEST: usize = 65535;
 
 const TEXT_ROOM: usize = 327_700;
-
-const PICTURE_ROOM: usize = 69135;
-
-const FRAME_SIZE: usize = 92160;
-
-const PIXELS: usize = 23040;
 
 // The last line of a trace: the count of records, or where the recording is bad.
 fn put_last(out: &mut [u8], at: usize, input: &[u8], run: Run) -> usize
@@ -40,8 +35,8 @@ fn put_last(out: &mut [u8], at: usize, input: &[u8], run: Run) -> usize
 }
 
 // R7.8: the text of a recording, run on this device, at the start of out, and how long it is. At most 65,535 bytes are taken; without room for what they may print nothing happens.
-pub fn trace(vdp: VdpState, input: &[u8], vram: &mut [u8], row: &mut [u8], out: &mut [u8]) -> usize
-    ensures { λ n. ⌜ TraceLeaves vdp (now (input .entry)) (now (vram .entry)) (now (row .entry)) (now (out .entry)) n (now (vram .exit)) (now (row .exit)) (now (out .exit)) ⌝ }
+pub fn trace(device: Device, input: &[u8], vram: &mut [u8], row: &mut [u8], out: &mut [u8]) -> usize
+    ensures { λ n. ⌜ TraceLeaves device (now (input .entry)) (now (vram .entry)) (now (row .entry)) (now (out .entry)) n (now (vram .exit)) (now (row .exit)) (now (out .exit)) ⌝ }
     ensures { λ n. ⌜ (n ≤ length (now (out .exit))) × (n ≡ length (take n (now (out .exit)))) ⌝ }
 {
     if out.len() < TEXT_ROOM {
@@ -51,7 +46,7 @@ pub fn trace(vdp: VdpState, input: &[u8], vram: &mut [u8], row: &mut [u8], out: 
         return put_all(out, 0, b"long\n");
     }
     let mut run = Run {
-        vdp: vdp,
+        device: device,
         at: 0,
         count: 0,
     };
@@ -67,15 +62,38 @@ pub fn trace(vdp: VdpState, input: &[u8], vram: &mut [u8], row: &mut [u8], out: 
     put_last(out, len, input, run)
 }
 
-// The picture of a frame: red, green and blue of each pixel, behind the header of a binary PPM.
-fn put_ppm(out: &mut [u8], frame: &[u8]) -> usize
-    requires { ⌜ (pictureRoom ≤ length (now out)) × (frameSize VisibleOnly ≤ length (now frame)) ⌝ }
-    ensures { λ r. ⌜ r ≡ length (ppm (now (frame .entry))) ⌝ }
-    ensures { λ _. ⌜ now (out .exit) ≡ written (now (out .entry)) 0 (ppm (now (frame .entry))) ⌝ }
+// The pixels of a machine's picture, of which its frame has four bytes each and its picture three.
+fn pixel_count(machine: Machine) -> usize
+    ensures { λ n. ⌜ (n ≡ pixelCount machine) × (n ≤ 49152) ⌝ }
 {
-    let mut at = put_all(out, 0, b"P6\n160 144\n255\n");
+    match machine {
+        Machine::Handheld => 23040,
+        Machine::Home => 49152,
+    }
+}
+
+// The header of a binary PPM.
+fn put_header(out: &mut [u8], machine: Machine) -> usize
+    requires { ⌜ 15 ≤ length (now out) ⌝ }
+    ensures { λ r. ⌜ r ≡ 15 ⌝ }
+    ensures { λ _. ⌜ now (out .exit) ≡ written (now (out .entry)) 0 (header machine) ⌝ }
+{
+    match machine {
+        Machine::Handheld => put_all(out, 0, b"P6\n160 144\n255\n"),
+        Machine::Home => put_all(out, 0, b"P6\n256 192\n255\n"),
+    }
+}
+
+// The picture of a frame: red, green and blue of each pixel, behind the header.
+fn put_ppm(out: &mut [u8], machine: Machine, frame: &[u8]) -> usize
+    requires { ⌜ (pictureRoom machine ≤ length (now out)) × (4 * pixelCount machine ≤ length (now frame)) ⌝ }
+    ensures { λ r. ⌜ r ≡ length (ppm machine (now (frame .entry))) ⌝ }
+    ensures { λ _. ⌜ now (out .exit) ≡ written (now (out .entry)) 0 (ppm machine (now (frame .entry))) ⌝ }
+{
+    let count = pixel_count(machine);
+    let mut at = put_header(out, machine);
     let mut i = 0;
-    while i < PIXELS {
+    while i < count {
         let k = 4 * i;
         at = put_all(out, at, &[frame[k], frame[k + 1], frame[k + 2]]);
         i += 1;
@@ -84,13 +102,13 @@ fn put_ppm(out: &mut [u8], frame: &[u8]) -> usize
 }
 
 // What is written at the end of a run: its picture, or where the recording is bad.
-fn put_picture(out: &mut [u8], input: &[u8], run: Run, frame: &[u8]) -> usize
-    requires { ⌜ (pictureRoom ≤ length (now out)) × (frameSize VisibleOnly ≤ length (now frame)) ⌝ }
-    ensures { λ r. ⌜ r ≡ length (drawn (now (input .entry)) run (now (frame .entry))) ⌝ }
-    ensures { λ _. ⌜ now (out .exit) ≡ written (now (out .entry)) 0 (drawn (now (input .entry)) run (now (frame .entry))) ⌝ }
+fn put_picture(out: &mut [u8], machine: Machine, input: &[u8], run: Run, frame: &[u8]) -> usize
+    requires { ⌜ (pictureRoom machine ≤ length (now out)) × (4 * pixelCount machine ≤ length (now frame)) ⌝ }
+    ensures { λ r. ⌜ r ≡ length (drawn machine (now (input .entry)) run (now (frame .entry))) ⌝ }
+    ensures { λ _. ⌜ now (out .exit) ≡ written (now (out .entry)) 0 (drawn machine (now (input .entry)) run (now (frame .entry))) ⌝ }
 {
     if input.len() <= run.at {
-        return put_ppm(out, frame);
+        return put_ppm(out, machine, frame);
     }
     put_numbered(out, 0, b"bad ", run.at)
 }
@@ -98,7 +116,7 @@ fn put_picture(out: &mut [u8], input: &[u8], run: Run, frame: &[u8]) -> usize
 // What a recording's visible steps show in the frame, run on this device, at the start of out, and how long it is; of a bad or long recording, only
 // the line that says so. Without room for a picture, or with a frame of another length, nothing happens.
 fn pictured(
-    vdp: VdpState,
+    device: Device,
     shown: Shown,
     input: &[u8],
     vram: &mut [u8],
@@ -106,20 +124,22 @@ fn pictured(
     frame: &mut [u8],
     out: &mut [u8],
 ) -> usize
-    ensures { λ n. ⌜ PictureLeaves (turnFor shown) vdp (now (input .entry)) (now (vram .entry)) (now (row .entry)) (now (frame .entry)) (now (out .entry)) n (now (vram .exit)) (now (row .exit)) (now (frame .exit)) (now (out .exit)) ⌝ }
+    ensures { λ n. ⌜ PictureLeaves (turnFor shown) device (now (input .entry)) (now (vram .entry)) (now (row .entry)) (now (frame .entry)) (now (out .entry)) n (now (vram .exit)) (now (row .exit)) (now (frame .exit)) (now (out .exit)) ⌝ }
     ensures { λ n. ⌜ (n ≤ length (now (out .exit))) × (n ≡ length (take n (now (out .exit)))) ⌝ }
 {
-    if out.len() < PICTURE_ROOM {
+    let machine = device.machine;
+    let count = pixel_count(machine);
+    if out.len() < 15 + 3 * count {
         return 0;
     }
-    if frame.len() != FRAME_SIZE {
+    if frame.len() != 4 * count {
         return 0;
     }
     if LONGEST < input.len() {
         return put_all(out, 0, b"long\n");
     }
     let mut run = Run {
-        vdp: vdp,
+        device: device,
         at: 0,
         count: 0,
     };
@@ -129,22 +149,22 @@ fn pictured(
         run = turned.run;
         i += 1;
     }
-    put_picture(out, input, run, frame)
+    put_picture(out, machine, input, run, frame)
 }
 
-// R7.13: the picture that the visible steps draw.
+// R7.13, R20.9: the picture that the steps of the visible size draw, and those of the home machine.
 pub fn snapshot(
-    vdp: VdpState,
+    device: Device,
     input: &[u8],
     vram: &mut [u8],
     row: &mut [u8],
     frame: &mut [u8],
     out: &mut [u8],
 ) -> usize
-    ensures { λ n. ⌜ PictureLeaves frameTurn vdp (now (input .entry)) (now (vram .entry)) (now (row .entry)) (now (frame .entry)) (now (out .entry)) n (now (vram .exit)) (now (row .exit)) (now (frame .exit)) (now (out .exit)) ⌝ }
+    ensures { λ n. ⌜ PictureLeaves frameTurn device (now (input .entry)) (now (vram .entry)) (now (row .entry)) (now (frame .entry)) (now (out .entry)) n (now (vram .exit)) (now (row .exit)) (now (frame .exit)) (now (out .exit)) ⌝ }
     ensures { λ n. ⌜ (n ≤ length (now (out .exit))) × (n ≡ length (take n (now (out .exit)))) ⌝ }
 {
-    pictured(vdp, Shown::Colours, input, vram, row, frame, out)
+    pictured(device, Shown::Colours, input, vram, row, frame, out)
 }
 
 // R15.5: which layer owns each of its pixels.
@@ -156,8 +176,16 @@ pub fn layers(
     frame: &mut [u8],
     out: &mut [u8],
 ) -> usize
-    ensures { λ n. ⌜ PictureLeaves layerTurn vdp (now (input .entry)) (now (vram .entry)) (now (row .entry)) (now (frame .entry)) (now (out .entry)) n (now (vram .exit)) (now (row .exit)) (now (frame .exit)) (now (out .exit)) ⌝ }
+    ensures { λ n. ⌜ PictureLeaves layerTurn (handheld vdp) (now (input .entry)) (now (vram .entry)) (now (row .entry)) (now (frame .entry)) (now (out .entry)) n (now (vram .exit)) (now (row .exit)) (now (frame .exit)) (now (out .exit)) ⌝ }
     ensures { λ n. ⌜ (n ≤ length (now (out .exit))) × (n ≡ length (take n (now (out .exit)))) ⌝ }
 {
-    pictured(vdp, Shown::Layers, input, vram, row, frame, out)
+    pictured(
+        Device::handheld(vdp),
+        Shown::Layers,
+        input,
+        vram,
+        row,
+        frame,
+        out,
+    )
 }

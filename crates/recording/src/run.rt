@@ -1,28 +1,30 @@
 // A run through a recording: each record makes its call on the device.
 ghost use mathlib.Core.Path.{_≡_};
-ghost use mathlib.Core.List.{[]};
-ghost use Prim.Native.Nat.{_-_, _<_, _≤_};
+ghost use mathlib.Core.List.{List, []};
+ghost use Prim.Native.Nat.{ℕ, _-_, _<_, _≤_};
 ghost use lib.ListN.{length};
 ghost use Rattle.laws.specs.Lists.{at};
 ghost use Rattle.picture.specs.declared.RenderArea.the-variants.{VisibleOnly};
 ghost use Rattle.picture.specs.Area.{screenOf, columns, frameSize};
 ghost use Rattle.step.specs.Points.{RowIn};
-ghost use Rattle.vdp.specs.Ports.{portWrite, portRead};
-ghost use Rattle.recording.specs.Run.{held, on, stepAnswer, rowTurn, layerColour, layersPainted, layersInto, turnFor, turnOf, TurnLeaves};
+ghost use Rattle.recording.specs.Device.{withVdp, withHome, deviceWrite, deviceRead, ofHandheld, ofHome};
+ghost use Rattle.recording.specs.Run.{held, on, stepAnswer, rowTurn, intoFrame, layerColour, layersPainted, layersInto, turnFor, hasArea, recordOn, turnOf, TurnLeaves};
+use crate::Device;
+use crate::Machine;
 use crate::text::Answer;
+use home::HomeState;
+use home::HomeStepped;
 use picture::RenderArea;
 use record::Record;
 use record::record_at;
 use step::DrawnRow;
 use step::Stepped;
-use step::frame_step;
 use step::layer_row_step;
-use step::row_step;
 use vdp::VdpState;
 
 // The device, the place in the recording, and the records so far.
 pub struct Run {
-    pub vdp: VdpState,
+    pub device: Device,
     pub at: usize,
     pub count: usize,
 }
@@ -39,13 +41,40 @@ pub struct Turned {
     pub run: Run,
 }
 
-// The run after a call, one record and some bytes on.
-fn moved(run: Run, bytes: usize, vdp: VdpState) -> Run
+// The run after a call on each machine, one record and some bytes on.
+fn handheld_moved(run: Run, bytes: usize, vdp: VdpState) -> Run
     requires { ⌜ (run .at < 4294967296) × (run .count < 4294967296) × (bytes < 16) ⌝ }
-    ensures { λ r. ⌜ r ≡ on run bytes vdp ⌝ }
+    ensures { λ r. ⌜ r ≡ on run bytes (withVdp (run .device) vdp) ⌝ }
 {
-    Run {
+    let device = run.device;
+    let machine = device.machine;
+    let home = device.home;
+    let next = Device {
+        machine: machine,
         vdp: vdp,
+        home: home,
+    };
+    Run {
+        device: next,
+        at: run.at + bytes,
+        count: run.count + 1,
+    }
+}
+
+fn home_moved(run: Run, bytes: usize, home: HomeState) -> Run
+    requires { ⌜ (run .at < 4294967296) × (run .count < 4294967296) × (bytes < 16) ⌝ }
+    ensures { λ r. ⌜ r ≡ on run bytes (withHome (run .device) home) ⌝ }
+{
+    let device = run.device;
+    let machine = device.machine;
+    let vdp = device.vdp;
+    let next = Device {
+        machine: machine,
+        vdp: vdp,
+        home: home,
+    };
+    Run {
+        device: next,
         at: run.at + bytes,
         count: run.count + 1,
     }
@@ -54,41 +83,73 @@ fn moved(run: Run, bytes: usize, vdp: VdpState) -> Run
 // A port write.
 fn write_turn(run: Run, vram: &mut [u8], port: u8, value: u8) -> Turned
     requires { ⌜ (run .at < 4294967296) × (run .count < 4294967296) ⌝ }
-    ensures { λ r. ⌜ r .answer ≡ Answer.Wrote (portWrite (run .vdp) (now (vram .entry)) port value .answer .refusal) ⌝ }
-    ensures { λ r. ⌜ r .run ≡ on run 4 (portWrite (run .vdp) (now (vram .entry)) port value .answer .vdp) ⌝ }
-    ensures { λ _. ⌜ now (vram .exit) ≡ portWrite (run .vdp) (now (vram .entry)) port value .vram ⌝ }
+    ensures { λ r. ⌜ r .answer ≡ Answer.Wrote (deviceWrite (run .device) (now (vram .entry)) port value .refusal) ⌝ }
+    ensures { λ r. ⌜ r .run ≡ on run 4 (deviceWrite (run .device) (now (vram .entry)) port value .device) ⌝ }
+    ensures { λ _. ⌜ now (vram .exit) ≡ deviceWrite (run .device) (now (vram .entry)) port value .vram ⌝ }
 {
-    let vdp = run.vdp;
-    let written = vdp.out(vram, port as u16, value);
-    let refusal = written.refusal;
-    let next = written.vdp;
-    Turned {
-        answer: Answer::Wrote(refusal),
-        run: moved(run, 4, next),
+    let device = run.device;
+    let machine = device.machine;
+    match machine {
+        Machine::Handheld => {
+            let vdp = device.vdp;
+            let written = vdp.out(vram, port as u16, value);
+            let refusal = written.refusal;
+            let next = written.vdp;
+            Turned {
+                answer: Answer::Wrote(refusal),
+                run: handheld_moved(run, 4, next),
+            }
+        }
+        Machine::Home => {
+            let home = device.home;
+            let written = home.out(vram, port as u16, value);
+            let refusal = written.refusal;
+            let next = written.home;
+            Turned {
+                answer: Answer::Wrote(refusal),
+                run: home_moved(run, 4, next),
+            }
+        }
     }
 }
 
 // A port read.
 fn read_turn(run: Run, vram: &[u8], port: u8) -> Turned
     requires { ⌜ (run .at < 4294967296) × (run .count < 4294967296) ⌝ }
-    ensures { λ r. ⌜ r .answer ≡ Answer.Gave (portRead (run .vdp) (now (vram .entry)) port .refusal) (portRead (run .vdp) (now (vram .entry)) port .byte) ⌝ }
-    ensures { λ r. ⌜ r .run ≡ on run 3 (portRead (run .vdp) (now (vram .entry)) port .vdp) ⌝ }
+    ensures { λ r. ⌜ r .answer ≡ Answer.Gave (deviceRead (run .device) (now (vram .entry)) port .refusal) (deviceRead (run .device) (now (vram .entry)) port .byte) ⌝ }
+    ensures { λ r. ⌜ r .run ≡ on run 3 (deviceRead (run .device) (now (vram .entry)) port .device) ⌝ }
 {
-    let vdp = run.vdp;
-    let back = vdp.input(vram, port as u16);
-    let refusal = back.refusal;
-    let next = back.vdp;
-    Turned {
-        answer: Answer::Gave(refusal, back.byte),
-        run: moved(run, 3, next),
+    let device = run.device;
+    let machine = device.machine;
+    match machine {
+        Machine::Handheld => {
+            let vdp = device.vdp;
+            let back = vdp.input(vram, port as u16);
+            let refusal = back.refusal;
+            let next = back.vdp;
+            Turned {
+                answer: Answer::Gave(refusal, back.byte),
+                run: handheld_moved(run, 3, next),
+            }
+        }
+        Machine::Home => {
+            let home = device.home;
+            let back = home.input(vram, port as u16);
+            let refusal = back.refusal;
+            let next = back.home;
+            Turned {
+                answer: Answer::Gave(refusal, back.byte),
+                run: home_moved(run, 3, next),
+            }
+        }
     }
 }
 
-// A step, once it is made.
-fn step_turn(run: Run, stepped: Stepped) -> Turned
+// A step of each machine, once it is made.
+fn handheld_turn(run: Run, stepped: Stepped) -> Turned
     requires { ⌜ (run .at < 4294967296) × (run .count < 4294967296) ⌝ }
-    ensures { λ r. ⌜ r .answer ≡ stepAnswer stepped ⌝ }
-    ensures { λ r. ⌜ r .run ≡ on run 3 (stepped .vdp) ⌝ }
+    ensures { λ r. ⌜ r .answer ≡ stepAnswer (ofHandheld (run .device) stepped []) ⌝ }
+    ensures { λ r. ⌜ r .run ≡ on run 3 (ofHandheld (run .device) stepped [] .device) ⌝ }
 {
     let refusal = stepped.refusal;
     let interrupt = stepped.interrupt;
@@ -97,7 +158,96 @@ fn step_turn(run: Run, stepped: Stepped) -> Turned
     let raster = next.raster;
     Turned {
         answer: Answer::Stepped(refusal, raster.v_counter, interrupt, report),
-        run: moved(run, 3, next),
+        run: handheld_moved(run, 3, next),
+    }
+}
+
+fn home_turn(run: Run, stepped: HomeStepped) -> Turned
+    requires { ⌜ (run .at < 4294967296) × (run .count < 4294967296) ⌝ }
+    ensures { λ r. ⌜ r .answer ≡ stepAnswer (ofHome (run .device) stepped []) ⌝ }
+    ensures { λ r. ⌜ r .run ≡ on run 3 (ofHome (run .device) stepped [] .device) ⌝ }
+{
+    let refusal = stepped.refusal;
+    let interrupt = stepped.interrupt;
+    let report = stepped.report;
+    let next = stepped.home;
+    let raster = next.raster;
+    Turned {
+        answer: Answer::Stepped(refusal, raster.v_counter, interrupt, report),
+        run: home_moved(run, 3, next),
+    }
+}
+
+// A step into the row buffer.
+fn row_step_turn(run: Run, vram: &[u8], row: &mut [u8], area: RenderArea) -> Turned
+    requires { ⌜ (run .at < 4294967296) × (run .count < 4294967296) ⌝ }
+    ensures { λ r. ⌜ ((frame : List ℕ) → TurnLeaves (rowTurn area (held run (now (vram .entry)) (now (row .entry)) frame)) r (now (vram .entry)) (now (row .exit)) frame) ⌝ }
+{
+    let device = run.device;
+    let machine = device.machine;
+    match machine {
+        Machine::Handheld => {
+            let vdp = device.vdp;
+            handheld_turn(run, step::row_step(vdp, vram, row, area))
+        }
+        Machine::Home => {
+            let home = device.home;
+            home_turn(run, home::row_step(home, vram, row))
+        }
+    }
+}
+
+// A step into the frame.
+fn frame_step_turn(run: Run, vram: &[u8], frame: &mut [u8], area: RenderArea) -> Turned
+    requires { ⌜ (run .at < 4294967296) × (run .count < 4294967296) ⌝ }
+    ensures { λ r. ⌜ ((row : List ℕ) → TurnLeaves (intoFrame area (held run (now (vram .entry)) row (now (frame .entry)))) r (now (vram .entry)) row (now (frame .exit))) ⌝ }
+{
+    let device = run.device;
+    let machine = device.machine;
+    match machine {
+        Machine::Handheld => {
+            let vdp = device.vdp;
+            handheld_turn(run, step::frame_step(vdp, vram, frame, area))
+        }
+        Machine::Home => {
+            let home = device.home;
+            home_turn(run, home::frame_step(home, vram, frame))
+        }
+    }
+}
+
+// Whether a machine has steps of this area.
+fn has_area(machine: Machine, area: RenderArea) -> bool
+    ensures { λ r. ⌜ r ≡ hasArea machine area ⌝ }
+{
+    match machine {
+        Machine::Handheld => true,
+        Machine::Home => match area {
+            RenderArea::VisibleOnly => true,
+            RenderArea::EffectiveArea => false,
+            RenderArea::TrueEdges => false,
+        },
+    }
+}
+
+// The record at the run's place, as its machine takes it.
+fn record_for(run: Run, input: &[u8]) -> Record
+    ensures { λ r. ⌜ r ≡ recordOn (run .device .machine) (now (input .entry)) (run .at) ⌝ }
+{
+    let at = run.at;
+    let device = run.device;
+    let machine = device.machine;
+    match record_at(input, at) {
+        Record::Write(port, value) => Record::Write(port, value),
+        Record::Read(port) => Record::Read(port),
+        Record::Step(area) => {
+            if has_area(machine, area) {
+                return Record::Step(area);
+            }
+            Record::Bad
+        }
+        Record::Bad => Record::Bad,
+        Record::End => Record::End,
     }
 }
 
@@ -106,12 +256,10 @@ pub fn row_turn(run: Run, input: &[u8], vram: &mut [u8], row: &mut [u8]) -> Turn
     requires { ⌜ (run .at < 4294967296) × (run .count < 4294967296) ⌝ }
     ensures { λ r. ⌜ TurnLeaves (turnOf rowTurn (now (input .entry)) (held run (now (vram .entry)) (now (row .entry)) [])) r (now (vram .exit)) (now (row .exit)) [] ⌝ }
 {
-    let at = run.at;
-    let vdp = run.vdp;
-    match record_at(input, at) {
+    match record_for(run, input) {
         Record::Write(port, value) => write_turn(run, vram, port, value),
         Record::Read(port) => read_turn(run, vram, port),
-        Record::Step(area) => step_turn(run, row_step(vdp, vram, row, area)),
+        Record::Step(area) => row_step_turn(run, vram, row, area),
         Record::Bad => Turned {
             answer: Answer::Nothing,
             run: run,
@@ -160,17 +308,24 @@ fn paint_layers(frame: &mut [u8], drawn: DrawnRow, layers: &[u8; 160])
     }
 }
 
-// A step of an area of the visible size, whose layers the frame shows.
+// A step of an area of the visible size, whose layers the frame shows; the home machine tells none.
 fn layer_turn(run: Run, vram: &[u8], row: &mut [u8], frame: &mut [u8], area: RenderArea) -> Turned
     requires { ⌜ (run .at < 4294967296) × (run .count < 4294967296) × (frameSize VisibleOnly ≤ length (now frame)) × (columns area ≡ columns VisibleOnly) ⌝ }
     ensures { λ r. ⌜ TurnLeaves (layersInto area (held run (now (vram .entry)) (now (row .entry)) (now (frame .entry)))) r (now (vram .entry)) (now (row .exit)) (now (frame .exit)) ⌝ }
 {
-    let vdp = run.vdp;
-    let mut layers = [0u8; 160];
-    let stepped = layer_row_step(vdp, vram, row, &mut layers, area);
-    let drawn = stepped.row;
-    paint_layers(frame, drawn, &layers);
-    step_turn(run, stepped)
+    let device = run.device;
+    let machine = device.machine;
+    match machine {
+        Machine::Handheld => {
+            let vdp = device.vdp;
+            let mut layers = [0u8; 160];
+            let stepped = layer_row_step(vdp, vram, row, &mut layers, area);
+            let drawn = stepped.row;
+            paint_layers(frame, drawn, &layers);
+            handheld_turn(run, stepped)
+        }
+        Machine::Home => row_step_turn(run, vram, row, area),
+    }
 }
 
 // A step of an area of the visible size, and what the frame shows of it.
@@ -185,9 +340,8 @@ fn visible_turn(
     requires { ⌜ (run .at < 4294967296) × (run .count < 4294967296) × (frameSize VisibleOnly ≤ length (now frame)) × (columns area ≡ columns VisibleOnly) ⌝ }
     ensures { λ r. ⌜ TurnLeaves (turnFor shown area (held run (now (vram .entry)) (now (row .entry)) (now (frame .entry)))) r (now (vram .entry)) (now (row .exit)) (now (frame .exit)) ⌝ }
 {
-    let vdp = run.vdp;
     match shown {
-        Shown::Colours => step_turn(run, frame_step(vdp, vram, frame, area)),
+        Shown::Colours => frame_step_turn(run, vram, frame, area),
         Shown::Layers => layer_turn(run, vram, row, frame, area),
     }
 }
@@ -204,16 +358,14 @@ pub fn frame_turn(
     requires { ⌜ (run .at < 4294967296) × (run .count < 4294967296) × (frameSize VisibleOnly ≤ length (now frame)) ⌝ }
     ensures { λ r. ⌜ TurnLeaves (turnOf (turnFor shown) (now (input .entry)) (held run (now (vram .entry)) (now (row .entry)) (now (frame .entry)))) r (now (vram .exit)) (now (row .exit)) (now (frame .exit)) ⌝ }
 {
-    let at = run.at;
-    let vdp = run.vdp;
-    match record_at(input, at) {
+    match record_for(run, input) {
         Record::Write(port, value) => write_turn(run, vram, port, value),
         Record::Read(port) => read_turn(run, vram, port),
         Record::Step(area) => match area {
             RenderArea::VisibleOnly => {
                 visible_turn(run, shown, vram, row, frame, RenderArea::VisibleOnly)
             }
-            RenderArea::EffectiveArea => step_turn(run, row_step(vdp, vram, row, area)),
+            RenderArea::EffectiveArea => row_step_turn(run, vram, row, area),
             RenderArea::TrueEdges => {
                 visible_turn(run, shown, vram, row, frame, RenderArea::TrueEdges)
             }

@@ -14,7 +14,7 @@ use Rattle.bitmap.specs.Mask.{bytesOf}
 use Rattle.bitmap.proofs.Circle.{bytesOf-ext}
 use Rattle.picture.specs.declared.Stand.{Stand}
 use Rattle.picture.specs.declared.Screen.{Screen}
-use Rattle.picture.specs.declared.Screen.the-variants.{VisibleOnly, EffectiveArea, TrueEdges}
+use Rattle.picture.specs.declared.Screen.the-variants.{VisibleOnly, EffectiveArea, TrueEdges, Home}
 use Rattle.picture.specs.Tile.{namesAt}
 use Rattle.picture.specs.View.{View, cutMark, early, visible, trueEdges}
 use Rattle.picture.specs.Picture.{Row, back, front, picture}
@@ -86,6 +86,7 @@ scrolled EffectiveArea vram reg names sx cut scroll line row₀ layers₀ colour
 scrolled TrueEdges vram reg names sx cut scroll line row₀ layers₀ colours w low ne se ce room re pe le drawn be =
     let d = view-row vram reg (trueEdges (at reg) scroll line) names sx ((line + 24 + scroll) % 224) cut ne (λ x l. rw se (visible-x (at reg 8) x low)) (λ x. refl) (λ x l. rw ce (effective-mark x (omega arith))) row₀ layers₀ colours room re pe le drawn be in
     (record { bytes = d .0; status = d .1 }, d .2)
+scrolled Home vram reg names sx cut scroll line row₀ layers₀ colours w low ne se ce room re pe le drawn be = absurd (omega arith)
 
 -- ---- what a drawn row leaves: the buffer's length, and all behind the row
 module _ (s : Screen) (colours : List ℕ) (p : Row) (row₀ row : List ℕ) (bits : ℕ) (d : Drawn s colours p row₀ row bits) where

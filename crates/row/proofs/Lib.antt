@@ -1,2 +1,3 @@
--- The laws of a drawn row.
+-- The laws of a drawn row, and of the home machine's.
 pub mod Laws
+pub mod Home

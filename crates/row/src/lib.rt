@@ -1,17 +1,25 @@
-// One row of a screen, drawn into a lent row buffer by the picture of sections 5 and 18, and the layers of its columns (section 15).
+// One row of a screen, drawn into a lent row buffer by the picture of sections 5, 18 and 20, and the layers of its columns (section 15).
 ghost use mathlib.Core.Path.{_≡_};
-ghost use mathlib.Core.Bool.{cond};
-ghost use Prim.Native.Nat.{ℕ, _+_, _<_, _≤_};
+ghost use mathlib.Core.Bool.{cond, _&&_};
+ghost use Prim.Native.Nat.{ℕ, _+_, _-_, _%_, _<_, _≤_};
 ghost use lib.ListN.{length};
+ghost use lib.Dec.{ltb};
+ghost use Rattle.laws.specs.Bits.{bit};
+ghost use Rattle.laws.specs.Lists.{at};
+ghost use Rattle.laws.specs.Paint.{painted};
 ghost use Rattle.laws.specs.Sizes.{vramSize};
-ghost use Rattle.picture.specs.declared.Screen.the-variants.{VisibleOnly, EffectiveArea};
+ghost use Rattle.bitmap.specs.Mask.{bytesOf, joined};
+ghost use Rattle.picture.specs.declared.Screen.the-variants.{VisibleOnly, EffectiveArea, Home};
 ghost use Rattle.picture.specs.Screen.{columns, rows, rowSize, pictureOf};
 ghost use Rattle.picture.specs.Layers.{layersOf, layersIn};
+ghost use Rattle.background.specs.Background.{Room, backColour, shade, prioTo};
 ghost use Rattle.row.specs.Row.{Drawn};
+use bitmap::Bitmap;
 use picture::Screen;
 use sprites::Line;
 
-// Width and first line of the visible area, with its own edges or with true ones; width and height of the map, which are those of the effective area.
+// Width and first line of the visible area, with its own edges or with true ones; width and height of the map, which are those of the effective area
+// (and its width that of the home machine); the home machine's first column that register 0 can keep from scrolling down.
 const GG_VISIBLE_PIXEL_WIDTH: usize = 160;
 
 const GG_VISIBLE_AREA_START_Y: usize = 24;
@@ -19,6 +27,8 @@ const GG_VISIBLE_AREA_START_Y: usize = 24;
 const SCROLL_PIXEL_WIDTH: usize = 256;
 
 const SCROLL_PIXEL_HEIGHT: usize = 224;
+
+const HOME_LOCKED_X: usize = 192;
 
 // The status bits that a line of sprites sets: 5 where two pixels met, 6 where there was a ninth.
 fn status_bits(line: Line) -> u8
@@ -126,6 +136,119 @@ fn render_line_effective(
     ))
 }
 
+// R20.4, R20.5: the map's column that column 0 of a home row shows: scrolled sideways, but not in the first 16 rows where register 0 bit 6 is set.
+fn home_column(reg: [u8; 11], line: usize) -> usize
+    ensures { λ r. ⌜ r ≡ cond (bit (at reg 0) 6 && ltb line 16) 0 ((256 - at reg 8) % 256) ⌝ }
+    ensures { λ r. ⌜ r < 256 ⌝ }
+{
+    if small::both(small::is_set(reg[0], 6), line < 16) {
+        0
+    } else {
+        (256 - small::wide(reg[8])) % 256
+    }
+}
+
+// R20.5: the map's line that the columns from 192 on show, where those before them show line y: the row's own where register 0 bit 7 is set.
+fn home_line(reg: [u8; 11], line: usize, y: usize) -> usize
+    ensures { λ r. ⌜ r ≡ cond (bit (at reg 0) 7) line y ⌝ }
+{
+    if small::is_set(reg[0], 7) { line } else { y }
+}
+
+// The background of a home row whose column 0 shows the map's pixel (sx, y), in two runs: the columns from 192 on show the map's line `last`. Answers
+// the priority mask.
+fn home_background(
+    row: &mut [u8],
+    vram: &[u8],
+    colours: &[u32; 32],
+    names: usize,
+    sx: usize,
+    y: usize,
+    last: usize,
+) -> Bitmap
+    requires { ⌜ Room (now vram) names sx y ⌝ }
+    requires { ⌜ (rowSize Home ≤ length (now row)) × (last < 224) ⌝ }
+    ensures { λ r. ⌜ now (row .exit) ≡ painted (painted (now (row .entry)) 0 192 (shade (now (colours .entry)) (backColour (now (vram .entry)) names sx y))) 192 64 (shade (now (colours .entry)) (backColour (now (vram .entry)) names ((sx + 192) % 256) last)) ⌝ }
+    ensures { λ r. ⌜ r .bits ≡ joined (bytesOf (prioTo (now (vram .entry)) names sx y 0 192)) (bytesOf (prioTo (now (vram .entry)) names ((sx + 192) % 256) last 0 64)) ⌝ }
+{
+    let left = background::render_background_line(
+        row,
+        vram,
+        colours,
+        names,
+        sx,
+        y,
+        HOME_LOCKED_X,
+        0,
+    );
+    let from = HOME_LOCKED_X * 4;
+    let to = SCROLL_PIXEL_WIDTH * 4;
+    let right = background::render_background_line(
+        &mut row[from..to],
+        vram,
+        colours,
+        names,
+        (sx + HOME_LOCKED_X) % SCROLL_PIXEL_WIDTH,
+        last,
+        SCROLL_PIXEL_WIDTH - HOME_LOCKED_X,
+        0,
+    );
+    left.join(right)
+}
+
+// R20.6: the first eight pixels in one colour, where `on`.
+fn fill(row: &mut [u8], on: bool, c: u32)
+    requires { ⌜ 32 ≤ length (now row) ⌝ }
+    ensures { λ r. ⌜ now (row .exit) ≡ cond on (painted (now (row .entry)) 0 8 (λ i. c)) (now (row .entry)) ⌝ }
+{
+    if !on {
+        return;
+    }
+    let mut x: usize = 0;
+    while x < 8 {
+        tile::pixel_set_full(row, x, c);
+        x += 1;
+    }
+}
+
+// Row `line` of the home machine: scrolled both ways but where a lock holds, its sprites by its own line, and the fill over all.
+fn render_line_home(
+    row: &mut [u8],
+    layers: &mut [u8],
+    vram: &[u8],
+    colours: &[u32; 32],
+    reg: [u8; 11],
+    scroll: usize,
+    line: usize,
+) -> u8
+    requires { ⌜ (length (now vram) ≡ vramSize) × (rowSize Home ≤ length (now row)) × (scroll < 256) × (line < rows Home) ⌝ }
+    ensures { λ r. ⌜ Drawn Home (now (colours .entry)) (pictureOf Home reg scroll (now (vram .entry)) line) (now (row .entry)) (now (row .exit)) r ⌝ }
+    ensures { λ r. ⌜ now (layers .exit) ≡ layersIn (now (layers .entry)) (columns Home) (layersOf Home reg scroll (now (vram .entry)) line) ⌝ }
+{
+    clear(layers, SCROLL_PIXEL_WIDTH);
+    let sx = home_column(reg, line);
+    let y = (line + scroll) % SCROLL_PIXEL_HEIGHT;
+    let last = home_line(reg, line, y);
+    let prio = home_background(row, vram, colours, background::names_at(reg), sx, y, last);
+    let bits = status_bits(sprites::render_sprites_line(
+        row,
+        layers,
+        vram,
+        colours,
+        Screen::Home,
+        reg,
+        line,
+        SCROLL_PIXEL_WIDTH,
+        prio,
+    ));
+    fill(
+        row,
+        small::is_set(reg[0], 5),
+        colours[16 + small::wide(reg[7]) % 16],
+    );
+    bits
+}
+
 // Row `line` of a screen, by the registers, the latched scroll, the cached colours and video memory; answers the status bits
 // that it sets. Its layers go to the first bytes of `layers`, one a column; a buffer with fewer bytes asks for none.
 pub fn render_line(
@@ -152,5 +275,6 @@ pub fn render_line(
         Screen::TrueEdges => {
             render_line_visible(row, layers, vram, colours, Screen::TrueEdges, reg, s, l)
         }
+        Screen::Home => render_line_home(row, layers, vram, colours, reg, s, l),
     }
 }

@@ -1,6 +1,7 @@
 // Writes the picture that a recording draws on a fresh device, one of the chart's line table, as a binary PPM.
 ghost use mathlib.Core.Path.{_≡_};
 ghost use lib.ListN.{length, replicate};
+use recording::Device;
 use vdp::VdpState;
 
 // A visible frame, zeroed: the contract says so, and gives its length, which the caller's check then need not compute.
@@ -19,6 +20,7 @@ fn room() -> [u8; 69_135]
 }
 
 fn main() {
+    let device = Device::handheld(VdpState::new());
     let mut vram = [0u8; 16384];
     let mut row = [0u8; 1024];
     let mut frame = blank();
@@ -38,7 +40,7 @@ fn main() {
     }
     let n = taken.len;
     let k = recording::snapshot(
-        VdpState::new(),
+        device,
         &input[..n],
         &mut vram,
         &mut row,

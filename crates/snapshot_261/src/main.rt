@@ -3,6 +3,7 @@
 ghost use mathlib.Core.Path.{_≡_};
 ghost use lib.ListN.{length, replicate};
 use raster::LineTable;
+use recording::Device;
 use vdp::VdpState;
 
 // A visible frame, zeroed: the contract says so, and gives its length, which the caller's check then need not compute.
@@ -21,6 +22,7 @@ fn room() -> [u8; 69_135]
 }
 
 fn main() {
+    let device = Device::handheld(VdpState::with_table(LineTable::Steps261));
     let mut vram = [0u8; 16384];
     let mut row = [0u8; 1024];
     let mut frame = blank();
@@ -40,7 +42,7 @@ fn main() {
     }
     let n = taken.len;
     let k = recording::snapshot(
-        VdpState::with_table(LineTable::Steps261),
+        device,
         &input[..n],
         &mut vram,
         &mut row,

@@ -12,7 +12,7 @@ use Rattle.laws.specs.Sizes.{vramSize}
 use Rattle.bitmap.specs.Mask.{bytesOf}
 use Rattle.picture.specs.declared.Stand.{Stand}
 use Rattle.picture.specs.declared.Screen.{Screen}
-use Rattle.picture.specs.declared.Screen.the-variants.{VisibleOnly, EffectiveArea, TrueEdges}
+use Rattle.picture.specs.declared.Screen.the-variants.{VisibleOnly, EffectiveArea, TrueEdges, Home}
 use Rattle.picture.specs.View.{visibleStand, effectiveStand, edgeStand}
 use Rattle.picture.specs.Picture.{listed, topOf, withSprites, bare}
 use Rattle.picture.specs.Layers.{layersWith, layersIn}
@@ -24,6 +24,7 @@ abbrev pub standOf : Screen → ℕ → ℕ → Stand
 standOf VisibleOnly e h = visibleStand e h
 standOf EffectiveArea e h = effectiveStand e h
 standOf TrueEdges e h = edgeStand 48 160 e h
+standOf Home e h = edgeStand 0 256 e h
 
 -- what the drawing of a sprite that stands at s asks
 pub record Fits (s : Stand) : Type 0 where

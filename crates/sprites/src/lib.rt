@@ -1,4 +1,4 @@
-// The sprites of a line, over its background: which are on it (R5.6, R5.7), where each stands (R5.9, R5.10, R18.2), and what their pixels meet (R5.11, R5.12).
+// The sprites of a line, over its background: which are on it (R5.6, R5.7), where each stands (R5.9, R5.10, R18.2, R20.7), and what their pixels meet (R5.11, R5.12).
 ghost use mathlib.Core.Path.{_≡_};
 ghost use mathlib.Core.Bool.{Bool, cond, not, _||_};
 ghost use mathlib.Core.List.{List};
@@ -167,6 +167,7 @@ pub fn settings(screen: Screen, e: u8, h: u8) -> Stand
         Screen::VisibleOnly => sprite_line_settings_visible(e, h),
         Screen::EffectiveArea => sprite_line_settings_effective(e, h),
         Screen::TrueEdges => sprite_line_settings_true(48, 160, e, h),
+        Screen::Home => sprite_line_settings_true(0, 256, e, h),
     }
 }
 

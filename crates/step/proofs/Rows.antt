@@ -8,7 +8,7 @@ use borrow.Author.Tests.{lt-ltb, le-ltb, le-leb, lt-leb, ltb-true, leb-true}
 use lib.Dec.{ltb, leb}
 use Rattle.laws.proofs.Tests.{both}
 use Rattle.picture.specs.declared.Screen.{Screen}
-use Rattle.picture.specs.declared.Screen.the-variants.{VisibleOnly, EffectiveArea, TrueEdges}
+use Rattle.picture.specs.declared.Screen.the-variants.{VisibleOnly, EffectiveArea, TrueEdges, Home}
 use Rattle.picture.specs.Screen.{rows, firstLine, rowSize, frameSize}
 use Rattle.step.specs.declared.DrawnRow.{DrawnRow}
 use Rattle.step.specs.declared.DrawnRow.the-variants.{NoRow, Drawn}
@@ -59,24 +59,29 @@ pub row-end : (a : Screen) (y : ℕ) → y < rows a → y * rowSize a + rowSize 
 row-end VisibleOnly y h = omega arith
 row-end EffectiveArea y h = omega arith
 row-end TrueEdges y h = omega arith
+row-end Home y h = omega arith
 
 pub part-end : (a : Screen) (r : DrawnRow) → RowIn a r → startOf a r + rowSize a ≤ frameSize a
 part-end VisibleOnly NoRow i = omega arith
 part-end EffectiveArea NoRow i = omega arith
 part-end TrueEdges NoRow i = omega arith
+part-end Home NoRow i = omega arith
 part-end a (Drawn y) i = row-end a y (i y refl)
 
 pub frame-small : (a : Screen) → frameSize a ≤ 229376
 frame-small VisibleOnly = omega arith
 frame-small EffectiveArea = omega arith
 frame-small TrueEdges = omega arith
+frame-small Home = omega arith
 
 pub start-small : (a : Screen) (y : ℕ) → y < 256 → y * rowSize a ≤ 261120
 start-small VisibleOnly y h = omega arith
 start-small EffectiveArea y h = omega arith
 start-small TrueEdges y h = omega arith
+start-small Home y h = omega arith
 
 pub frame-rows : (a : Screen) → frameSize a ≡ rowSize a * rows a
 frame-rows VisibleOnly = refl
 frame-rows EffectiveArea = refl
 frame-rows TrueEdges = refl
+frame-rows Home = refl

@@ -3,6 +3,7 @@
 ghost use mathlib.Core.Path.{_≡_};
 ghost use mathlib.Core.Bool.{false, cond};
 ghost use Prim.Native.Nat.{_≤_, _<_};
+ghost use lib.Dec.{ltb};
 ghost use lib.ListN.{length};
 ghost use Rattle.laws.specs.Sizes.{vramSize};
 ghost use Rattle.colour.specs.Colour.{coloursOf};
@@ -10,6 +11,7 @@ ghost use Rattle.picture.specs.declared.Screen.the-variants.{VisibleOnly};
 ghost use Rattle.picture.specs.Screen.{columns, rows, rowSize, frameSize, pictureOf};
 ghost use Rattle.picture.specs.Area.{screenOf};
 ghost use Rattle.picture.specs.Layers.{layersOf};
+ghost use Rattle.step.specs.declared.DrawnRow.the-variants.{NoRow, Drawn};
 ghost use Rattle.step.specs.Points.{interruptNumber, reportNumber, reading, rowOn, RowIn, bitsOf, endedBy, reportBy, interruptBy, refusedPoints, rowLines};
 ghost use Rattle.step.specs.Bytes.{rowWith, layersBy, startOf, layersUnder, RowPointsLeave, FramePointsLeave, RowLayerPointsLeave, FrameLayerPointsLeave};
 ghost use Rattle.step.specs.Step.{coloursNow, cleaned, joined};
@@ -34,6 +36,8 @@ const GG_VISIBLE_AREA_START_Y: u8 = 24;
 const GG_VISIBLE_AREA_END_Y: u8 = 168;
 
 const SCROLL_PIXEL_HEIGHT: u8 = 224;
+
+const HOME_PIXEL_HEIGHT: u8 = 192;
 
 // Whether a step asks the processor for an interrupt.
 pub enum VdpInt {
@@ -95,7 +99,7 @@ pub struct Stepped {
     pub vdp: VdpState,
 }
 
-// R4.2: the row that a line draws, on a screen of the visible size and on each screen.
+// R4.2, R20.1: the row that a line draws, on a screen of the visible size and on each screen.
 fn visible_row(line: u8) -> DrawnRow
     ensures { λ r. ⌜ r ≡ rowOn VisibleOnly line ⌝ }
 {
@@ -108,18 +112,24 @@ fn visible_row(line: u8) -> DrawnRow
     DrawnRow::Drawn(line - GG_VISIBLE_AREA_START_Y)
 }
 
+// The same on a screen of so many rows whose row 0 is on line 0.
+fn top_row(line: u8, rows: u8) -> DrawnRow
+    ensures { λ r. ⌜ r ≡ cond (ltb line rows) (Drawn line) NoRow ⌝ }
+{
+    if rows <= line {
+        return DrawnRow::NoRow;
+    }
+    DrawnRow::Drawn(line)
+}
+
 fn row_on(screen: Screen, line: u8) -> DrawnRow
     ensures { λ r. ⌜ r ≡ rowOn screen line ⌝ }
 {
     match screen {
         Screen::VisibleOnly => visible_row(line),
-        Screen::EffectiveArea => {
-            if SCROLL_PIXEL_HEIGHT <= line {
-                return DrawnRow::NoRow;
-            }
-            DrawnRow::Drawn(line)
-        }
+        Screen::EffectiveArea => top_row(line, SCROLL_PIXEL_HEIGHT),
         Screen::TrueEdges => visible_row(line),
+        Screen::Home => top_row(line, HOME_PIXEL_HEIGHT),
     }
 }
 
@@ -209,6 +219,7 @@ fn column_count(screen: Screen) -> usize
         Screen::VisibleOnly => 160,
         Screen::EffectiveArea => 256,
         Screen::TrueEdges => 160,
+        Screen::Home => 256,
     }
 }
 
@@ -219,6 +230,7 @@ fn row_count(screen: Screen) -> usize
         Screen::VisibleOnly => 144,
         Screen::EffectiveArea => 224,
         Screen::TrueEdges => 144,
+        Screen::Home => 192,
     }
 }
 
@@ -229,6 +241,7 @@ fn row_size(screen: Screen) -> usize
         Screen::VisibleOnly => 640,
         Screen::EffectiveArea => 1024,
         Screen::TrueEdges => 640,
+        Screen::Home => 1024,
     }
 }
 
@@ -239,6 +252,7 @@ fn frame_size(screen: Screen) -> usize
         Screen::VisibleOnly => 92160,
         Screen::EffectiveArea => 229376,
         Screen::TrueEdges => 92160,
+        Screen::Home => 196608,
     }
 }
 

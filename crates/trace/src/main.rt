@@ -1,6 +1,7 @@
 // Prints what a recording does, call by call, on a fresh device: one of the chart's line table.
 ghost use mathlib.Core.Path.{_≡_};
 ghost use lib.ListN.{length};
+use recording::Device;
 use vdp::VdpState;
 
 // Room for the text of any recording. The contract gives only the length: so long an array then costs its caller's check nothing.
@@ -11,6 +12,7 @@ fn room() -> [u8; 327_700]
 }
 
 fn main() {
+    let device = Device::handheld(VdpState::new());
     let mut vram = [0u8; 16384];
     let mut row = [0u8; 1024];
     let mut text = room();
@@ -28,6 +30,6 @@ fn main() {
         return;
     }
     let n = taken.len;
-    let k = recording::trace(VdpState::new(), &input[..n], &mut vram, &mut row, &mut text);
+    let k = recording::trace(device, &input[..n], &mut vram, &mut row, &mut text);
     program::output(b"trace", &text[..k]);
 }

@@ -2,6 +2,7 @@
 ghost use mathlib.Core.Path.{_≡_};
 ghost use lib.ListN.{length};
 use raster::LineTable;
+use recording::Device;
 use vdp::VdpState;
 
 // Room for the text of any recording. The contract gives only the length: so long an array then costs its caller's check nothing.
@@ -12,6 +13,7 @@ fn room() -> [u8; 327_700]
 }
 
 fn main() {
+    let device = Device::handheld(VdpState::with_table(LineTable::Steps261));
     let mut vram = [0u8; 16384];
     let mut row = [0u8; 1024];
     let mut text = room();
@@ -29,12 +31,6 @@ fn main() {
         return;
     }
     let n = taken.len;
-    let k = recording::trace(
-        VdpState::with_table(LineTable::Steps261),
-        &input[..n],
-        &mut vram,
-        &mut row,
-        &mut text,
-    );
+    let k = recording::trace(device, &input[..n], &mut vram, &mut row, &mut text);
     program::output(b"trace-261", &text[..k]);
 }

@@ -1,12 +1,15 @@
--- From a fresh device, after any port calls, the address is below 16,384, and below 64 where the palette is chosen.
+-- From a fresh device, after any port calls, the address is below 16,384, and below 64 where the palette is chosen; and 7 comes only where it lies outside.
 -- Assumes nothing.
 use Prim.Native.Nat.{ℕ, _%_, _/_, _<_}
 use mathlib.Core.Path.{_≡_, refl}
+use mathlib.Core.Logic.{_≢_}
+use mathlib.Core.Bool.{Bool, true, not, _&&_}
 use mathlib.Core.List.{List, [], _∷_}
 use lib.Dec.{ltb, eqb}
 use native.Mathlib.Nat.{mod-lt}
 use native.Mathlib.Omega.{arith}
-use Rattle.laws.proofs.Tests.{either}
+use borrow.Author.Tests.{ltb-false, not-true}
+use Rattle.laws.proofs.Tests.{either, both}
 use Rattle.vdp.specs.declared.Front.{Front}
 use Rattle.vdp.specs.declared.FrontWritten.{FrontWritten}
 use Rattle.vdp.specs.declared.FrontRead.{FrontRead}
@@ -18,9 +21,10 @@ use Rattle.vdp.specs.declared.Latch.{Latch}
 use Rattle.vdp.specs.declared.Latch.the-variants.{Empty, Held}
 use Rattle.vdp.specs.Front.{FrontAfter, emptied, secondByte, commandBy, dataBy, readBy}
 use Rattle.vdp.specs.Device.{frontOf, unlatched}
-use Rattle.vdp.specs.Refusals.{sizeOf, size, whole, isPort}
+use Rattle.vdp.specs.Refusals.{refusalNumber, Line, first, sizeOf, size, whole, isPort, frontWriteLines, frontReadLines}
 use Rattle.vdp.specs.Ports.{frontWrite, frontRead, oddPalette, paletteWrite, portWrite, portRead}
 use Rattle.vdp.proofs.Kept.{write-kept}
+use Rattle.vdp.proofs.Tables.{Silent, first-not}
 use Rattle.vdp.specs.Calls.{Call, write, read, World, after, afterAll, start}
 
 -- the address lies in the memory that is chosen
@@ -78,6 +82,23 @@ module _ (n : ℕ) (some : 0 < n) where
       (λ _. either LeftRead (isPort 0xBF p) (λ _. h)
       (λ _. either LeftRead (isPort 0xBE p) (λ _. read-by (f .dest) (emptied f) m refl h) (λ _. h)))))
       (λ _. h)
+
+-- the line of 7 does not hold where the address is inside; `more` are the tests of that palette's own
+module _ (n : ℕ) (f : Front) (m : List ℕ) (p : ℕ) (h : AimedFront n f) where
+  not-outside : (b : Bool) → (b && not (ltb (f .addr) (sizeOf n (f .dest)))) ≡ true → ⊥
+  not-outside b e =
+      let t : Bool = ltb (f .addr) (sizeOf n (f .dest)) in
+      omega (arith, ltb-false (f .addr) (sizeOf n (f .dest)) (not-true t (both b (not t) e .1)))
+
+  pub front-write-inside : (v : ℕ) (more : List Line) → Silent 7 more → refusalNumber (first (frontWriteLines n f m p v more)) ≢ 7
+  front-write-inside v more s =
+      first-not 7 (λ z. omega arith) (frontWriteLines n f m p v more)
+      (λ _. omega arith, (λ _. omega arith, (λ _. omega arith, (λ _. omega arith, (λ e. absurd (not-outside (isPort 0xBE p) e), s)))))
+
+  pub front-read-inside : refusalNumber (first (frontReadLines n f m p)) ≢ 7
+  front-read-inside =
+      first-not 7 (λ z. omega arith) (frontReadLines n f m p)
+      (λ _. omega arith, (λ _. omega arith, (λ _. omega arith, (λ _. omega arith, (λ _. omega arith, (λ e. absurd (not-outside (isPort 0xBE p) e), tt))))))
 
 -- ---- of the device
 abbrev LeftBy : Written → Type 0

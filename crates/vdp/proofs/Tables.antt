@@ -4,6 +4,7 @@ use mathlib.Core.Path.{_≡_, refl, ap}
 use mathlib.Core.Logic.{_≢_}
 use mathlib.Core.Bool.{true, false, cond}
 use mathlib.Core.List.{List, [], _∷_}
+use Prim.Native.Nat.{ℕ}
 use Rattle.laws.proofs.Tests.{split, either}
 use Rattle.vdp.specs.declared.Refusal.{Refusal}
 use Rattle.vdp.specs.declared.Refusal.the-variants.{Accepted}
@@ -42,3 +43,13 @@ under-refused (l ∷ ls) refuse call n = split (l .holds) (λ t. simp t) (λ t. 
 pub passed : (ls : List Line) → Refusing ls → first ls ≡ Accepted → Passed ls
 passed [] q e = tt
 passed (l ∷ ls) q e = split (l .holds) (λ t. absurd (q .0 (simp t at e))) (λ t. (t, passed ls (q .1) (simp t at e)))
+
+-- a number that no line gives which holds
+module _ (n : ℕ) where
+  abbrev pub Silent : List Line → Type 0
+  Silent [] = Unit {0}
+  Silent (l ∷ ls) = (l .holds ≡ true → refusalNumber (l .refusal) ≢ n) × Silent ls
+
+  pub first-not : 0 ≢ n → (ls : List Line) → Silent ls → refusalNumber (first ls) ≢ n
+  first-not z [] s = z
+  first-not z (l ∷ ls) s = either (λ r. refusalNumber r ≢ n) (l .holds) (s .0) (λ _. first-not z ls (s .1))

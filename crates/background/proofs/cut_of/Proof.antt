@@ -18,6 +18,10 @@ enum-told-2 c = search needs
 enum-told-3 : tie.Need-enum-told-3
 enum-told-3 c = search needs
 
+-- src/lib.rt:59:25
+enum-told-4 : tie.Need-enum-told-4
+enum-told-4 c = search needs
+
 -- src/lib.rt:51:1
 returns : tie.Need-returns
 returns c = (rw (c .enum-told .given .1), inr refl)
@@ -30,5 +34,9 @@ returns-2 c = (rw (c .enum-told2 .given .1), inl refl)
 returns-3 : tie.Need-returns-3
 returns-3 c = (rw (c .enum-told3 .given .1), inl refl)
 
+-- src/lib.rt:51:1
+returns-4 : tie.Need-returns-4
+returns-4 c = (rw (c .enum-told4 .given .1), inl refl)
+
 pub cut-of-spec : {M : Type 1} → statement M
-cut-of-spec = tie.close (tie.spec enum-told enum-told-2 enum-told-3 returns returns-2 returns-3)
+cut-of-spec = tie.close (tie.spec enum-told enum-told-2 enum-told-3 enum-told-4 returns returns-2 returns-3 returns-4)

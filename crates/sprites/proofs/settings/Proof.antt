@@ -31,6 +31,14 @@ enum-told-3 c = search needs
 sprite-line-settings-true-requires : tie.Need-sprite-line-settings-true-requires
 sprite-line-settings-true-requires c κs = search needs
 
+-- src/lib.rt:170:25
+enum-told-4 : tie.Need-enum-told-4
+enum-told-4 c = search needs
+
+-- src/lib.rt:170:25
+sprite-line-settings-true-requires-2 : tie.Need-sprite-line-settings-true-requires-2
+sprite-line-settings-true-requires-2 c κs = search needs
+
 -- src/lib.rt:161:1
 returns : tie.Need-returns
 returns c = (rw (c .before .enum-told .given .1) (c .sprite-line-settings-visible .ensures .0), c .sprite-line-settings-visible .ensures .1)
@@ -43,6 +51,10 @@ returns-2 c = (rw (c .before .enum-told2 .given .1) (c .sprite-line-settings-eff
 returns-3 : tie.Need-returns-3
 returns-3 c = (rw (c .before .enum-told3 .given .1) (c .sprite-line-settings-true .ensures .0), c .sprite-line-settings-true .ensures .1)
 
+-- src/lib.rt:161:1
+returns-4 : tie.Need-returns-4
+returns-4 c = (rw (c .before .enum-told4 .given .1) (c .sprite-line-settings-true2 .ensures .0), c .sprite-line-settings-true2 .ensures .1)
+
 pub settings-spec : {M : Type 1} → statement M
 settings-spec =
     tie.close
@@ -53,6 +65,9 @@ settings-spec =
     sprite-line-settings-effective-requires
     enum-told-3
     sprite-line-settings-true-requires
+    enum-told-4
+    sprite-line-settings-true-requires-2
     returns
     returns-2
-    returns-3)
+    returns-3
+    returns-4)

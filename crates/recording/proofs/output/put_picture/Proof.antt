@@ -13,40 +13,40 @@ use Rattle.recording.proofs.output.put_picture.Lts as lts
 use Rattle.recording.proofs.output.put_ppm.Reads as put-ppm-reads
 use Rattle.recording.proofs.text.put_numbered.Reads as put-numbered-reads
 
--- src/output.rt:80:9
+-- src/output.rt:111:9
 put-ppm-requires : tie.Need-put-ppm-requires
 put-ppm-requires c κs = search needs
 
--- src/output.rt:80:9
+-- src/output.rt:111:9
 same-length : tie.Need-same-length
 same-length c = search needs
 
--- src/output.rt:80:9
+-- src/output.rt:111:9
 returns : tie.Need-returns
 returns c =
     let a = c .before .before .before .before .before .before .before .before .before .args in
-    let q = drawn-end (a .input .now) (a .run) (a .frame .now) (c .before .before .before .before .if1 .taken) in
+    let q = drawn-end (a .machine) (a .input .now) (a .run) (a .frame .now) (c .before .before .before .before .if1 .taken) in
     let p = c .before .before .put-ppm .ensures in
     (p .0 ∙ ap length q, p .1 ∙ ap (written (a .out .now) 0) q)
 
--- src/output.rt:82:26
+-- src/output.rt:113:26
 slice-aggregate-put-numbered : tie.Need-slice-aggregate-put-numbered
 slice-aggregate-put-numbered c = search needs
 
--- src/output.rt:82:5
+-- src/output.rt:113:5
 put-numbered-requires : tie.Need-put-numbered-requires
 put-numbered-requires c κs = search needs
 
--- src/output.rt:74:1
+-- src/output.rt:105:1
 same-length-2 : tie.Need-same-length-2
 same-length-2 c = search needs
 
--- src/output.rt:74:1
+-- src/output.rt:105:1
 returns-2 : tie.Need-returns-2
 returns-2 c =
     let a = c .before .before .before .before .before .before .before .before .before .before .args in
-    let g = put-as (a .out .now) 0 (drawn-bad (a .input .now) (a .run) (a .frame .now) (c .before .before .before .before .before .if1 .left)) (c .before .before .put-numbered .ensures) in
-    (g .0 ∙ zero-add (length (drawn (a .input .now) (a .run) (a .frame .now))), g .1)
+    let g = put-as (a .out .now) 0 (drawn-bad (a .machine) (a .input .now) (a .run) (a .frame .now) (c .before .before .before .before .before .if1 .left)) (c .before .before .put-numbered .ensures) in
+    (g .0 ∙ zero-add (length (drawn (a .machine) (a .input .now) (a .run) (a .frame .now))), g .1)
 
 pub put-picture-spec : {M : Type 1} → statement M
 put-picture-spec =

@@ -28,56 +28,56 @@ Inv-loop input vram₀ row₀ out₀ run₀ len₀ i₀ vram row out run len i =
 abbrev μ-loop : tie.MeasureT-loop
 μ-loop input vram₀ row₀ out₀ run₀ len₀ i₀ vram row out run len i = length input - i
 
--- src/output.rt:35:9
+-- src/output.rt:43:9
 returns : tie.Need-returns Inv-loop μ-loop
 returns c =
     let a = c .before .before .before .before .before .args in
     let s = a .input .now in
     let o = a .out .now in
-    let w = start (a .vdp) (a .vram .now) (a .row .now) [] in
+    let w = start (a .device) (a .vram .now) (a .row .now) [] in
     (trace-leaves w (trace-no-room s w o (c .if1 .taken)), lent 0 o (omega arith))
 
--- src/output.rt:38:32
+-- src/output.rt:46:32
 slice-aggregate-put-all : tie.Need-slice-aggregate-put-all Inv-loop μ-loop
 slice-aggregate-put-all c = search needs
 
--- src/output.rt:38:9
+-- src/output.rt:46:9
 put-all-requires : tie.Need-put-all-requires Inv-loop μ-loop
 put-all-requires c κs = search needs
 
--- src/output.rt:38:9
+-- src/output.rt:46:9
 same-length : tie.Need-same-length Inv-loop μ-loop
 same-length c = search needs
 
--- src/output.rt:38:9
+-- src/output.rt:46:9
 returns-2 : tie.Need-returns-2 Inv-loop μ-loop
 unfolding longLine
 returns-2 c =
     let a = c .before .before .before .before .before .before .before .before .before .before .before .args in
     let s = a .input .now in
     let o = a .out .now in
-    let w = start (a .vdp) (a .vram .now) (a .row .now) [] in
+    let w = start (a .device) (a .vram .now) (a .row .now) [] in
     let big : 327700 ≤ length o = c .before .before .before .before .before .before .if1 .left in
     let p = c .before .before .put-all .ensures in
     (trace-leaves w (trace-long s w o big (c .before .before .before .before .before .if2 .taken) (p .0) (p .1)), lent (c .before .before .put-all .result) (c .before .before .put-all .last .0) (omega (arith, p .0, c .before .before .put-all .kept .0)))
 
--- src/output.rt:47:5
+-- src/output.rt:55:5
 loop-holds : tie.Need-loop-holds Inv-loop μ-loop
 unfolding after lines
 loop-holds c =
     let a = c .before .before .before .before .before .before .args in
     let s = a .input .now in
     let o = a .out .now in
-    let w = start (a .vdp) (a .vram .now) (a .row .now) [] in
-    (omega arith, (λ j. held (record { vdp = a .vdp; at = 0; count = 0 }) (a .vram .now) (a .row .now) []), refl, sym (written-nil o 0), refl, refl, refl)
+    let w = start (a .device) (a .vram .now) (a .row .now) [] in
+    (omega arith, (λ j. held (record { device = a .device; at = 0; count = 0 }) (a .vram .now) (a .row .now) []), refl, sym (written-nil o 0), refl, refl, refl)
 
--- src/output.rt:48:13
+-- src/output.rt:56:13
 row-turn-requires : tie.Need-row-turn-requires Inv-loop μ-loop
 row-turn-requires c κs =
     let a = c .before .before .before .before .before .before .before .before .before .before .args in
     let s = a .input .now in
     let o = a .out .now in
-    let w = start (a .vdp) (a .vram .now) (a .row .now) [] in
+    let w = start (a .device) (a .vram .now) (a .row .now) [] in
     let short : length s ≤ 65535 = c .before .before .before .before .if2 .left in
     let big : 327700 ≤ length o = c .before .before .before .before .before .if1 .left in
     let l = c .before .before .before .loop in
@@ -85,13 +85,13 @@ row-turn-requires c κs =
     let g = ran-small row-moves (l .i) s w e refl refl in
     (omega (arith, g .inside), omega (arith, g .inside, g .counted))
 
--- src/output.rt:50:9
+-- src/output.rt:58:9
 put-answer-requires : tie.Need-put-answer-requires Inv-loop μ-loop
 put-answer-requires c κs =
     let a = c .before .before .before .before .before .before .before .before .before .before .before .before .before .before .before .before .args in
     let s = a .input .now in
     let o = a .out .now in
-    let w = start (a .vdp) (a .vram .now) (a .row .now) [] in
+    let w = start (a .device) (a .vram .now) (a .row .now) [] in
     let short : length s ≤ 65535 = c .before .before .before .before .before .before .before .before .before .before .if2 .left in
     let big : 327700 ≤ length o = c .before .before .before .before .before .before .before .before .before .before .before .if1 .left in
     let l = c .before .before .before .before .before .before .before .before .before .loop in
@@ -99,21 +99,21 @@ put-answer-requires c κs =
     let g = ran-small row-moves (l .i) s w e refl refl in
     omega (arith, g .inside, g .short, l .inv .2, l .inv .6)
 
--- src/output.rt:52:9
+-- src/output.rt:60:9
 add-i : tie.Need-add-i Inv-loop μ-loop
 add-i c = search needs
 
--- src/output.rt:47:5
+-- src/output.rt:55:5
 loop-less : tie.Need-loop-less Inv-loop μ-loop
 loop-less c = search needs
 
--- src/output.rt:47:5
+-- src/output.rt:55:5
 loop-again : tie.Need-loop-again Inv-loop μ-loop
 loop-again c =
     let a = c .before .before .before .before .before .before .before .before .before .before .before .before .before .before .before .before .before .before .before .before .args in
     let s = a .input .now in
     let o = a .out .now in
-    let w = start (a .vdp) (a .vram .now) (a .row .now) [] in
+    let w = start (a .device) (a .vram .now) (a .row .now) [] in
     let short : length s ≤ 65535 = c .before .before .before .before .before .before .before .before .before .before .before .before .before .before .if2 .left in
     let big : 327700 ≤ length o = c .before .before .before .before .before .before .before .before .before .before .before .before .before .before .before .if1 .left in
     let l = c .before .before .before .before .before .before .before .before .before .before .before .before .before .loop in
@@ -123,15 +123,15 @@ loop-again c =
     let p = c .before .before .before .put-answer in
     let room : length (lines rowTurn (l .i) s w) ≤ length o = omega (arith, g .inside, g .short) in
     let m = text-more rowTurn s w (l .i) e o (t .ensures) room (l .inv .2) (l .inv .3) (p .ensures) in
-    (omega arith, world-more rowTurn s w (l .i) e (t .ensures), m .0, m .1, t .kept .1 .1 .0 ∙ l .inv .4, t .kept .1 .1 .1 .0 ∙ l .inv .5, p .kept .0 ∙ l .inv .6)
+    (omega (arith, c .before .before .before .before .before .before .before .before .before .before .before .before .loop-test .taken), world-more rowTurn s w (l .i) e (t .ensures), m .0, m .1, t .kept .1 .1 .0 ∙ l .inv .4, t .kept .1 .1 .1 .0 ∙ l .inv .5, p .kept .0 ∙ l .inv .6)
 
--- src/output.rt:54:5
+-- src/output.rt:62:5
 put-last-requires : tie.Need-put-last-requires Inv-loop μ-loop
 put-last-requires c κs =
     let a = c .before .before .before .before .before .before .before .before .before .args in
     let s = a .input .now in
     let o = a .out .now in
-    let w = start (a .vdp) (a .vram .now) (a .row .now) [] in
+    let w = start (a .device) (a .vram .now) (a .row .now) [] in
     let short : length s ≤ 65535 = c .before .before .before .if2 .left in
     let big : 327700 ≤ length o = c .before .before .before .before .if1 .left in
     let l = c .before .before .loop in
@@ -139,25 +139,25 @@ put-last-requires c κs =
     let g = ran-small row-moves (l .i) s w e refl refl in
     omega (arith, g .inside, g .short, l .inv .2, l .inv .6)
 
--- src/output.rt:30:1
+-- src/output.rt:38:1
 same-length-2 : tie.Need-same-length-2 Inv-loop μ-loop
 same-length-2 c = search needs
 
--- src/output.rt:30:1
+-- src/output.rt:38:1
 same-length-3 : tie.Need-same-length-3 Inv-loop μ-loop
 same-length-3 c = search needs
 
--- src/output.rt:30:1
+-- src/output.rt:38:1
 same-length-4 : tie.Need-same-length-4 Inv-loop μ-loop
 same-length-4 c = search needs
 
--- src/output.rt:30:1
+-- src/output.rt:38:1
 returns-3 : tie.Need-returns-3 Inv-loop μ-loop
 returns-3 c =
     let a = c .before .before .before .before .before .before .before .before .before .before .before .before .args in
     let s = a .input .now in
     let o = a .out .now in
-    let w = start (a .vdp) (a .vram .now) (a .row .now) [] in
+    let w = start (a .device) (a .vram .now) (a .row .now) [] in
     let short : length s ≤ 65535 = c .before .before .before .before .before .before .if2 .left in
     let big : 327700 ≤ length o = c .before .before .before .before .before .before .before .if1 .left in
     let l = c .before .before .before .before .before .loop in

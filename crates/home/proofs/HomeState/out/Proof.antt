@@ -1,0 +1,84 @@
+use borrow.Author.Needs.{needs}
+use Prim.Native.Nat.{ℕ}
+use mathlib.Core.Path.{_≡_, ap}
+use mathlib.Core.Bool.{true, false}
+use mathlib.Core.List.{List}
+use Rattle.vdp.specs.declared.FrontWritten.{FrontWritten}
+use Rattle.vdp.specs.Ports.{frontWrite}
+use Rattle.vdp.proofs.Kept.{inside}
+use Rattle.home.specs.declared.HomeState.{HomeState}
+use Rattle.home.specs.Home.{withFront}
+use Rattle.home.specs.Ports.{answered, paletteWrite, writtenBy, portWrite}
+use Rattle.home.proofs.HomeState.out.Statement.{statement}
+use Rattle.home.proofs.HomeState.out.Tie as tie
+use Rattle.home.proofs.HomeState.out.Reads as reads
+use Rattle.home.proofs.HomeState.out.Lts as lts
+use Rattle.home.proofs.HomeState.with_front.Reads as with-front-reads
+use Rattle.home.proofs.HomeState.write_palette.Reads as write-palette-reads
+use Rattle.vdp.proofs.Front.write.Reads as write-reads
+
+-- the front's answer, on the device: for the palette, and not
+module _ (h : HomeState) (m : List ℕ) (p v : ℕ) {r : FrontWritten} (w : r ≡ frontWrite 32 (h .front) m p v .answer) where
+  told : writtenBy h v r ≡ portWrite h m p v .answer
+  unfolding portWrite
+  told = ap (writtenBy h v) w
+
+  memory : {m′ : List ℕ} → m′ ≡ frontWrite 32 (h .front) m p v .vram → m′ ≡ portWrite h m p v .vram
+  unfolding portWrite
+  memory q = q
+
+  to-palette : r .palette ≡ true → paletteWrite (withFront h (r .front)) v ≡ portWrite h m p v .answer
+  to-palette t = rw t at told
+
+  to-front : r .palette ≡ false → answered (r .refusal) (withFront h (r .front)) ≡ portWrite h m p v .answer
+  to-front t = rw t at told
+
+-- src/lib.rt:167:13
+write-requires : tie.Need-write-requires
+write-requires c κs = search needs
+
+-- src/lib.rt:169:13
+with-front-requires : tie.Need-with-front-requires
+with-front-requires c κs = search needs
+
+-- src/lib.rt:171:13
+write-palette-requires : tie.Need-write-palette-requires
+write-palette-requires c κs = rw (c .before .with-front .ensures) (inside 32 _ _ _ _ _ (c .before .before .before .before .before .write .ensures .answer) (c .if1 .taken))
+
+-- src/lib.rt:171:13
+same-length : tie.Need-same-length
+same-length c = search needs
+
+-- src/lib.rt:171:13
+returns : tie.Need-returns
+returns c =
+    let w = c .before .before .before .before .before .before .write .ensures in
+    record {
+      answer = rw (c .write-palette .ensures, c .before .before .with-front .ensures) (to-palette (c .before .before .before .before .before .before .before .before .before .before .args .self) _ _ _ (w .answer) (c .before .if1 .taken));
+      memory = memory (c .before .before .before .before .before .before .before .before .before .before .args .self) _ _ _ (w .answer) (w .memory);
+    }
+
+-- src/lib.rt:163:5
+same-length-2 : tie.Need-same-length-2
+same-length-2 c = search needs
+
+-- src/lib.rt:163:5
+returns-2 : tie.Need-returns-2
+returns-2 c =
+    let w = c .before .before .before .before .before .write .ensures in
+    record {
+      answer = rw (c .before .with-front .ensures) (to-front (c .before .before .before .before .before .before .before .before .before .args .self) _ _ _ (w .answer) (c .if1 .left));
+      memory = memory (c .before .before .before .before .before .before .before .before .before .args .self) _ _ _ (w .answer) (w .memory);
+    }
+
+pub out-spec : {M : Type 1} → statement M
+out-spec =
+    tie.close
+    (tie.spec
+    write-requires
+    with-front-requires
+    write-palette-requires
+    same-length
+    returns
+    same-length-2
+    returns-2)

@@ -1,0 +1,70 @@
+-- The home machine's step from its points, and its tile dump, case by case.
+-- Assumes nothing.
+use mathlib.Core.Path.{_≡_, refl, ap, _∙_}
+use mathlib.Core.Logic.{_≢_}
+use mathlib.Core.List.{List, [], _∷_}
+use Prim.Native.Nat.{ℕ}
+use borrow.Author.Tests.{eq-eqb, ne-eqb}
+use lib.ListN.{length}
+use Rattle.laws.proofs.Tests.{split}
+use Rattle.dump.specs.Dump.{dumped}
+use Rattle.picture.specs.declared.Screen.the-variants.{Home}
+use Rattle.raster.specs.declared.Raster.{Raster}
+use Rattle.vdp.specs.declared.Refusal.the-variants.{Accepted, VramLength, PixelLength}
+use Rattle.vdp.specs.Refusals.{Line}
+use Rattle.step.specs.declared.Points.{Points}
+use Rattle.step.specs.Points.{Reading, reading, pointsWith}
+use Rattle.step.specs.Bytes.{RowPointsLeave, FramePointsLeave}
+use Rattle.step.specs.Dump.{dumpRefusal}
+use Rattle.home.specs.declared.HomeState.{HomeState}
+use Rattle.home.specs.declared.HomeStepped.{HomeStepped}
+use Rattle.home.specs.Step.{coloursNow, readingOf, joined, stepped, stepWith, rowAfter, frameAfter, RowStepLeaves, FrameStepLeaves}
+use Rattle.home.specs.Dump.{dumpAfter, DumpLeaves}
+
+-- ---- the step is `joined` of its points, refused or not
+joined-with : (ls : List Line) (vram : List ℕ) (h : HomeState) → joined h (pointsWith ls Home vram (readingOf h)) ≡ stepWith ls vram h
+unfolding pointsWith stepWith stepped
+joined-with [] vram h = refl
+joined-with (l ∷ ls) vram h = split (l .holds) (λ t. rw t) (λ t. rw t (joined-with ls vram h))
+
+-- what the points read, part by part
+pub reading-of :
+    (h : HomeState) {reg : List ℕ} {raster : Raster} {status : ℕ} {colours : List ℕ} → reg ≡ h .front .reg → raster ≡ h .raster → status ≡ h .front .status →
+    colours ≡ coloursNow h → reading reg raster status colours ≡ readingOf h
+reading-of h e f g k = λ i. reading (e i) (f i) (g i) (k i)
+
+module _ (vram : List ℕ) (h : HomeState) {k : Reading} (ek : k ≡ readingOf h) {s : HomeStepped} {p : Points} (es : s ≡ joined h p) where
+  answered : (ls : List Line) → p ≡ pointsWith ls Home vram k → s ≡ stepWith ls vram h
+  answered ls e = es ∙ ap (λ (x : Points). joined h x) (e ∙ ap (pointsWith ls Home vram) ek) ∙ joined-with ls vram h
+
+  module _ (b : List ℕ) {b′ : List ℕ} where
+    pub row-joined : RowPointsLeave Home vram k b p b′ → RowStepLeaves vram h b s b′
+    unfolding rowAfter
+    row-joined e = record { answer = answered _ (e .answer); bytes = e .bytes ∙ rw ek }
+
+    pub frame-joined : FramePointsLeave Home vram k b p b′ → FrameStepLeaves vram h b s b′
+    unfolding frameAfter
+    frame-joined e = record { answer = answered _ (e .answer); bytes = e .bytes ∙ rw ek }
+
+-- ---- the tile dump
+module _ (h : HomeState) (vram pixels : List ℕ) where
+  pub dump-refuses-8 : length vram ≢ 16384 → DumpLeaves h vram pixels VramLength pixels
+  unfolding dumpRefusal dumpAfter
+  dump-refuses-8 n = let t = ne-eqb (length vram) 16384 n in record { refusal = rw t; bytes = rw t }
+
+  module _ (mem : length vram ≡ 16384) where
+    pub dump-refuses-9 : length pixels ≢ 131072 → DumpLeaves h vram pixels PixelLength pixels
+    unfolding dumpRefusal dumpAfter
+    dump-refuses-9 n =
+        let t = eq-eqb (length vram) 16384 mem in
+        let u = ne-eqb (length pixels) 131072 n in
+        record { refusal = rw (t, u); bytes = rw (t, u) }
+
+    pub dump-done :
+        {cs pixels′ : List ℕ} → length pixels ≡ 131072 → cs ≡ h .«color_cache» → pixels′ ≡ dumped vram (h .front .reg) cs pixels →
+        DumpLeaves h vram pixels Accepted pixels′
+    unfolding dumpRefusal dumpAfter
+    dump-done n ec e =
+        let t = eq-eqb (length vram) 16384 mem in
+        let u = eq-eqb (length pixels) 131072 n in
+        record { refusal = rw (t, u); bytes = rw (t, u, e, ec) }

@@ -1,0 +1,6 @@
+-- What the contracts of `home` cite, and what is shown of them.
+pub mod Home
+pub mod Ports
+pub mod Step
+pub mod Dump
+pub mod Promises

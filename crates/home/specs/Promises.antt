@@ -1,0 +1,21 @@
+-- R20.3: refusal 6 never comes of a write here, and 7 only where the address lies outside its memory.
+-- Assumes nothing.
+use Prim.Native.Nat.{ℕ, _<_}
+use mathlib.Core.Logic.{_≢_}
+use mathlib.Core.List.{List}
+use Rattle.vdp.specs.Refusals.{refusalNumber, sizeOf}
+use Rattle.home.specs.declared.HomeState.{HomeState}
+use Rattle.home.specs.Home.{paletteSize}
+use Rattle.home.specs.Ports.{portWrite, portRead}
+
+-- any record, memory, port and value
+abbrev pub NeverSix : Type 0
+NeverSix = (h : HomeState) (vram : List ℕ) (port value : ℕ) → refusalNumber (portWrite h vram port value .answer .refusal) ≢ 6
+
+-- the address lies in the memory that is chosen
+abbrev pub Aimed : HomeState → Type 0
+Aimed h = h .front .addr < sizeOf paletteSize (h .front .dest)
+
+pub record OutsideOnly : Type 0 where
+  pub write : (h : HomeState) (vram : List ℕ) (port value : ℕ) → Aimed h → refusalNumber (portWrite h vram port value .answer .refusal) ≢ 7
+  pub read : (h : HomeState) (vram : List ℕ) (port : ℕ) → Aimed h → refusalNumber (portRead h vram port .refusal) ≢ 7

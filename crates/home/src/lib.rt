@@ -1,0 +1,294 @@
+// The home machine (R20.8): a record of its own kind, the front of a device with a palette of 32 bytes. Its ports are the front's, but for the palette; its
+// step is the five points for the home screen. Video memory is lent by the caller.
+ghost use mathlib.Core.Path.{_≡_};
+ghost use mathlib.Core.Bool.{cond};
+ghost use Prim.Native.Nat.{_<_};
+ghost use Rattle.colour.specs.Home.{homeColoursOf};
+ghost use Rattle.home.specs.Home.{paletteSize, made, fresh, withFront, withRaster, withCache};
+ghost use Rattle.home.specs.Ports.{paletteWrite, WriteLeaves, portRead};
+ghost use Rattle.home.specs.Step.{coloursNow, cleaned, joined, RowStepLeaves, FrameStepLeaves, rowView};
+ghost use Rattle.home.specs.Dump.{DumpLeaves};
+use picture::Screen;
+use raster::LineTable;
+use raster::Raster;
+use step::DisplayRefresh;
+use step::DrawnRow;
+use step::Points;
+use step::VdpInt;
+use vdp::Front;
+use vdp::Latch;
+use vdp::Refusal;
+use vdp::WriteDest;
+
+// The bytes of the palette, of video memory and of the sheet of all tiles.
+const PALETTE_SIZE: u16 = 32;
+
+const VRAM_SIZE: usize = 0x4000;
+
+const DUMP_SIZE: usize = 131072;
+
+// The device: what the ports work on, the raster, the palette and the cached colours.
+pub struct HomeState {
+    pub front: Front,
+    pub raster: Raster,
+    pub cram: [u8; 32],
+    pub cram_dirty: bool,
+    pub color_cache: [u32; 32],
+}
+
+// What a port write leaves.
+pub struct HomeWritten {
+    pub refusal: Refusal,
+    pub home: HomeState,
+}
+
+// What a port read gives and leaves.
+pub struct HomeRead {
+    pub refusal: Refusal,
+    pub byte: u8,
+    pub home: HomeState,
+}
+
+// What a step answers, with the device that it leaves.
+pub struct HomeStepped {
+    pub refusal: Refusal,
+    pub interrupt: VdpInt,
+    pub report: DisplayRefresh,
+    pub row: DrawnRow,
+    pub home: HomeState,
+}
+
+impl HomeState {
+    // A fresh device, with no table named.
+    pub fn new() -> Self
+        ensures { λ r. ⌜ r ≡ fresh ⌝ }
+    {
+        HomeState::with_table(LineTable::Steps262)
+    }
+
+    // The same with this table.
+    pub fn with_table(table: LineTable) -> Self
+        ensures { λ r. ⌜ r ≡ made table ⌝ }
+    {
+        HomeState {
+            front: Front {
+                status: 0,
+                reg: [0, 0, 0xFF, 0xFF, 0xFF, 0xFF, 0xFF, 0, 0, 0, 1],
+                addr: 0,
+                vram_buffer: 0,
+                dest: WriteDest::None,
+                cmd_byte1: Latch::Empty,
+            },
+            raster: Raster {
+                v_counter: 0,
+                v_counter_jumped: false,
+                line_interrupt_counter: 0,
+                vertical_scroll: 0,
+                table: table,
+            },
+            cram: [0; 32],
+            cram_dirty: true,
+            color_cache: [0; 32],
+        }
+    }
+
+    // The same device with another front.
+    fn with_front(self, front: Front) -> Self
+        ensures { λ r. ⌜ r ≡ withFront self front ⌝ }
+    {
+        let raster = self.raster;
+        let cram = self.cram;
+        let color_cache = self.color_cache;
+        HomeState {
+            front: front,
+            raster: raster,
+            cram: cram,
+            cram_dirty: self.cram_dirty,
+            color_cache: color_cache,
+        }
+    }
+
+    // The same device with another raster.
+    fn with_raster(self, raster: Raster) -> Self
+        ensures { λ r. ⌜ r ≡ withRaster self raster ⌝ }
+    {
+        let front = self.front;
+        let cram = self.cram;
+        let color_cache = self.color_cache;
+        HomeState {
+            front: front,
+            raster: raster,
+            cram: cram,
+            cram_dirty: self.cram_dirty,
+            color_cache: color_cache,
+        }
+    }
+
+    // The same device with another cache of colours, which is not dirty.
+    fn with_cache(self, colours: [u32; 32]) -> Self
+        ensures { λ r. ⌜ r ≡ withCache self colours ⌝ }
+    {
+        let front = self.front;
+        let raster = self.raster;
+        let cram = self.cram;
+        HomeState {
+            front: front,
+            raster: raster,
+            cram: cram,
+            cram_dirty: false,
+            color_cache: colours,
+        }
+    }
+
+    // A byte for the palette (R20.3): it is stored at once.
+    fn write_palette(self, val: u8) -> HomeWritten
+        requires { ⌜ self .front .addr < paletteSize ⌝ }
+        ensures { λ r. ⌜ r ≡ paletteWrite self val ⌝ }
+    {
+        let mut front = self.front;
+        let addr = front.addr;
+        let here = addr as usize;
+        front.addr = (addr + 1) % PALETTE_SIZE;
+        let mut home = self.with_front(front);
+        let was = home.cram[here];
+        home.cram_dirty = home.cram_dirty | (was != val);
+        home.cram[here] = val;
+        HomeWritten {
+            refusal: Refusal::Accepted,
+            home: home,
+        }
+    }
+
+    // A port write: the palette is the device's own, and all else is its front's.
+    pub fn out(self, vram: &mut [u8], addr: u16, val: u8) -> HomeWritten
+        ensures { λ r. ⌜ WriteLeaves self (now (vram .entry)) addr val r (now (vram .exit)) ⌝ }
+    {
+        let front = self.front;
+        let sent = front.write(vram, PALETTE_SIZE, addr, val);
+        let left = sent.front;
+        let home = self.with_front(left);
+        if sent.palette {
+            return home.write_palette(val);
+        }
+        let refusal = sent.refusal;
+        HomeWritten {
+            refusal: refusal,
+            home: home,
+        }
+    }
+
+    // A port read, all of it the front's but for the line counter.
+    pub fn input(self, vram: &[u8], addr: u16) -> HomeRead
+        ensures { λ r. ⌜ r ≡ portRead self (now (vram .entry)) addr ⌝ }
+    {
+        let raster = self.raster;
+        let front = self.front;
+        let got = front.read(vram, addr, raster.v_counter);
+        let refusal = got.refusal;
+        let left = got.front;
+        HomeRead {
+            refusal: refusal,
+            byte: got.byte,
+            home: self.with_front(left),
+        }
+    }
+}
+
+// The colours to draw with: made anew from the palette, or the cache as it stands.
+fn colours_of(home: HomeState, rebuilt: bool) -> [u32; 32]
+    ensures { λ r. ⌜ r ≡ cond rebuilt (homeColoursOf (home .cram)) (home .«color_cache») ⌝ }
+{
+    let cram = home.cram;
+    let color_cache = home.color_cache;
+    if rebuilt {
+        return colour::home_palette_recompute(cram);
+    }
+    color_cache
+}
+
+// The device after a step that drew this row: clean colours, if it drew one.
+fn clean(home: HomeState, row: DrawnRow, colours: [u32; 32]) -> HomeState
+    ensures { λ r. ⌜ r ≡ cleaned row home colours ⌝ }
+{
+    match row {
+        DrawnRow::NoRow => home,
+        DrawnRow::Drawn(_) => home.with_cache(colours),
+    }
+}
+
+// The answer of the device's own step, from what the points answer and leave.
+fn join(home: HomeState, points: Points, colours: [u32; 32]) -> HomeStepped
+    requires { ⌜ colours ≡ coloursNow home ⌝ }
+    ensures { λ r. ⌜ r ≡ joined home points ⌝ }
+{
+    let refusal = points.refusal;
+    let interrupt = points.interrupt;
+    let report = points.report;
+    let row = points.row;
+    let raster = points.raster;
+    let mut next = clean(home, row, colours);
+    next.front.status = points.status;
+    HomeStepped {
+        refusal: refusal,
+        interrupt: interrupt,
+        report: report,
+        row: row,
+        home: next.with_raster(raster),
+    }
+}
+
+// A step, whose row goes to the first bytes of the row buffer.
+pub fn row_step(home: HomeState, vram: &[u8], row: &mut [u8]) -> HomeStepped
+    ensures { λ r. ⌜ RowStepLeaves (now (vram .entry)) home (now (row .entry)) r (now (row .exit)) ⌝ }
+{
+    let front = home.front;
+    let reg = front.reg;
+    let raster = home.raster;
+    let colours = colours_of(home, home.cram_dirty);
+    let points = step::row_points(reg, raster, front.status, &colours, vram, row, Screen::Home);
+    join(home, points, colours)
+}
+
+// A step on a whole frame.
+pub fn frame_step(home: HomeState, vram: &[u8], frame: &mut [u8]) -> HomeStepped
+    ensures { λ r. ⌜ FrameStepLeaves (now (vram .entry)) home (now (frame .entry)) r (now (frame .exit)) ⌝ }
+{
+    let front = home.front;
+    let reg = front.reg;
+    let raster = home.raster;
+    let colours = colours_of(home, home.cram_dirty);
+    let points = step::frame_points(
+        reg,
+        raster,
+        front.status,
+        &colours,
+        vram,
+        frame,
+        Screen::Home,
+    );
+    join(home, points, colours)
+}
+
+// A row of a frame, as a part of the caller's own frame; the empty part where it does not fit.
+pub fn row_view<'a>(frame: &'a [u8], row: usize) -> &'a [u8]
+    ensures { λ r. ⌜ now r ≡ rowView (now (frame .entry)) row ⌝ }
+{
+    step::screen_row(frame, Screen::Home, row)
+}
+
+// All tiles, side by side. It draws with the cache as it stands, and leaves the device.
+pub fn dump_tileset(home: HomeState, vram: &[u8], pixels: &mut [u8]) -> Refusal
+    ensures { λ r. ⌜ DumpLeaves home (now (vram .entry)) (now (pixels .entry)) r (now (pixels .exit)) ⌝ }
+{
+    if vram.len() != VRAM_SIZE {
+        return Refusal::VramLength;
+    }
+    if pixels.len() != DUMP_SIZE {
+        return Refusal::PixelLength;
+    }
+    let front = home.front;
+    let reg = front.reg;
+    let colours = colours_of(home, false);
+    dump::dump_tileset(pixels, vram, &colours, reg);
+    Refusal::Accepted
+}

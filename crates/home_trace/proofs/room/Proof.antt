@@ -1,0 +1,12 @@
+-- By a law, since to compute the length of 327,700 zeros takes much memory.
+use mathlib.Core.Path.{sym}
+use Prim.Native.Nat.{ℕ}
+use lib.ListN.{length-replicate}
+use Rattle.home_trace.proofs.room.Statement.{statement}
+use Rattle.home_trace.proofs.room.Tie as tie
+
+returns : tie.Need-returns
+returns c = sym (length-replicate {A = ℕ} 327700 0)
+
+pub room-spec : {M : Type 1} → statement M
+room-spec = tie.close (tie.spec returns)

@@ -1,0 +1,35 @@
+// Prints what a recording does, call by call, on a fresh home device.
+ghost use mathlib.Core.Path.{_≡_};
+ghost use lib.ListN.{length};
+use home::HomeState;
+use recording::Device;
+
+// Room for the text of any recording. The contract gives only the length: so long an array then costs its caller's check nothing.
+fn room() -> [u8; 327_700]
+    ensures { λ r. ⌜ 327700 ≡ length r ⌝ }
+{
+    [0; 327_700]
+}
+
+fn main() {
+    let device = Device::home(HomeState::new());
+    let mut vram = [0u8; 16384];
+    let mut row = [0u8; 1024];
+    let mut text = room();
+    let mut input = io::large_buffer();
+    let taken = program::input(
+        b"home-trace",
+        b"usage: home-trace [FILE]\n\
+            Runs the trace in FILE, or on standard input, on a fresh home device (262 steps to a pass), and prints a line for each call.\n\
+            A trace has at most 65,535 bytes. Its records: PW port value, PR port, LS area (docs/TRACES.md). The area byte of LS is 0.\n\
+            The last line is 'end' and the number of records; or 'bad' and the offset of a bad record; or 'long'.\n\
+            The exit status is always 0: what cannot be read or written is told on standard error.\n",
+        &mut input,
+    );
+    if !taken.ready {
+        return;
+    }
+    let n = taken.len;
+    let k = recording::trace(device, &input[..n], &mut vram, &mut row, &mut text);
+    program::output(b"home-trace", &text[..k]);
+}
