@@ -44,7 +44,7 @@ sh $work/shown.sh | cmp $work/1.trace -
 tell 'the trace that is shown with printf is the first' $?
 
 # The theorems by which 7 is struck.
-for both in 'never-seven NeverSeven' 'face-never-seven FaceNeverSeven'; do
+for both in 'never-seven NeverSeven' 'face-never-seven FaceNeverSeven' 'never-seven-home NeverSeven'; do
     read -r theorem statement <<<"$both"
     grep -q "\`$theorem\`" $book && grep -qE "^pub $theorem : .*→ $statement " crates/demands/proofs/Seven.antt && grep -q "^pub record $statement " crates/demands/specs/Seven.antt
     tell "$theorem is proved by that name" $?

@@ -48,12 +48,14 @@ use Rattle.face.proofs.Pixels.{pixel-call-exact}
 use Rattle.face.proofs.Tiles.{write-tile-exact, read-tile-exact}
 use Rattle.demands.specs.Machine.{Machine}
 use Rattle.demands.specs.Handheld.{Call, out, input, frame-step, row-step, layer-frame-step, layer-row-step, after, refusalOf, handheld}
+use Rattle.demands.specs.Home.{home}
 use Rattle.demands.specs.Pass.{History, deviceAfter}
 use Rattle.demands.specs.Always.{Always}
 use Rattle.demands.specs.Seven.{highest, NeverSeven, FaceCall, vdp-new, vdp-new-table, vdp-out, vdp-input, vdp-step, vdp-row-step, vdp-layer-step, vdp-layer-row-step, vdp-dump-tileset, vdp-pixel, vdp-repair, vdp-write-tile, vdp-read-tile, called, MadeBlock, by-new, by-new-table, blockAfter, FaceNeverSeven}
 use Rattle.demands.proofs.Lawful.{Lawful}
 use Rattle.demands.proofs.Sound.{table-is}
 use Rattle.demands.proofs.Handheld.{handheld-lawful}
+use Rattle.demands.proofs.Home.{home-lawful}
 use Rattle.demands.proofs.Always.{always}
 
 -- ---- a device
@@ -76,6 +78,10 @@ never-seven {M} ok t h =
 -- the handheld
 pub never-seven-handheld : (t : LineTable) (h : History handheld) → NeverSeven handheld t h
 never-seven-handheld = never-seven handheld-lawful
+
+-- the home machine
+pub never-seven-home : (t : LineTable) (h : History home) → NeverSeven home t h
+never-seven-home = never-seven home-lawful
 
 -- ---- a block that stands for a fresh device after calls
 record Stands (b : List ℕ) : Type 0 where
