@@ -6,6 +6,7 @@ import errors
 import files
 import frame_sprites
 import header
+import home
 import language
 import library
 import listing
@@ -43,9 +44,21 @@ def shown(name):
     return "standard input" if name == "-" else name
 
 
-def loaded(options, name):
-    """The trace that is named."""
-    return records.Trace(files.trace(name, options.table), shown(name))
+def loaded(options, name, at_home=False):
+    """The trace that is named; with `at_home` one for the home machine."""
+    return records.Trace(files.trace(name, options.table, at_home), shown(name), at_home)
+
+
+def home_alone(command, options):
+    """What does not go with --home."""
+    for given, word, why in (
+        (getattr(options, "layers", False), "--layers", "the home machine tells no layers"),
+        (getattr(options, "check", False), "--check", f"the picture is that of the program `{home.SNAPSHOT}` already"),
+        (getattr(options, "area", None) is not None, "--area", "the home machine has one picture, and no areas"),
+        (options.table != TABLES[-1], f"--table {options.table}", "the programs of the home machine go by table 1 alone"),
+    ):
+        if given:
+            raise errors.Bad(f"desk {command}: --home and {word} do not go together: {why}")
 
 
 def played(options, name, keep=None, watch=None):
@@ -87,20 +100,32 @@ def make(options):
 
 
 def list_trace(options):
-    data = files.trace(options.trace, options.table)
+    if options.home:
+        home_alone("list", options)
+    data = files.trace(options.trace, options.table, options.home)
     broken = None
     try:
-        found = records.Trace(data, shown(options.trace))
+        found = records.Trace(data, shown(options.trace), options.home)
     except records.Broken as error:
         found, broken = error.before, error
     steps = language.PASS[options.table]
     say(f"# {shown(options.trace)}: {many(len(data), 'byte')}, {many(found.count, 'record')}; line table {options.table}, {steps} steps to a pass")
-    sys.stdout.write(listing.listed(found, options.table, options.each))
+    sys.stdout.write(listing.listed(found, options.table, options.each, options.home))
     if broken:
         raise broken
 
 
 # ---- pictures
+def drawn_home(options):
+    """As `drawn`, on the home machine, by its program."""
+    home_alone("show", options)
+    trace = loaded(options, options.trace, True)
+    frames, count = home.frames(trace, options.frame, play.Progress(options.progress))
+    if not any(record.kind == records.STEP for record in trace):
+        note("no step of the trace has drawn a row")
+    return frames, count, f"{home.Screen.columns} x {home.Screen.rows}"
+
+
 def drawn(options):
     """The frames of a trace as pictures, by their numbers, how many there are, and their size in words."""
     trace = loaded(options, options.trace)
@@ -133,7 +158,7 @@ def check(options, data, area, last):
 
 
 def show(options):
-    frames, count, size = drawn(options)
+    frames, count, size = drawn_home(options) if options.home else drawn(options)
     has_frame(count, options.frame, shown(options.trace))
     wanted = [frames[options.frame]] if options.frame else list(frames.values())
     sheet = pictures.sheet([pictures.scaled(frame, options.scale, options.grid) for frame in wanted])
@@ -141,7 +166,8 @@ def show(options):
         what = f"frame {options.frame} of {count}, {size}"
     else:
         what = f"1 frame, {size}" if count == 1 else f"{count:,} frames of {size}, row by row"
-    save(options.output, sheet, what + (f", scale {options.scale}" if options.scale > 1 else "") + (", by layers" if options.layers else ""))
+    how = (", by layers" if options.layers else "") + (", on the home machine" if options.home else "")
+    save(options.output, sheet, what + (f", scale {options.scale}" if options.scale > 1 else "") + how)
 
 
 def differ(options):

@@ -46,8 +46,8 @@ def _replaced(path, data):
         raise
 
 
-def script(name, table):
-    """The trace of a script."""
+def script(name, table, home=True):
+    """The trace of a script; one for the home machine is refused where that is not asked for."""
     data = read(name)
     data = data[len(codecs.BOM_UTF8) :] if data.startswith(codecs.BOM_UTF8) else data
     shown = "standard input" if name == "-" else name
@@ -58,9 +58,9 @@ def script(name, table):
         line = before.count(b"\n") + 1
         column = len(before[before.rfind(b"\n") + 1 :].decode("utf-8")) + 1
         raise errors.Bad(f"{shown}:{line}:{column}: byte {data[error.start]:02X} is no text (UTF-8)")
-    return language.made(text, shown, "." if name == "-" else pathlib.Path(name).parent, table)
+    return language.made(text, shown, "." if name == "-" else pathlib.Path(name).parent, table, home)
 
 
-def trace(name, table):
+def trace(name, table, home=False):
     """The bytes of a trace; of a script (NAME.desk) those that it makes."""
-    return script(name, table) if name.endswith(SCRIPT) else read(name)
+    return script(name, table, home) if name.endswith(SCRIPT) else read(name)

@@ -6,6 +6,7 @@ import pathlib
 import re
 
 import errors
+import home
 import library
 import png
 import records
@@ -36,6 +37,8 @@ how many and which one (steps, lines, tiles, places) is decimal, or hexadecimal 
   area 1                      steps are of this area from here on, and so are the places of sprites
   read 7E                     a read of port 7E
   write BF = 00 40            bytes to a port, just as they are; `times` goes here too
+  home                        before all others: the script is for the home machine (docs/HOME.md). `colour 3 = 3F` has one byte a
+                              colour, sprites have the places of its screen, and there are no areas
 """
 
 
@@ -47,22 +50,48 @@ class Refused(errors.Bad):
         self.status = status
 
 
-def upper(colour):
-    """Red, green and blue by their upper four bits, which is what a palette holds."""
-    return tuple(byte >> 4 for byte in colour[:3])
+class Colours:
+    """What a palette holds of a colour: the upper four bits of red, green and blue, in two bytes."""
+
+    size, asked = 2, "a colour has two bytes: green and red, then blue"
+
+    @staticmethod
+    def upper(colour):
+        return tuple(byte >> 4 for byte in colour[:3])
+
+    @staticmethod
+    def bytes(red, green, blue):
+        return green << 4 | red, blue
+
+
+class HomeColours:
+    """That of the home machine: the upper two bits, in one byte (R20.2)."""
+
+    size = 1
+
+    @staticmethod
+    def upper(colour):
+        return tuple(byte >> 6 for byte in colour[:3])
+
+    @staticmethod
+    def bytes(red, green, blue):
+        return (red | green << 2 | blue << 4,)
 
 
 class Maker:
     """A script on its way to a trace."""
 
-    def __init__(self, folder, table):
-        self.folder, self.pass_steps = folder, PASS[table]
+    def __init__(self, folder, table, home_taken=True):
+        self.folder, self.table, self.home_taken, self.pass_steps = folder, table, home_taken, PASS[table]
+        self.held, self.palette, self.statements = Colours, None, 0  # palette: the home machine's
         self.device, self.area, self.trace = library.Device(table), library.areas()[0], bytearray()
         self.row, self.layers = self.area.row(), self.area.layers()
 
     # what the statements are made of
     def write(self, port, *values):
         for value in values:
+            if self.palette:
+                self.palette.write(self.device, port, value)
             self.device.out(port, value)
         self.trace += records.write(port, *values)
 
@@ -103,11 +132,12 @@ class Maker:
         start = line.peek()
         values = line.bytes("a byte of a colour")
         line.close()
-        if len(values) % 2:
-            raise Wrong(line.end, "a colour has two bytes: green and red, then blue")
-        if number + len(values) // 2 > 32:
-            raise Wrong(start.column, f"{len(values) // 2} colours from {number} on: there are 32")
-        self.command(line, 2 * number, 0xC0)
+        size = self.held.size
+        if len(values) % size:
+            raise Wrong(line.end, self.held.asked)
+        if number + len(values) // size > 32:
+            raise Wrong(start.column, f"{len(values) // size} colours from {number} on: there are 32")
+        self.command(line, size * number, 0xC0)
         self.write(DATA, *values)
 
     def do_palette(self, line):
@@ -117,14 +147,14 @@ class Maker:
         line.close()
         image = self.picture(token)
         if image.palette is not None:
-            colours = [upper(colour) for colour in image.palette[: max(image.pixels) + 1]]
+            colours = [self.held.upper(colour) for colour in image.palette[: max(image.pixels) + 1]]
         else:
             # code 0 stays for what cannot be seen, where there is such a pixel
-            colours = [(0, 0, 0)] * image.clear() + list(dict.fromkeys(upper(pixel) for pixel in image.pixels if pixel[3]))
+            colours = [(0, 0, 0)] * image.clear() + list(dict.fromkeys(self.held.upper(pixel) for pixel in image.pixels if pixel[3]))
         if len(colours) > 16:
             raise Wrong(token.column, f"{self.folder / token.text}: {len(colours)} colours, and a palette has 16")
-        self.command(line, 32 * number, 0xC0)
-        self.write(DATA, *(byte for red, green, blue in colours for byte in (green << 4 | red, blue)))
+        self.command(line, 16 * self.held.size * number, 0xC0)
+        self.write(DATA, *(byte for colour in colours for byte in self.held.bytes(*colour)))
 
     def do_vram(self, line):
         address = line.hexadecimal("the address", library.VRAM - 1)
@@ -186,10 +216,10 @@ class Maker:
         wanted = range(count) if only is None else [only]
         shown = {}
         if image.palette is None:
-            colours = self.device.colours()
+            colours = (self.palette or self.device).colours()
             # of two that are the same the first counts; code 0 stays for what cannot be seen, where there is such a pixel
             for code in reversed(range(image.clear(), 16)):
-                shown[upper(colours[palette + code])] = code
+                shown[self.held.upper(colours[palette + code])] = code
         tiles = []
         for tile in wanted:
             codes = []
@@ -199,8 +229,7 @@ class Maker:
             tiles.append(codes)
         return tiles
 
-    @staticmethod
-    def code(image, x, y, shown, token, name):
+    def code(self, image, x, y, shown, token, name):
         pixel = image.pixels[y * image.width + x]
         if image.palette is not None:
             if pixel > 15:
@@ -208,7 +237,7 @@ class Maker:
             return pixel
         if pixel[3] == 0:
             return 0
-        code = shown.get(upper(pixel))
+        code = shown.get(self.held.upper(pixel))
         if code is None:
             red, green, blue = pixel[:3]
             raise Wrong(token.column, f"{name}: the pixel at column {x}, row {y} is red {red}, green {green}, blue {blue}, and no colour of the device's palette is")
@@ -287,7 +316,22 @@ class Maker:
         line.close()
         self.write(port, *values)
 
+    def do_home(self, line):
+        line.close()
+        why = None
+        if not self.home_taken:
+            why = "the script is for the home machine: `desk make` takes it, and `show` and `list` with --home"
+        elif self.statements:
+            why = "`home` stands before all other statements"
+        elif self.table != library.N["CHART_TABLE"]:
+            why = "the programs of the home machine go by table 1 alone"
+        if why:
+            raise Wrong(line.found[0].column, why, last=True)
+        self.held, self.palette, self.area = HomeColours, home.Palette(), home.Screen
+
     def do_area(self, line):
+        if self.palette:
+            raise Wrong(line.found[0].column, "the home machine has one picture, and no areas")
         token = line.peek()
         number = line.number("the area", 255)
         line.close()
@@ -300,9 +344,9 @@ class Maker:
 STATEMENTS = sorted(name[3:] for name in dir(Maker) if name.startswith("do_"))
 
 
-def made(text, name, folder, table):
+def made(text, name, folder, table, home_taken=True):
     """The trace of a script. Refused, with every error by line and column, where something is wrong."""
-    maker, wrong, status = Maker(pathlib.Path(folder), table), [], 1
+    maker, wrong, status = Maker(pathlib.Path(folder), table, home_taken), [], 1
     for number, content in enumerate(text.split("\n"), 1):
         try:
             found, end = tokens(content.rstrip("\r"))
@@ -315,9 +359,12 @@ def made(text, name, folder, table):
             line = Line(found, end)
             line.at = 1
             getattr(maker, "do_" + word)(line)
+            maker.statements += 1
         except Wrong as error:
             wrong.append(f"{name}:{number}:{error.column}: {error}")
             status = max(status, error.status)
+            if error.last:
+                break
             if len(wrong) == MOST_ERRORS:
                 wrong.append(f"{name}: more errors are not told")
                 break

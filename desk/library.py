@@ -82,6 +82,13 @@ class Device:
         other.calls, other.state, other.vram = self.calls, self.state.copy(), self.vram.copy()
         return other
 
+    def mark(self):
+        """The state, to go back to; video memory is not in it."""
+        return bytes(self.state.bytes)
+
+    def back(self, mark):
+        self.state.bytes[:] = mark
+
     def at(self, name, count=1):
         """The bytes of the state block at VDP_AT_name: a number, or several as bytes."""
         start = N["AT_" + name]

@@ -11,11 +11,11 @@ class Token:
 
 
 class Wrong(Exception):
-    """An error in the script, at a column of the line; status as in errors.py."""
+    """An error in the script, at a column of the line; status as in errors.py. Behind one that is the last, no other is looked for."""
 
-    def __init__(self, column, text, status=1):
+    def __init__(self, column, text, status=1, last=False):
         super().__init__(text)
-        self.column, self.status = column, status
+        self.column, self.status, self.last = column, status, last
 
 
 def tokens(line):

@@ -1,5 +1,6 @@
 """A trace in words: statements of the language that make the same bytes again, each with what it does."""
 import header
+import home
 import language
 import library
 import records
@@ -13,9 +14,9 @@ WIDTH = 24  # of a statement, where its words begin; a longer one has them behin
 def register_words(number, value):
     """What the rules read in a register."""
     if number == 0:
-        return f"line interrupts {'on' if value & 16 else 'off'}, early clock {'on' if value & 8 else 'off'}"
+        return f"line interrupts {on(value & 16)}, early clock {on(value & 8)}"
     if number == 1:
-        return f"display {'on' if value & 64 else 'off'}, frame interrupts {'on' if value & 32 else 'off'}, sprites {16 if value & 2 else 8} high"
+        return f"display {on(value & 64)}, frame interrupts {on(value & 32)}, sprites {16 if value & 2 else 8} high"
     if number == 2:
         return f"the map is at {(value & 0x0E) * 1024:04X}"
     if number == 5:
@@ -31,8 +32,53 @@ def register_words(number, value):
     return "no rule reads it"
 
 
-def colour_words(low, high):
-    return f"red {low % 16 * 17}, green {low // 16 * 17}, blue {high % 16 * 17}"
+def on(bit):
+    return "on" if bit else "off"
+
+
+def colour_words(red, green, blue):
+    return f"red {red}, green {green}, blue {blue}"
+
+
+class Handheld:
+    """What is said of the handheld alone."""
+
+    colour_size = 2
+    register_words = staticmethod(register_words)
+
+    @staticmethod
+    def colour_words(low, high):
+        return colour_words(low % 16 * 17, low // 16 * 17, high % 16 * 17)
+
+    @classmethod
+    def palette_words(cls, device, address, value):
+        """Of a byte that was written to the palette."""
+        if address % 2 == 0:
+            return f"palette address {address:02X}: latched until the odd byte comes"
+        return f"colour {address // 2}: {cls.colour_words(device.at('PALETTE', 64)[address - 1], value)}"
+
+
+class HomeMachine:
+    """And of the home machine (docs/HOME.md)."""
+
+    colour_size = 1
+
+    @staticmethod
+    def register_words(number, value):
+        if number == 0:
+            locks = f"lock of rows 0 to 15 {on(value & 64)}, lock of columns 192 to 255 {on(value & 128)}"
+            return f"{register_words(0, value)}, fill {on(value & 32)}, {locks}"
+        if number == 7:
+            return f"the fill has colour {16 + value % 16}"
+        return register_words(number, value)
+
+    @staticmethod
+    def colour_words(byte):
+        return colour_words(*home.colour(byte))
+
+    @classmethod
+    def palette_words(cls, device, address, value):
+        return f"colour {address}: {cls.colour_words(value)}"
 
 
 def status_words(value):
@@ -98,10 +144,14 @@ def hexes(values):
 class Lister:
     """Goes through the records with a device beside them, and makes lines of statement and words."""
 
-    def __init__(self, found, table, each):
+    def __init__(self, found, table, each, at_home):
         self.found, self.each, self.at = list(found), each, 0
-        self.device, self.area, self.drawn = library.Device(table), 0, None
-        self.lines = []
+        self.lines, self.area, self.drawn = [], 0, None
+        self.machine = HomeMachine if at_home else Handheld
+        self.screens = {0: home.Screen} if at_home else library.areas()
+        self.device = home.Device(found) if at_home else library.Device(table)
+        if at_home:
+            self.say("home", f"the home machine, {home.Screen.columns} x {home.Screen.rows}")
 
     def say(self, statement, words, refusals=(), place=""):
         """A line: where it stands, what was refused, what it does."""
@@ -147,16 +197,16 @@ class Lister:
         if len(both) < 2 or self.device.at("COMMAND_LATCHED"):
             return False
         first, second = both
-        data = self.writes_from(self.at + 2, DATA)
+        data, size = self.writes_from(self.at + 2, DATA), self.machine.colour_size
         place = self.place()
         if 0x80 <= second <= 0x8A:
             refusals = self.out(2)
-            self.say(f"reg {second - 0x80} = {first:02X}", register_words(second - 0x80, first), refusals, place)
-        elif second == 0xC0 and first < 64 and first % 2 == 0 and len(data) >= 2:
-            number = first // 2
-            data = data[: min(len(data) // 2 * 2, 2 * (32 - number))]
+            self.say(f"reg {second - 0x80} = {first:02X}", self.machine.register_words(second - 0x80, first), refusals, place)
+        elif second == 0xC0 and first < 32 * size and first % size == 0 and len(data) >= size:
+            number = first // size
+            data = data[: min(len(data) // size * size, size * (32 - number))]
             refusals = self.out(2 + len(data))
-            words = colour_words(*data[:2]) if len(data) == 2 else span(number, number + len(data) // 2 - 1, "colour")
+            words = self.machine.colour_words(*data) if len(data) == size else span(number, number + len(data) // size - 1, "colour")
             self.say(f"colour {number} = {hexes(data)}", words, refusals, place)
         elif 0x40 <= second < 0x80 and data:
             address = first + 256 * (second - 0x40)
@@ -165,7 +215,7 @@ class Lister:
             for k, (values, times) in enumerate(parts):
                 refusals = self.out(len(values) * times + (0 if k else 2))
                 statement = f"write BE = {hexes(values)}" if k else f"vram {address:04X} = {hexes(values)}"
-                words = video_words(self.device, library.areas()[self.area], address, values * times)
+                words = video_words(self.device, self.screens[self.area], address, values * times)
                 self.say(statement + (f" times {times}" if times > 1 else ""), words, refusals, "" if k else place)
                 address += len(values) * times
         else:
@@ -184,21 +234,17 @@ class Lister:
         elif record.place == COMMAND:
             words = self.second_words(first, record.value) if latched else "the first byte of a command"
         elif chosen == 1:
-            words = video_words(self.device, library.areas()[self.area], address, [record.value])
-        elif address % 2 == 0:
-            words = f"palette address {address:02X}: latched until the odd byte comes"
+            words = video_words(self.device, self.screens[self.area], address, [record.value])
         else:
-            low = self.device.at("PALETTE", 64)[address - 1]
-            words = f"colour {address // 2}: {colour_words(low, record.value)}"
+            words = self.machine.palette_words(self.device, address, record.value)
         self.say(f"write {record.place:02X} = {record.value:02X}", words, refusals, place)
 
-    @staticmethod
-    def second_words(first, second):
+    def second_words(self, first, second):
         if second < 0x80:
             return f"address {(first + 256 * second) % 16384:04X}, " + ("to write" if second >= 0x40 else "to read: the buffer is loaded, and the address goes up")
         if second < 0xC0:
-            return f"register {second % 128} is {first:02X}: {register_words(second % 128, first)}"
-        return f"palette address {first % 64:02X}"
+            return f"register {second % 128} is {first:02X}: {self.machine.register_words(second % 128, first)}"
+        return f"palette address {first % (32 * self.machine.colour_size):02X}"
 
     def read(self):
         record, place = self.found[self.at], self.place()
@@ -218,18 +264,18 @@ class Lister:
         """The steps that follow one another and are of one sort: what they answer, whether they draw, the counter going up by one."""
         area = self.found[self.at].place
         if area != self.area:
-            size = library.areas()[area]
+            size = self.screens[area]
             self.say(f"area {area}", f"steps of area {area} from here on, {size.columns} x {size.rows}")
             self.area = area
         row, layers = library.areas()[area].row(), library.areas()[area].layers()
         sort, count, first, last = None, 0, None, None
         while self.at < len(self.found) and self.found[self.at].kind == records.STEP and self.found[self.at].place == area:
-            state = bytes(self.device.state.bytes)
+            mark = self.device.mark()
             answer = self.device.row_step(row, layers, area)
             here = (answer.refusal, answer.interrupt, answer.report, answer.drawn)
             follows = last is None or self.device.counter == last[0] + 1
             if sort is not None and (here != sort or not follows or (self.each and count)):
-                self.device.state.bytes[:] = state
+                self.device.back(mark)
                 break
             sort, count, last = here, count + 1, (self.device.counter, answer.row)
             first = first or last
@@ -248,6 +294,6 @@ class Lister:
         self.say(f"steps {count}", f"{lines} {', '.join(words)}", [refusal])
 
 
-def listed(found, table, each=False):
+def listed(found, table, each=False, at_home=False):
     """The text of a listing."""
-    return "".join(f"{statement:{WIDTH}}  # {words}\n" for statement, words in Lister(found, table, each).run())
+    return "".join(f"{statement:{WIDTH}}  # {words}\n" for statement, words in Lister(found, table, each, at_home).run())

@@ -31,7 +31,7 @@ def step(area):
     return STEP + bytes([area])
 
 
-def whats_wrong(data, at):
+def whats_wrong(data, at, home=False):
     """Why no record stands at this offset; None where one does."""
     mark = data[at : at + 2]
     if mark not in LENGTHS:
@@ -40,22 +40,25 @@ def whats_wrong(data, at):
         return f"no record begins with the bytes {mark.hex(' ').upper()}"
     if at + LENGTHS[mark] > len(data):
         return "the record is cut: the trace ends in it"
+    if mark == STEP and home and data[at + 2]:
+        return f"a step of area {data[at + 2]}, and the home machine's steps are of area 0"
     if mark == STEP and not library.is_area(data[at + 2]):
         return f"a step of area {data[at + 2]}, and there is no such area"
     return None
 
 
 class Trace:
-    """The bytes of a trace, each record of them whole; Broken where one is none, as `trace` prints `bad` and its offset."""
+    """The bytes of a trace, each record of them whole; Broken where one is none, as `trace`, or for the home machine `home-trace`, prints `bad` and its
+    offset."""
 
-    def __init__(self, data, name):
+    def __init__(self, data, name, home=False):
         self.data, self.count = data, 0
-        known, at = set(library.areas()), 0
+        known, at = {0} if home else set(library.areas()), 0
         while at < len(data):
             mark = data[at : at + 2]
             length = LENGTHS.get(mark)
             if length is None or at + length > len(data) or (mark == STEP and data[at + 2] not in known):
-                raise Broken(f"desk: {name}: byte {at}, record {self.count + 1}: {whats_wrong(data, at)}", Trace(data[:at], name))
+                raise Broken(f"desk: {name}: byte {at}, record {self.count + 1}: {whats_wrong(data, at, home)}", Trace(data[:at], name, home))
             self.count += 1
             at += length
 

@@ -238,6 +238,75 @@ run palette tests/traces/layers.trace -o "$work/palette.png" --scale 4
 [ "$status" -eq 0 ] && python3 tests/desk/at.py "$work/palette.png" 0,0=34,34,85 4,0=136,102,51 8,3=0,0,0 8,4=255,221,34 11,7=255,221,34 12,7=0,0,0
 tell 'palette: its picture' $?
 
+# The home machine: its frames are what home-snapshot draws up to the end of each pass.
+cat docs/scripts/home-scene.desk docs/scripts/home-fill.desk >"$work/fill.desk"
+"$desk" make "$work/fill.desk" -o "$work/fill.trace" >/dev/null
+for frame in 1 2; do
+    # behind the first pass stand 192 steps and a read
+    head -c "$(($(wc -c <"$work/fill.trace") - (2 - frame) * 579))" "$work/fill.trace" | $RUN build/bin/home-snapshot | python3 tools/ppm2png.py 2 >"$work/program.png"
+    run show "$work/fill.trace" --home --frame $frame --scale 2 -o "$work/shown.png"
+    [ "$status" -eq 0 ] && [ ! -s "$work/err" ] && [ "$(cat "$work/out")" = "$work/shown.png: frame $frame of 2, 256 x 192, scale 2, on the home machine" ] && cmp "$work/program.png" "$work/shown.png"
+    tell "show --home: frame $frame is the file of home-snapshot and ppm2png.py" $?
+done
+python3 tests/desk/same.py "$work/shown.png" docs/home-fill.png
+tell 'show --home: and docs/home-fill.png' $?
+run show "$work/fill.desk" --home -o "$work/two.png"
+[ "$status" -eq 0 ] && [ "$(cat "$work/out")" = "$work/two.png: 2 frames of 256 x 192, row by row, on the home machine" ] && [ "$(od -An -tx1 -j16 -N8 "$work/two.png" | tr -d ' ')" = "$(printf '%08x%08x' 516 192)" ]
+tell 'show --home: of a script, two frames are one sheet' $?
+run show "$work/fill.trace" --home --frame 2 --grid --scale 3 -o "$work/grid.png"
+[ "$status" -eq 0 ] && [ "$(od -An -tx1 -j16 -N8 "$work/grid.png" | tr -d ' ')" = "$(printf '%08x%08x' $((256 * 3 + 31)) $((192 * 3 + 23)))" ]
+tell 'show --home --grid' $?
+status_frames=0
+for both in '261 1' '262 2' '523 2' '524 3'; do
+    read -r steps frames <<<"$both"
+    printf 'home\nsteps %s\n' "$steps" >"$work/steps.desk"
+    run show "$work/steps.desk" --home --frame "$frames" -o "$work/shown.png"
+    [ "$status" -eq 0 ] && grep -q ": frame $frames of $frames, " "$work/out" || status_frames=1
+done
+tell 'show --home: a pass begins at line 0' $status_frames
+run show tests/traces/empty.trace --home -o "$work/shown.png"
+[ "$status" -eq 0 ] && grep -q ': 1 frame, 256 x 192' "$work/out" && [ "$(cat "$work/err")" = 'desk: note: no step of the trace has drawn a row' ]
+tell 'show --home: nothing drawn' $?
+alone='do not go together'
+says 'show --home --layers' 1 "desk show: --home and --layers $alone: the home machine tells no layers" show "$work/fill.trace" --home --layers -o "$work/none"
+says 'show --home --check' 1 "desk show: --home and --check $alone: the picture is that of the program \`home-snapshot\` already" show "$work/fill.trace" --home --check -o "$work/none"
+says 'show --home --area' 1 "desk show: --home and --area $alone: the home machine has one picture, and no areas" show "$work/fill.trace" --home --area 0 -o "$work/none"
+says 'show --home --table 0' 1 "desk show: --home and --table 0 $alone: the programs of the home machine go by table 1 alone" show "$work/fill.trace" --home --table 0 -o "$work/none"
+says 'list --home --table 0' 1 "desk list: --home and --table 0 $alone: the programs of the home machine go by table 1 alone" list "$work/fill.trace" --home --table 0
+says 'make --table 0 of a script for the home machine' 1 "$work/fill.desk:3:1: the programs of the home machine go by table 1 alone" make "$work/fill.desk" --table 0 -o "$work/none"
+says 'show --home: a step of another area, by its offset' 1 "desk: tests/traces/areas.trace: byte 3, record 2: a step of area 1, and the home machine's steps are of area 0" show tests/traces/areas.trace --home -o "$work/none"
+[ "$($RUN build/bin/home-trace tests/traces/areas.trace | tail -n 1)" = 'bad 3' ]
+tell 'as home-trace tells it' $?
+says 'show --home: a frame that is not there' 1 "desk: $work/fill.trace: frame 3, and there are 2 frames" show "$work/fill.trace" --home --frame 3 -o "$work/none"
+says 'show --home: a trace that is too long for the program' 1 'desk: the trace has 96,984 bytes, and `home-snapshot` takes at most 65,535' show "$work/long.trace" --home -o "$work/none"
+for command in list 'show -o none.png' 'pixel 0 0' sprites 'tiles -o none.png' palette "differ $work/fill.desk"; do
+    read -r word rest <<<"$command"
+    # a row and a column stand behind the script, all else may
+    says "$word: a script for the home machine" 1 "$work/fill.desk:3:1: the script is for the home machine: \`desk make\` takes it, and \`show\` and \`list\` with --home" $word "$work/fill.desk" $rest
+done
+damaged 's/no C call/no call/I' home.py && rm "$work/copy/build" && mkdir "$work/copy/build" && "$work/copy/desk/desk" show "$work/fill.trace" --home -o "$work/none" >"$work/out" 2>"$work/err"
+[ $? -eq 2 ] && [ "$(cat "$work/err")" = "desk: no $work/copy/build/bin/home-snapshot: \`make\` makes it" ]
+tell 'show --home: no program' $?
+[ ! -e "$work/none" ]
+tell 'nothing was written' $?
+# Listings, by home-trace.
+python3 tests/desk/random_traces.py 2 "${SEED:-1}" "$work/home" home
+cp "$work/fill.trace" tests/traces/refusals.trace tests/traces/interrupts.trace "$work/home/"
+texts=
+for trace in build/test/desk/home/*.trace; do
+    $RUN build/bin/home-trace "$trace" >"${trace%.trace}.text"
+    texts="$texts $trace ${trace%.trace}.text"
+done
+try 'list --home: listings make their traces again, and say of each record what home-trace prints' python3 tests/desk/round.py --home $texts
+run list "$work/fill.trace" --home
+cp "$work/out" "$work/listing.desk"
+[ "$status" -eq 0 ] && [ ! -s "$work/err" ] && "$desk" make "$work/listing.desk" -o - 2>/dev/null | cmp - "$work/fill.trace" && [ "$(tail -n 1 "$work/out")" = 'read BF                   # line 191, after row 191: the status: 20, two sprites met; it is 0 now' ]
+tell 'list --home: by the command' $?
+printf 'PR~LS\000LS\002' >"$work/damaged"
+"$desk" list "$work/damaged" --home >"$work/out" 2>"$work/err"
+[ $? -eq 1 ] && [ "$(wc -l <"$work/out")" -eq 4 ] && [ "$(cat "$work/err")" = "desk: $work/damaged: byte 6, record 3: a step of area 2, and the home machine's steps are of area 0" ]
+tell 'list --home: a damaged trace, and what stands before it' $?
+
 # Help, words that are wrong, and what cannot be read or written.
 run --help
 status_help=$status

@@ -119,8 +119,14 @@ made held $work/held.desk
 [ "$($RUN build/bin/home-trace $work/held.trace | grep '^r ' | tr '\n' ' ')" = 'r 0 80 r 0 00 ' ] && shows held 63 0 8 555555 && shows held 63 8 12 005500
 tell 'priority holds sprites back under the fill' $?
 
+# The commands of the page.
+said=$(python3 tests/desk/document.py $page $work/page 2>&1)
+status=$?
+[ $status -eq 0 ] || printf '%s\n' "$said"
+tell "its commands print what stands there, and draw its pictures: $(tail -n 1 <<<"$said")" $status
+
 # The question of the page: a colour that changes while the counter reads 90.
-printf 'until line 255\nuntil line 90\nwrite BF = 00 C0\nwrite BE = 3F\nuntil line 191\n' >$work/ninety.desk
+printf 'until line 255\nuntil line 90\ncolour 0 = 3F\nuntil line 191\n' >$work/ninety.desk
 made ninety $work/ninety.desk
 shows ninety 90 40 8 0055aa && shows ninety 91 40 8 ffffff && shows ninety 191 40 1 ffffff
 tell 'a colour changed at line 90: row 90 has the old one, row 91 the new' $?

@@ -62,6 +62,30 @@ CASES = [
                                       ("steps 25", "lines 168 to 192 draw no row"), ("steps 1", "line 193 draws no row, the screen ends, an interrupt"),
                                       ("steps 1", "line 194 draws no row, an interrupt"), ("read BF", "line 194, after row 143: the status: 80, the screen has ended; it is 0 now")]),
 ]
+# of the home machine, behind `home`
+HOME = [
+    ("reg 0 = E8", [("reg 0 = E8", START + "line interrupts off, early clock on, fill on, lock of rows 0 to 15 on, lock of columns 192 to 255 on")]),
+    ("reg 7 = 13", [("reg 7 = 13", START + "the fill has colour 19")]),
+    ("reg 8 = 10", [("reg 8 = 10", START + "the background goes 16 to the right")]),
+    ("colour 3 = CB", [("colour 3 = CB", START + "red 255, green 170, blue 0")]),
+    ("colour 30 = 3F 00", [("colour 30 = 3F 00", START + "colours 30 to 31")]),
+    ("write BF = 1F C0\nwrite BE = 01 02", [("colour 31 = 01", START + "red 85, green 0, blue 0"), ("write BE = 02", START + "colour 0: red 170, green 0, blue 0")]),
+    ("write BF = 23 FF\nwrite BE = 30", [("write BF = 23", START + "the first byte of a command"), ("write BF = FF", START + "palette address 03"), ("write BE = 30", START + "colour 3: red 0, green 0, blue 255")]),
+    ("write BF = 01 C0\nread BE", [("write BF = 01", START + "the first byte of a command"), ("write BF = C0", START + "palette address 01"),
+                                  ("read BE", START + "REFUSED: refusal 5, data read while the palette is chosen: latch empty")]),
+    ("sprite 3 = 20 40 7", [("vram 3F03 = 27", START + "3F03: sprite 3 from line 40 on, row 40"), ("vram 3F86 = 14 07", START + "3F86 to 3F87: sprite 3: X 20, column 20; tile 7")]),
+    # 64 sprites at line 0 of a fresh device: a ninth
+    ("reg 1 = 60\nsteps 194\nread BF", [("reg 1 = 60", START + "display on, frame interrupts on, sprites 8 high"), ("steps 191", "lines 1 to 191 draw rows 1 to 191"), ("steps 1", "line 192 draws no row"),
+                                      ("steps 1", "line 193 draws no row, the screen ends, an interrupt"), ("steps 1", "line 194 draws no row, an interrupt"),
+                                      ("read BF", "line 194, after row 191: the status: C0, the screen has ended, a ninth sprite; it is 0 now")]),
+]
+for script, wanted in HOME:
+    trace = language.made("home\n" + script, "script", ".", 1)
+    text = listing.listed(records.Trace(trace, "trace", True), 1, False, True)
+    if text != "".join(f"{statement:24}  # {words}\n" for statement, words in [("home", "the home machine, 256 x 192"), *wanted]):
+        sys.exit(f"{script!r} of the home machine is listed as\n{text}not as\n{wanted}")
+    if language.made(text, "listing", ".", 1) != trace:
+        sys.exit(f"{script!r}: its listing makes another trace")
 for script, wanted, *each in CASES:
     trace = language.made(script, "script", ".", 1)
     text = listing.listed(records.Trace(trace, "trace"), 1, bool(each))
@@ -69,4 +93,4 @@ for script, wanted, *each in CASES:
         sys.exit(f"{script!r} is listed as\n{text}not as\n{wanted}")
     if language.made(text, "listing", ".", 1) != trace:
         sys.exit(f"{script!r}: its listing makes another trace")
-print(f"{len(CASES)} listings")
+print(f"{len(CASES) + len(HOME)} listings")

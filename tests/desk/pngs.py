@@ -145,6 +145,13 @@ case("black", png(6, 8, rows_of(lambda c: (0, 0, 0, 255 * (c > 7))), 0), "palett
 case("own-colours", png(2, 8, rows_of(lambda c: COLOURS[c]), 0), "palette 0 = own-colours.png\ntile 0 = own-colours.png\n",
      tiled([list(dict.fromkeys(CODES)).index(c) for c in CODES]))
 
+# the home machine has two bits each, in one byte: by colours, by near ones of palette 1 that raw writes have set past address 31, and by its own
+HOME = [(85 * (n % 4), 85 * (n // 4), 85 * (n * 7 // 3 % 4)) for n in range(16)]
+held = " ".join(f"{r // 85 + g // 85 * 4 + b // 85 * 16:02X}" for r, g, b in HOME)
+case("home-colour", png(2, 8, rows_of(lambda c: HOME[c]), 0), f"home\ncolour 0 = {held}\ntile 0 = home-colour.png\n", tiled(CODES))
+case("home-near", png(2, 8, rows_of(lambda c: [v // 85 * 64 + 50 for v in HOME[c]]), 1), f"home\nwrite BF = B0 C7\nwrite BE = {held}\ntile 0 = home-near.png palette1\n", tiled(CODES))
+case("home-own", png(2, 8, rows_of(lambda c: HOME[c]), 2), "home\npalette 1 = home-own.png\ntile 0 = home-own.png palette1\n", tiled([list(dict.fromkeys(CODES)).index(c) for c in CODES]))
+
 good = png(3, 8, rows_of(lambda c: [c]), 0, plte)
 for name, data, error in (
     ("none", b"P6\n1 1\n255\n...", "this is no PNG"),

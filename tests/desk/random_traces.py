@@ -1,6 +1,7 @@
 #!/usr/bin/env python3
-"""random_traces.py COUNT SEED FOLDER: random traces, small enough for the programs: memory, registers, palette and sprites, two passes of steps of
-every area that the library takes, and port calls of all kinds between them, refused ones too."""
+"""random_traces.py COUNT SEED FOLDER [home]: random traces, small enough for the programs: memory, registers, palette and sprites, two passes of steps of
+every area that the library takes, and port calls of all kinds between them, refused ones too. For the home machine steps are of area 0, and register 0 has
+its bits."""
 import pathlib
 import random
 import sys
@@ -8,12 +9,14 @@ import sys
 sys.path.insert(0, str(pathlib.Path(__file__).resolve().parents[2] / "desk"))
 import library  # noqa: E402
 
-count, seed, folder = int(sys.argv[1]), int(sys.argv[2]), pathlib.Path(sys.argv[3])
+count, seed, folder, home = int(sys.argv[1]), int(sys.argv[2]), pathlib.Path(sys.argv[3]), sys.argv[4:] == ["home"]
 folder.mkdir(parents=True, exist_ok=True)
 COMMAND, DATA = 0xBF, 0xBE
 # mostly the visible area, and those of its size
 AREAS = list(library.areas())
 WEIGHTS = [40 if area.size == library.areas()[0].size else 2 for area in library.areas().values()]
+if home:
+    AREAS, WEIGHTS = [0], [1]
 
 
 def write(port, *values):
@@ -28,7 +31,7 @@ for number in range(count):
     pick = random.Random(seed * 1000 + number)
     byte = lambda: pick.choice((0, 255, pick.randrange(256)))  # noqa: E731
     trace = write(COMMAND, pick.choice((0xFF, 0x0E, 0xFE)), 0x82) + write(COMMAND, 0xFF, 0x85) + write(COMMAND, byte(), 0x86)
-    trace += write(COMMAND, pick.choice((0x00, 0x08, 0x10, 0x18)), 0x80) + write(COMMAND, pick.choice((0x00, 0x02, 0x40, 0x62)), 0x81)
+    trace += write(COMMAND, pick.choice((0x00, 0x08, 0x10, 0x18)) | (pick.randrange(8) * 32 if home else 0), 0x80) + write(COMMAND, pick.choice((0x00, 0x02, 0x40, 0x62)), 0x81)
     trace += write(COMMAND, byte(), 0x88) + write(COMMAND, byte(), 0x89)
     trace += write(COMMAND, 0, 0xC0) + write(DATA, *(pick.randrange(256) for _ in range(64)))
     for tile in range(40):

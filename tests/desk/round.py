@@ -1,6 +1,7 @@
 #!/usr/bin/env python3
-"""round.py TRACE TEXT ..: what `desk list` prints of each trace, together and record by record, is a script that makes the same bytes again; and what
-it says of every record is what `trace` prints of it, which is in TEXT: refusal, byte, counter, interrupt, report."""
+"""round.py [--home] TRACE TEXT ..: what `desk list` prints of each trace, together and record by record, is a script that makes the same bytes again; and
+what it says of every record is what `trace` prints of it, which is in TEXT: refusal, byte, counter, interrupt, report. With --home, `desk list --home` and
+`home-trace`."""
 import pathlib
 import re
 import sys
@@ -31,17 +32,18 @@ def wrong(statement, words, line):
     return not re.search(rf": (the line counter|the status|data): {rest[0]}\b", words)
 
 
-told = 0
-for name, text in zip(sys.argv[1::2], sys.argv[2::2]):
+told, home = 0, sys.argv[1:2] == ["--home"]
+names = sys.argv[2 if home else 1 :]
+for name, text in zip(names[::2], names[1::2]):
     trace = pathlib.Path(name).read_bytes()
-    found = records.Trace(trace, name)
+    found = records.Trace(trace, name, home)
     for each in (False, True):
-        for table in (0, 1):
-            script = listing.listed(found, table, each)
+        for table in (1,) if home else (0, 1):
+            script = listing.listed(found, table, each, home)
             if language.made(script, name, ".", table) != trace:
                 sys.exit(f"{name}: its listing makes another trace")
     lines = [re.fullmatch(r"(.*?) +# (.*)", line).groups() for line in script.splitlines()]
-    lines = [line for line in lines if not line[0].startswith("area ")]
+    lines = [line for line in lines if not line[0].startswith("area ") and line[0] != "home"]
     printed = pathlib.Path(text).read_text().splitlines()
     if printed[-1] != f"end {len(lines)}":
         sys.exit(f"{name}: {len(lines)} statements, and trace prints {printed[-1]}")
@@ -49,4 +51,4 @@ for name, text in zip(sys.argv[1::2], sys.argv[2::2]):
         if wrong(statement, words, line):
             sys.exit(f"{name}: `{statement}  # {words}`, and trace prints {line}")
     told += len(lines)
-print(f"{told:,} records of {len(sys.argv) // 2} traces")
+print(f"{told:,} records of {len(names) // 2} traces")

@@ -48,6 +48,12 @@ CASES = [
     ("pass\npasses 2", 0, STEP * 783),
     ("read 7E\nread BF times 2", 1, b"PR\x7ePR\xbfPR\xbf"),
     ("write BF = 00 8B\nwrite 0 = 1 times 2", 1, w((0xBF, 0), (0xBF, 0x8B), (0, 1), (0, 1))),
+    # the home machine: one byte a colour, and sprites where its screen has them; steps are of area 0
+    ("home\ncolour 17 = 3F", 1, command(17, 0xC0, 0x3F)),
+    ("# first\n\nhome # and now\ncolor 29 = 1 FF 0", 1, command(29, 0xC0, 0x01, 0xFF, 0x00)),
+    ("home\nsprite 3 = 20 40 7", 1, command(0x03, 0x7F, 39) + command(0x86, 0x7F, 20, 7)),
+    ("home\nsprite 63 = 255 0 255", 1, command(0x3F, 0x7F, 255) + command(0xFE, 0x7F, 255, 255)),
+    ("home\nmap 1 1 = 5\nread BF\nuntil line 0\npass", 1, command(0x42, 0x78, 5, 0) + b"PR\xbf" + STEP * 524),
 ]
 for script, table, wanted in CASES:
     made = language.made(script, "script", ".", table)

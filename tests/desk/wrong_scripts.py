@@ -83,6 +83,15 @@ CASES = [
     ("read 17E\n", (1, 6, "`17E`: the port is hexadecimal, 00 to FF")),
     ("write BF\n", (1, 9, "the line ends too early: `=` is missing")),
     (f"area {none}\n", (1, 6, f"area {none}: the library has no such area")),
+    # home
+    ("home 1\n", (1, 6, "`1`: nothing more is taken here")),
+    ("reg 1 = 40\n  home\ncolour 3 = 3F\n", (2, 3, "`home` stands before all other statements")),
+    ("home\nhome\n", (2, 1, "`home` stands before all other statements")),
+    ("home\ncolour 32 = 00\n", (2, 8, "`32`: the colour is a number from 0 to 31")),
+    ("home\ncolour 31 = 00 01\n", (2, 13, "2 colours from 31 on: there are 32")),
+    ("home\nsprite 3 = -1 0 0\n", (2, 12, "`-1`: its column is a number from 0 to 255")),
+    ("home\nsprite 3 = 0 209 0\n", (2, 14, "row 209 makes the Y byte D0, which ends the list of sprites: `sprite 3 end` says so")),
+    ("home\narea 0\n", (2, 1, "the home machine has one picture, and no areas")),
     # a command byte that waits would take the next line for its second
     ("write BF = 12\nreg 1 = 40\n", (2, 1, "a command byte waits for its second (`write BF`): the chip would take this line for it")),
 ]
