@@ -22,34 +22,44 @@ flags="--edition 2021 -O -C overflow-checks=off -C debug-assertions=off"
 # The published Rust must be there.
 need_gears() { has_gears || { echo "build.sh: $no_gears" >&2; exit 1; }; }
 
+# One at a time: suites that run side by side share the programs.
+mkdir -p $out/x86 $out/here
+if command -v flock >/dev/null; then
+    exec 9>$out/lock
+    flock 9
+fi
+
+published=
+if has_gears; then published=yes; fi
+# made OUT LIBRARY COMMAND..: OUT by this command, unless it is there, by the same command, and no source and no library is newer.
+made() {
+    made=$1 library=$2
+    shift 2
+    if [ -e "$made" ] && [ "$(cat "$made.by" 2>/dev/null)" = "$*" ] &&
+        [ -z "$(find oracle/*.rs ${library:+"$library"} ${published:+"$GEARS/vdp.rs" "$GEARS/io.rs"} -newer "$made")" ]; then return; fi
+    rm -f "$made.by"
+    "$@" -o "$made"
+    printf '%s\n' "$*" >"$made.by"
+}
+# The rules written a second time, as a library.
+rules_x86() { made $out/x86/librules.rlib "" $RUSTC $flags --crate-type rlib --crate-name rules oracle/rules.rs; }
+rules_here() { made $out/here/librules.rlib "" $RUSTC_HERE $flags --crate-type rlib --crate-name rules oracle/rules.rs; }
+
 for what in "$@"; do
     case $what in
-    compare)
-        need_gears
-        mkdir -p $out/x86
-        $RUSTC $flags --crate-type rlib --crate-name rules oracle/rules.rs -o $out/x86/librules.rlib
-        $RUSTC $flags --extern rules=$out/x86/librules.rlib -L native=build -l static=vdp oracle/compare.rs -o $out/compare
-        ;;
-    tiles | repair | records)
-        mkdir -p $out/x86
-        $RUSTC $flags --crate-type rlib --crate-name rules oracle/rules.rs -o $out/x86/librules.rlib
-        $RUSTC $flags --extern rules=$out/x86/librules.rlib -L native=build -l static=vdp oracle/$what.rs -o $out/$what
-        ;;
-    pixels)
-        if [ -n "${HERE_LIB:-}" ]; then
-            mkdir -p $out/here
-            $RUSTC_HERE $flags --crate-type rlib --crate-name rules oracle/rules.rs -o $out/here/librules.rlib
-            $RUSTC_HERE $flags --extern rules=$out/here/librules.rlib -C "link-arg=$HERE_LIB" oracle/pixels.rs -o $out/here/pixels
+    compare | tiles | repair | records | pixels)
+        [ $what != compare ] || need_gears
+        if [ $what = pixels ] && [ -n "${HERE_LIB:-}" ]; then
+            rules_here
+            made $out/here/pixels "$HERE_LIB" $RUSTC_HERE $flags --extern rules=$out/here/librules.rlib -C "link-arg=$HERE_LIB" oracle/pixels.rs
         else
-            mkdir -p $out/x86
-            $RUSTC $flags --crate-type rlib --crate-name rules oracle/rules.rs -o $out/x86/librules.rlib
-            $RUSTC $flags --extern rules=$out/x86/librules.rlib -L native=build -l static=vdp oracle/pixels.rs -o $out/pixels
+            rules_x86
+            made $out/$what build/libvdp.a $RUSTC $flags --extern rules=$out/x86/librules.rlib -L native=build -l static=vdp oracle/$what.rs
         fi
         ;;
     traces | homes)
-        mkdir -p $out/here
-        $RUSTC_HERE $flags --crate-type rlib --crate-name rules oracle/rules.rs -o $out/here/librules.rlib
-        $RUSTC_HERE $flags --extern rules=$out/here/librules.rlib oracle/$what.rs -o $out/$what
+        rules_here
+        made $out/$what "" $RUSTC_HERE $flags --extern rules=$out/here/librules.rlib oracle/$what.rs
         ;;
     here | repair-here | records-here)
         program=${what%-here}
@@ -57,16 +67,15 @@ for what in "$@"; do
             need_gears
             program=compare
         fi
-        mkdir -p $out/here
-        $RUSTC_HERE $flags --crate-type rlib --crate-name rules oracle/rules.rs -o $out/here/librules.rlib
+        rules_here
         # The stand-in is looked for beside the program, wherever that stands.
         if [ -n "${HERE_LIB:-}" ]; then
             set -- -C "link-arg=$HERE_LIB"
         else
-            $RUSTC_HERE $flags --crate-type cdylib --crate-name vdp --extern rules=$out/here/librules.rlib oracle/standin.rs -o $out/here/libvdp.so
+            made $out/here/libvdp.so "" $RUSTC_HERE $flags --crate-type cdylib --crate-name vdp --extern rules=$out/here/librules.rlib oracle/standin.rs
             set -- -L native=$out/here -l dylib=vdp -C 'link-arg=-Wl,-rpath,$ORIGIN'
         fi
-        $RUSTC_HERE $flags --extern rules=$out/here/librules.rlib "$@" oracle/$program.rs -o $out/here/$program
+        made $out/here/$program "${HERE_LIB:-$out/here/libvdp.so}" $RUSTC_HERE $flags --extern rules=$out/here/librules.rlib "$@" oracle/$program.rs
         ;;
     *)
         echo "build.sh: unknown: $what" >&2

@@ -62,8 +62,7 @@ if has_gears; then
     $RUSTC --edition 2021 -O player/swap.rs -L native=build -o $out/swap && $RUN $out/swap
     tell "the player's file in place of the published one" $?
 else
-    echo "SKIPPED: the comparison with the published Rust: $no_gears"
-    skipped=6
+    skip "the comparison with the published Rust" "$no_gears"
 fi
 
 total

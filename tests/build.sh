@@ -1,14 +1,8 @@
 #!/usr/bin/env bash
 # build.sh: what make builds and when, in a copy of the project whose path has spaces, with a stand-in for rt that hands out what is built already and
 # notes how it is called: so that the rules of the Makefile are tried in seconds. And what make and make test say where they cannot begin.
-set -u
-cd "$(dirname "$0")/.."
-unset MAKEFLAGS MAKELEVEL
-. tools/tell.sh
-if ! make --no-print-directory build; then
-    echo '0 passed, 1 failed'
-    exit 1
-fi
+. "$(dirname "$0")/begin.sh"
+needs build
 before=$(stat -c '%n %Y.%y' build/libvdp.a build/bin/*)
 said=$(make --no-print-directory build)
 [ -z "$said" ] && [ "$before" = "$(stat -c '%n %Y.%y' build/libvdp.a build/bin/*)" ]
@@ -119,8 +113,8 @@ tell "the gate's last line is the sum all the same" $?
 chmod -R u+w "$copy"
 
 # A C++ compiler that is missing.
-CXX=no-such-compiler bash tests/c.sh >"$work/said" 2>&1
-[ $? -eq 0 ] && grep -q '^SKIPPED: the C++ example: no no-such-compiler here$' "$work/said" && tail -n 1 "$work/said" | grep -q '^[0-9]* passed, 0 failed, [2-9] skipped$'
+SUITE=build-c CXX=no-such-compiler bash tests/c.sh >"$work/said" 2>&1
+[ $? -eq 0 ] && grep -q '^SKIPPED: the C++ example: no no-such-compiler here$' "$work/said" && tail -n 1 "$work/said" | grep -q '^[0-9]* passed, 0 failed, [1-9] skipped$'
 tell "a C++ compiler that is missing counts as skipped" $?
 
 # A Z80 assembler that is missing and cannot be installed.
@@ -130,7 +124,7 @@ rm -f "$work/all/z80asm"
 for word in dpkg apt-get; do printf '#!/bin/sh\necho "E: Unable to locate package z80asm" >&2\nexit 100\n' >"$work/none/$word"; done
 cp "$work/few/sudo" "$work/none/"
 chmod +x "$work/none"/*
-PATH="$work/none:$work/all:$(dirname "$(command -v rt)")" bash tests/cartridge.sh >"$work/said" 2>&1
+SUITE=build-cartridge PATH="$work/none:$work/all:$(dirname "$(command -v rt)")" bash tests/cartridge.sh >"$work/said" 2>&1
 [ $? -eq 0 ] && [ "$(grep -c '^SKIPPED: the cartridges: setup: error: could not install .*z80asm (E: Unable to locate package z80asm)' "$work/said")" -eq 1 ] &&
     tail -n 1 "$work/said" | grep -q '^0 passed, 0 failed, [1-9][0-9]* skipped$'
 status=$?
@@ -145,8 +139,7 @@ if has_gears; then
     [ "$status" -eq 0 ] || cat "$work/said"
     tell "oracle/build.sh here in a place with spaces" $status
 else
-    echo "SKIPPED: oracle/build.sh here: $no_gears"
-    skipped=$((skipped + 1))
+    skip "oracle/build.sh here" "$no_gears"
 fi
 
 total

@@ -1,17 +1,10 @@
 #!/usr/bin/env bash
 # bus.sh: R11.12: no call loads a byte of video memory that the rules do not need, or one of them twice, call by call: in the library as its user
 # gets it, and in its code with no optimisation, so that this is no gift of a compiler.
-set -u
-cd "$(dirname "$0")/.."
-unset MAKEFLAGS MAKELEVEL
-. tools/tell.sh
-if ! make --no-print-directory build native; then
-    echo '0 passed, 1 failed'
-    exit 1
-fi
+. "$(dirname "$0")/begin.sh"
+needs build native
 if ! said=$(sh tools/setup.sh bus 2>&1 >/dev/null); then
-    echo "SKIPPED: the turns of the bus: $said"
-    skipped=17
+    skip "the turns of the bus" "$said"
     total
     exit
 fi
@@ -45,8 +38,7 @@ if has_gears; then
     [ "${more:-0}" -eq 40 ]
     tell "the Rust with no optimisation, which loads a byte for every pixel, is caught in each of its rows: ${turns:-no} turns, the least is ${least:-unknown}" $?
 else
-    echo "SKIPPED: the turns of the Rust: $no_gears"
-    skipped=1
+    skip "the turns of the Rust" "$no_gears"
 fi
 
 total

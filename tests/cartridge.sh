@@ -1,21 +1,10 @@
 #!/usr/bin/env bash
 # cartridge.sh: examples/cartridge: three cartridges are assembled and played on a Z80 core; their pictures are held to what they must show, and their
 # recordings, run by trace and snapshot, to the same answers and the same pixels. And what the player does with banks, ports, interrupts and bad input.
-set -u
-cd "$(dirname "$0")/.."
-unset MAKEFLAGS MAKELEVEL
-. tools/cross.sh
-. tools/tell.sh
-if ! make --no-print-directory build native; then
-    echo '0 passed, 1 failed'
-    exit 1
-fi
-work=build/test/cartridge
-rm -rf $work
-mkdir -p $work
+. "$(dirname "$0")/begin.sh"
+needs build native
 if ! sh tools/setup.sh cartridge 2>$work/said; then
-    echo "SKIPPED: the cartridges: $(tail -n 1 $work/said)"
-    skipped=92
+    skip "the cartridges" "$(tail -n 1 $work/said)"
     total
     exit
 fi
@@ -126,8 +115,7 @@ if command -v python3 >/dev/null; then
         tell "$png is what $name.gg shows" $?
     done
 else
-    echo "SKIPPED: the pictures as PNG: no python3 here"
-    skipped=$((skipped + 3))
+    skip "the pictures as PNG" "no python3 here"
 fi
 
 # Long runs: the same picture in the 600th frame; the recording ends where it is full, and what there is of it is whole.

@@ -1,24 +1,14 @@
 #!/usr/bin/env bash
 # desk.sh: the authors' desk: every subcommand, its errors with their statuses, scripts to traces and back, its pictures beside those of the programs and
 # of docs, what it tells of pixels beside the frame that snapshot draws, and the pages docs/DESK.md and README.md, whose commands are run again.
-set -u
-cd "$(dirname "$0")/.."
-unset MAKEFLAGS MAKELEVEL
-. tools/cross.sh
-. tools/tell.sh
+. "$(dirname "$0")/begin.sh"
 if ! command -v python3 >/dev/null; then
-    echo 'SKIPPED: the desk: no python3 here'
-    skipped=1
+    skip 'the desk' 'no python3 here'
     total
     exit
 fi
-if ! make --no-print-directory build desk; then
-    echo '0 passed, 1 failed'
-    exit 1
-fi
-work=$PWD/build/test/desk
-rm -rf "$work"
-mkdir -p "$work"
+needs build desk
+work=$PWD/$work
 desk=$PWD/build/bin/desk
 
 # run WORDS..: the desk with these words; what it says is in out and err.

@@ -2,14 +2,8 @@
 # handbook.sh: every trace of docs/HANDBOOK.md made anew from the bytes that stand there, run by either line table and compared with the lines beside them;
 # that each refusal from 1 to 6 has a section of its own, which shows it, and 7 none; every other command of the page run again, with its pictures; when each
 # write shows and which lines interrupt, asked of the library at every reading of a pass; and that the theorems and definitions which are named are there.
-set -u
-cd "$(dirname "$0")/.."
-. tools/cross.sh
-[ -x build/bin/trace ] && [ -x build/bin/trace-261 ] && [ -x build/bin/desk ] && [ -e build/native/libvdp.so ] || make --no-print-directory build desk || exit 1
-work=build/test/handbook
-rm -rf $work
-mkdir -p $work
-. tools/tell.sh
+. "$(dirname "$0")/begin.sh"
+needs build desk
 book=docs/HANDBOOK.md
 
 # Of each section on a refusal its rows `| bytes | line | .. |`: the bytes to N.hex, the lines and their number to N.text. Section 7 tells why there is none.
@@ -43,17 +37,22 @@ sed -n "s/^\(printf '.*'\) | build.*/\1/p" $book > $work/shown.sh
 sh $work/shown.sh | cmp $work/1.trace -
 tell 'the trace that is shown with printf is the first' $?
 
+# The theorems, each on one line.
+theorems=$(for file in crates/demands/proofs/*.antt; do awk '/^ / { sub(/^ +/, " "); printf "%s", $0; next } { printf "\n%s", $0 }' "$file"; done)
+# proved THEOREM STATEMENT: there is one of this name, of this statement.
+proved() { grep -qE "^pub $1 : .*→ $2 " <<<"$theorems"; }
+
 # The theorems by which 7 is struck.
 for both in 'never-seven NeverSeven' 'face-never-seven FaceNeverSeven' 'never-seven-home NeverSeven'; do
     read -r theorem statement <<<"$both"
-    grep -q "\`$theorem\`" $book && grep -qE "^pub $theorem : .*→ $statement " crates/demands/proofs/Seven.antt && grep -q "^pub record $statement " crates/demands/specs/Seven.antt
+    grep -q "\`$theorem\`" $book && proved "$theorem" "$statement" && grep -q "^pub record $statement " crates/demands/specs/Seven.antt
     tell "$theorem is proved by that name" $?
 done
 
 # When a write shows: what stands in brackets on that part of the page is a theorem, a field of one, or a definition.
 for both in 'write-shows-visible WriteShows' 'count-waits CountWaits'; do
     read -r theorem statement <<<"$both"
-    grep -q "(\`$theorem\`" $book && grep -qE "^pub $theorem : .*→ $statement " crates/demands/proofs/*.antt && grep -q "^pub record $statement " crates/demands/specs/Shows.antt
+    grep -q "(\`$theorem\`" $book && proved "$theorem" "$statement" && grep -q "^pub record $statement " crates/demands/specs/Shows.antt
     tell "$theorem is proved by that name" $?
 done
 names=$(sed -n '/^## When does each write show/,/^## On other players/p' $book | grep -oE '\([^()]*`[^()]*\)' | grep -oE '`[A-Za-z0-9-]+`' | tr -d '`' | sort -u)
@@ -104,8 +103,7 @@ if command -v python3 >/dev/null; then
     caught 'register 9 at once' 's/^| register 9,.*//' 'register 9, written while the counter reads 0: ' python3 tests/handbook/rows.py $work/other.md
     caught 'another line that interrupts' 's/^| 3 | 2, 6, 10 /| 3 | 2, 6, 11 /' ' has another table' python3 tests/handbook/interrupts.py $work/other.md
 else
-    echo 'SKIPPED: the commands of the page: no python3 here'
-    skipped=1
+    skip 'the commands of the page' 'no python3 here'
 fi
 
 total

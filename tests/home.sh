@@ -1,18 +1,8 @@
 #!/usr/bin/env bash
 # home.sh: build/bin/home-trace and build/bin/home-snapshot on whole, damaged, empty and long recordings; what docs/HOME.md says of colours, locks, fill and
 # sprites, asked of them; and the pictures and lines of that page, made anew. (Beside the rules written a second time they are held in oracle/suite.sh.)
-set -u
-cd "$(dirname "$0")/.."
-unset MAKEFLAGS MAKELEVEL
-. tools/cross.sh
-. tools/tell.sh
-if ! make --no-print-directory build desk; then
-    echo '0 passed, 1 failed'
-    exit 1
-fi
-work=build/test/home
-rm -rf $work
-mkdir -p $work
+. "$(dirname "$0")/begin.sh"
+needs build desk
 page=docs/HOME.md
 
 # What the handheld prints where neither palette, picture nor status is asked for; and refusal 6, which does not come here.
@@ -82,8 +72,7 @@ sh -c "$shown" | $RUN build/bin/home-trace | cmp $work/expected -
 tell 'the trace that the page shows with printf' $?
 
 if ! command -v python3 >/dev/null; then
-    echo 'SKIPPED: the pictures of the page: no python3 here'
-    skipped=1
+    skip 'the pictures of the page' 'no python3 here'
     total
     exit
 fi

@@ -1,18 +1,10 @@
 #!/usr/bin/env bash
 # programs.sh: what the programs do around their work: the input by name or on standard input, --help, and what is told on standard error where
 # a read or a write fails. What they print of a trace is in traces.sh, of a block in repair.sh.
-set -u
-cd "$(dirname "$0")/.."
-unset MAKEFLAGS MAKELEVEL
-. tools/cross.sh
-. tools/tell.sh
-if ! make --no-print-directory build; then
-    echo '0 passed, 1 failed'
-    exit 1
-fi
-work=$PWD/build/test/programs
-rm -rf "$work"
-mkdir -p "$work/a folder"
+. "$(dirname "$0")/begin.sh"
+needs build
+work=$PWD/$work
+mkdir "$work/a folder"
 trace=tests/traces/split90.trace
 
 # told NAME LINE: the last run wrote nothing to standard output, this one line to standard error, and ended well.
@@ -103,7 +95,7 @@ if command -v python3 >/dev/null; then
     [ $? -eq 1 ] && [ ! -s "$work/png" ] && [ "$(wc -l <"$work/said")" -eq 1 ]
     tell "ppm2png.py: no picture came" $?
 else
-    skipped=$((skipped + 3))
+    skip 'ppm2png.py' 'no python3 here'
 fi
 
 # The own run of crates/snapshot shows the picture of that trace.

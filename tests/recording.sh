@@ -1,15 +1,8 @@
 #!/usr/bin/env bash
 # recording.sh: recordings that are written: the calls from C, the same beside the rules written a second time, and runs of the player that the trace
 # programs run again: they print the very answers that the player got, and snapshot draws the frame that it drew.
-set -u
-cd "$(dirname "$0")/.."
-. tools/cross.sh
-unset MAKEFLAGS MAKELEVEL
-make --no-print-directory build native || exit 1
-work=build/test/recording
-rm -rf $work
-mkdir -p $work
-. tools/tell.sh
+. "$(dirname "$0")/begin.sh"
+needs build native
 strict="-Wall -Wextra -pedantic -Werror -O2"
 
 $CC_X86 -std=c99 $strict -Iinclude tests/record.c build/libvdp.a -o $work/record && $RUN $work/record $work/worked.trace

@@ -1,18 +1,8 @@
 #!/usr/bin/env bash
 # repair.sh: build/bin/repair on good blocks of both versions, on each field damaged, on inputs of other lengths, and beside the rules written a second
 # time. (The call of the C face is in oracle/suite.sh.)
-set -u
-cd "$(dirname "$0")/.."
-unset MAKEFLAGS MAKELEVEL
-. tools/cross.sh
-. tools/tell.sh
-if ! make --no-print-directory build; then
-    echo '0 passed, 1 failed'
-    exit 1
-fi
-work=build/test/repair
-rm -rf $work
-mkdir -p $work
+. "$(dirname "$0")/begin.sh"
+needs build
 
 # mends NAME BLOCK MENDED LINE..: of the file BLOCK the program writes the file MENDED, and these lines to standard error.
 mends() {

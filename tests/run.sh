@@ -1,21 +1,29 @@
 #!/usr/bin/env bash
 # run.sh: every test there is, and their sum. Each suite is a command whose last line is 'N passed, M failed' (', K skipped' may follow).
-# The last line here is the sum of all; the exit status is 0 only where nothing failed and every suite said so itself.
+# First the proofs, from nothing, on all processors; then everything is built, once; then the suites, side by side, each shown whole when it has ended. A
+# table then says where the time went. The last line is the sum of all; the exit status is 0 only where nothing failed and every suite said so itself.
 set -u
 cd "$(dirname "$0")/.."
 logs=build/test
 . tools/tell.sh
 # The suites call make themselves, and none is a part of the make that may have started this.
 unset MAKEFLAGS MAKELEVEL
+processors=$(nproc 2>/dev/null || echo 1)
 
-# suite NAME COMMAND..: runs it, shows what it prints, and adds its last line to the sum.
-suite() {
-    local name=$1 last status began
+# try NAME COMMAND..: runs a suite; leaves its log, and its exit status with its seconds.
+try() {
+    local name=$1 began status
     shift
-    printf '\n== %s\n' "$name"
     began=$(date +%s)
-    "$@" 2>&1 </dev/null | tee "$logs/$name.log"
-    status=${PIPESTATUS[0]}
+    "$@" >"$logs/$name.log" 2>&1 </dev/null
+    status=$?
+    echo "$status $(($(date +%s) - began))" >"$logs/$name.end"
+}
+
+# count NAME: adds the last line of a suite that has ended to the sum.
+count() {
+    local name=$1 last status seconds
+    read -r status seconds <"$logs/$name.end"
     last=$(tail -n 1 "$logs/$name.log")
     if [[ $last =~ ^([0-9]+)\ passed,\ ([0-9]+)\ failed(,\ ([0-9]+)\ skipped)?$ ]]; then
         passed=$((passed + BASH_REMATCH[1]))
@@ -29,7 +37,20 @@ suite() {
         printf "%s: its last line is not 'N passed, M failed' (exit status %s)\n" "$name" "$status"
         failed=$((failed + 1))
     fi
-    printf '(%s: %s s)\n' "$name" $(($(date +%s) - began))
+    printf '(%s: %s s)\n' "$name" "$seconds"
+}
+
+# show: every suite that has ended and was not shown yet.
+show() {
+    local name
+    for name in $running; do
+        [ -e "$logs/$name.end" ] || continue
+        printf '\n== %s\n' "$name"
+        cat "$logs/$name.log"
+        count "$name"
+        running=" $running "
+        running=${running/ $name / }
+    done
 }
 
 # close: the last line, kept for .ci/run, which shows it again where make adds a line of its own.
@@ -44,13 +65,39 @@ if ! sh tools/setup.sh rust; then
     exit 1
 fi
 # From nothing: what an earlier make left is made again, of what is proved now.
-rm -rf build/bin build/libvdp.a build/native build/toolchain
+rm -rf build/bin build/libvdp.a build/native build/toolchain build/oracle $logs
 mkdir -p $logs
 
-suite proofs rt ci
-for s in tests/[a-z]*.sh; do
-    [ "$s" = tests/run.sh ] || suite "$(basename "$s" .sh)" bash "$s"
+# rt starts as many proofs as it may and waits for all of them before it starts more: with more than there are processors, these stay busy.
+printf '\n== proofs\n'
+began=$(date +%s)
+RT_JOBS=${RT_JOBS:-$((2 * processors))} rt ci 2>&1 </dev/null | tee $logs/proofs.log
+echo "${PIPESTATUS[0]} $(($(date +%s) - began))" >$logs/proofs.end
+count proofs
+
+# What the suites test, made once; a suite that is run by itself makes it.
+printf '\n== make\n'
+try make make --no-print-directory build native desk
+cat $logs/make.log
+read -r status seconds <$logs/make.end
+tell "make build native desk ($seconds s)" "$status"
+export BUILT=1
+
+# The longest first, so that none of them is left alone at the end.
+running=
+for name in outside desk cartridge build bus $(basename -s .sh tests/[a-z]*.sh | grep -vxE 'run|begin|outside|desk|cartridge|build|bus'); do
+    while [ "$(wc -w <<<"$running")" -ge "$processors" ]; do
+        wait -n
+        show
+    done
+    try "$name" bash "tests/$name.sh" &
+    running="$running $name"
+done
+while [ -n "${running// /}" ]; do
+    wait -n
+    show
 done
 
+sh tools/times.sh $logs | tee $logs/times
 printf '\n'
 close

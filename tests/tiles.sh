@@ -1,13 +1,8 @@
 #!/usr/bin/env bash
 # tiles.sh: build/bin/sheet on sheets of every size around its limits, the two calls on tiles beside the rules written a second time, and a drawing that
 # goes by the sheet, the ports and the picture back to its own pixels.
-set -u
-cd "$(dirname "$0")/.."
-. tools/cross.sh
-[ -x build/bin/sheet ] && [ -x build/bin/snapshot ] && [ -e build/libvdp.a ] || make --no-print-directory build || exit 1
-work=build/test/tiles
-mkdir -p $work
-. tools/tell.sh
+. "$(dirname "$0")/begin.sh"
+needs build
 
 # writes NAME SHEET TILES: of the file SHEET the program writes the file TILES.
 writes() {
@@ -98,7 +93,7 @@ if command -v python3 > /dev/null; then
     python3 tools/ppm2png.py < $work/drawing.ppm | python3 tools/ppm2sheet.py | cmp - $work/drawing.sheet
     tell 'the same sheet from the drawing as PNG' $?
 else
-    skipped=3
+    skip 'a drawing as PNG' 'no python3 here'
 fi
 
 total

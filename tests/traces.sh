@@ -2,14 +2,8 @@
 # traces.sh: build/bin/trace and build/bin/snapshot on whole, damaged, empty and long recordings, and the split at line 90; and their twins, which go by
 # the other line table.
 # What is expected: of the traces in tests/traces/ the text beside each; of the others what docs/RULES.md says (R7.8, R7.11, R7.13), said again here.
-set -u
-cd "$(dirname "$0")/.."
-. tools/cross.sh
-unset MAKEFLAGS MAKELEVEL
-make --no-print-directory build || exit 1
-work=build/test/traces
-mkdir -p $work
-. tools/tell.sh
+. "$(dirname "$0")/begin.sh"
+needs build
 
 # prints NAME TRACE TEXT: the file TRACE prints the file TEXT.
 prints() {
@@ -69,7 +63,7 @@ if command -v python3 > /dev/null; then
     for trace in tests/traces/*.trace; do cmp "$trace" "$work/made/$(basename "$trace")" || status=1; done
     tell "the traces are as their scripts write them" $status
 else
-    skipped=$((skipped + 1))
+    skip 'the scripts of the traces' 'no python3 here'
 fi
 
 # Damaged ones: behind records of 0, 3, 7 and 29 bytes a bad record of each kind, with a whole one behind it where it isn't cut.
@@ -161,7 +155,7 @@ for both in "picture -picture" "layers "; do
         $RUN build/bin/$program < tests/traces/layers.trace | python3 tools/ppm2png.py 2 | cmp docs/layers$suffix.png -
         tell "docs/layers$suffix.png is what $program writes" $?
     else
-        skipped=$((skipped + 1))
+        skip "docs/layers$suffix.png" 'no python3 here'
     fi
 done
 
@@ -172,7 +166,7 @@ for name in edges-visible edges-true; do
         python3 tools/ppm2png.py 2 < $work/$name.ppm | cmp docs/$name.png -
         tell "docs/$name.png is what snapshot writes" $?
     else
-        skipped=$((skipped + 1))
+        skip "docs/$name.png" 'no python3 here'
     fi
 done
 # shows NAME Y X COUNT COLOUR: COUNT pixels from column X of row Y on have this colour.

@@ -12,6 +12,12 @@ tell() {
     fi
 }
 
+# skip NAME WHY: one line, and one in the sum, for what cannot be tested here, be it one test or a whole suite.
+skip() {
+    printf 'SKIPPED: %s: %s\n' "$1" "$2"
+    skipped=$((skipped + 1))
+}
+
 # total: the last line. Its status is 0 where nothing failed.
 total() {
     printf '%s passed, %s failed' "$passed" "$failed"
