@@ -1,13 +1,25 @@
 #!/usr/bin/env bash
-# layout.sh: what no proof says of the sources: their layout, that every definition file tells what it assumes, that the rules which are cited are those
+# layout.sh: what no proof says of the sources: their layout, that every proof says what it shows and every definition file what it assumes, that the rules which are cited are those
 # of docs/RULES.md and no others, that every public function has its theorem of one outcome or stands among the exceptions, that the theorem on refusal 7 speaks of every call there is,
 # that docs/CONTRACTS.md tells of every edit which must fail, and that each of them was tried, and refused for a fact.
-set -u
-cd "$(dirname "$0")/.."
-. tools/tell.sh
+. "$(dirname "$0")/begin.sh"
 
 rt fmt --check
 tell "the sources are in the toolchain's layout" $?
+
+# The answers of a proof are written by hand in a file that the toolchain prints: what it prints for the time of the work does not stay.
+if command -v python3 >/dev/null; then
+    python3 tools/tidy.py --check $(find crates -name '*.antt')
+    tell "no file brings in what it does not use, and no line of a proof or a definition is longer than 160 characters" $?
+else
+    skip 'imports and long lines' 'no python3 here'
+fi
+bare=$(for proof in $(find crates -name Proof.antt); do head -n 1 "$proof" | grep -q '^-- `' || echo "$proof"; done)
+[ -z "$bare" ] || printf '%s\n' "$bare"
+[ -z "$bare" ]
+tell "every proof says in its first line of which function it is, and what it shows" $?
+! grep -rnE --include=Proof.antt '^ *-- (src/)?[a-z_]+\.rt:[0-9]+' crates
+tell "no proof names a place of the source by its line" $?
 
 bare=$(grep -L '^-- .*Assumes nothing' $(find crates -path '*/specs/*.antt' ! -name Lib.antt))
 [ -z "$bare" ] || printf '%s\n' "$bare"

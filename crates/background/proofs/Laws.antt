@@ -60,7 +60,8 @@ module _ (vram : List ℕ) (names sx y x i : ℕ) (h : (sx + x) % 8 + i < 8) whe
 -- ---- the marks of one tile
 module _ (vram : List ℕ) (names sx y cut x n : ℕ) (small : n ≤ 8) (w : Whole cut x n) (solid : ℕ → Bool) where
   more : (t : Bool) → ((j : ℕ) → j < n → backFront vram names sx y (x + j) ≡ (t && solid j)) → (i : ℕ) → i < 256
-      → prioTo vram names sx y cut (x + n) i ≡ (prioTo vram names sx y cut x i || (ltb (past i (placeAt cut x)) n && (t && solid (past i (placeAt cut x)))))
+      → prioTo vram names sx y cut (x + n) i ≡ (prioTo vram names sx y cut x i ||
+      (ltb (past i (placeAt cut x)) n && (t && solid (past i (placeAt cut x)))))
   unfolding prioTo
   more t f i l =
       any-split x n (λ p. eqb (cutMark cut p) i && backFront vram names sx y p)
@@ -69,7 +70,8 @@ module _ (vram : List ℕ) (names sx y cut x n : ℕ) (small : n ≤ 8) (w : Who
       (λ j h. rw (w j h, f j h))
       ∙ any-place n (placeAt cut x) i (λ j. t && solid j) (omega arith) l)
 
-  pub tile-marks : (t : Bool) {mask mask′ : List ℕ} {bits : ℕ} → ((j : ℕ) → j < n → backFront vram names sx y (x + j) ≡ (t && solid j)) → mask ≡ bytesOf (prioTo vram names sx y cut x)
+  pub tile-marks : (t : Bool) {mask mask′ : List ℕ} {bits : ℕ} → ((j : ℕ) → j < n → backFront vram names sx y (x + j) ≡ (t && solid j)) → mask ≡
+      bytesOf (prioTo vram names sx y cut x)
       → bits ≡ number n solid → mask′ ≡ cond t (withByte mask (placeAt cut x) bits) mask → mask′ ≡ bytesOf (prioTo vram names sx y cut (x + n))
   tile-marks true f e b p =
       p ∙ rw (e, b, withByte-bytesOf (prioTo vram names sx y cut x) (placeAt cut x) (number n solid))
@@ -134,7 +136,8 @@ whole-first sx cut n d f j h =
     let lj : j < 8 - cut = ⊎-elim (λ q. omega arith) (λ q. omega arith) d in
     first cut j c8 lj
 
-pub starts-next : (sx width x n : ℕ) → Starts sx width x → x < width → x + n ≤ width → (x + n < width → (sx + x) % 8 + n ≡ 8) → Starts sx width (x + n)
+pub starts-next : (sx width x n : ℕ) → Starts sx width x → x < width → x + n ≤ width → (x + n < width → (sx + x) % 8 + n ≡ 8) → Starts sx width
+    (x + n)
 starts-next sx width x n s l r e =
     inr (λ h. let q = e h in
     ⊎-elim (λ z. (omega arith, omega arith)) (λ u. let v = u l in (omega arith, omega arith)) s)

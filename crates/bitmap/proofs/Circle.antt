@@ -141,7 +141,8 @@ module _ (v q s o : ℕ) (hv : v < 256) (hq : q < 32) (hs : s < 8) (ho : o ≡ 8
         elim (ℕ-discrete k ((q + 1) % 32)) [
           | yes e ↦
               rw e (getD-set-same once ((q + 1) % 32) (bitOr (getD once ((q + 1) % 32) 0) (v / 2 / 2 ^ (8 - s - 1))) 0 (simp length-set (omega arith))
-              ∙ ap (λ (x : ℕ). bitOr x (v / 2 / 2 ^ (8 - s - 1))) (getD-set-other m q ((q + 1) % 32) (bitOr (getD m q 0) (v * 2 ^ s % 256)) 0 (omega arith))
+              ∙ ap (λ (x : ℕ). bitOr x (v / 2 / 2 ^ (8 - s - 1)))
+              (getD-set-other m q ((q + 1) % 32) (bitOr (getD m q 0) (v * 2 ^ s % 256)) 0 (omega arith))
               ∙ byte-laid ((q + 1) % 32) (v / 2 / 2 ^ (8 - s - 1)) (omega arith) (omega (arith, shr-le (v / 2) (8 - s - 1))) second)
           | no nn ↦
               getD-set-other once ((q + 1) % 32) k (bitOr (getD once ((q + 1) % 32) 0) (v / 2 / 2 ^ (8 - s - 1))) 0 nn
@@ -196,7 +197,8 @@ module _ (m : List ℕ) (off : ℕ) (small : (k : ℕ) → getD m k 0 < 256) whe
             let b : (off + j) % 8 ≡ j - (8 - off % 256 % 8 - 1 + 1) = omega arith in
             ap₂ (λ (x y : ℕ). bit (getD m x 0) y) a b
             ∙ sym (ap₂ (λ (x y : Bool). x || y)
-            (bit-shr (getD m (off % 256 / 8) 0) (off % 256 % 8) j ∙ bit-above 8 (getD m (off % 256 / 8) 0) (off % 256 % 8 + j) (small (off % 256 / 8)) (omega arith))
+            (bit-shr (getD m (off % 256 / 8) 0) (off % 256 % 8) j ∙ bit-above 8 (getD m (off % 256 / 8) 0) (off % 256 % 8 + j)
+            (small (off % 256 / 8)) (omega arith))
             (shl-twice (getD m ((off % 256 / 8 + 1) % 32) 0) (8 - off % 256 % 8 - 1) j hj h))
         | no h ↦
             let a : (off + j) % 256 / 8 ≡ off % 256 / 8 = omega arith in
@@ -209,7 +211,8 @@ module _ (m : List ℕ) (off : ℕ) (small : (k : ℕ) → getD m k 0 < 256) whe
       ]
 
   -- what `get` gives is the byte that its contract names
-  pub get-is : bitOr (getD m (off % 256 / 8) 0 / 2 ^ (off % 256 % 8)) (getD m ((off % 256 / 8 + 1) % 32) 0 * 2 % 256 * 2 ^ (8 - off % 256 % 8 - 1) % 256) ≡ byteAt m off
+  pub get-is : bitOr (getD m (off % 256 / 8) 0 / 2 ^ (off % 256 % 8))
+      (getD m ((off % 256 / 8 + 1) % 32) 0 * 2 % 256 * 2 ^ (8 - off % 256 % 8 - 1) % 256) ≡ byteAt m off
   unfolding byteAt
   get-is =
       byte-or (getD m (off % 256 / 8) 0 / 2 ^ (off % 256 % 8)) (getD m ((off % 256 / 8 + 1) % 32) 0 * 2 % 256 * 2 ^ (8 - off % 256 % 8 - 1) % 256)
@@ -235,5 +238,6 @@ pub mark-is : {m : List ℕ} (f : ℕ → Bool) (off v : ℕ) → m ≡ bytesOf 
 mark-is {m} f off v e hv = set-is m off v (ap length e ∙ length-bytesOf f) (λ k. rw e (small-bytesOf f k)) hv
 
 pub read-is : {m : List ℕ} (f : ℕ → Bool) (off : ℕ) → m ≡ bytesOf f
-    → bitOr (getD m (off % 256 / 8) 0 / 2 ^ (off % 256 % 8)) (getD m ((off % 256 / 8 + 1) % 32) 0 * 2 % 256 * 2 ^ (8 - off % 256 % 8 - 1) % 256) ≡ byteAt m off
+    → bitOr (getD m (off % 256 / 8) 0 / 2 ^ (off % 256 % 8)) (getD m ((off % 256 / 8 + 1) % 32) 0 * 2 % 256 * 2 ^ (8 - off % 256 % 8 - 1) % 256) ≡
+    byteAt m off
 read-is {m} f off e = get-is m off (λ k. rw e (small-bytesOf f k))

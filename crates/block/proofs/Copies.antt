@@ -44,10 +44,14 @@ colour-step d cs i {d′} hi hd p =
     let z4 : 4 * i + 3 + 1 ≡ 4 * (i + 1) = omega arith in
     let s : List ℕ = colourBytes cs in
     let p0 : d′ ≡ paste d 91 s (4 * i + 0) = p ∙ ap (paste d 91 s) (sym z0) in
-    let p1 = fill-step d 91 s (4 * i + 0) {k = 91 + 4 * i} (omega arith) (omega arith) (omega arith) (colour-byte cs i 0 hi (omega arith)) p0 ∙ ap (paste d 91 s) z1 in
-    let p2 = fill-step d 91 s (4 * i + 1) {k = 91 + 4 * i + 1} (omega arith) (omega arith) (omega arith) (colour-byte cs i 1 hi (omega arith)) p1 ∙ ap (paste d 91 s) z2 in
-    let p3 = fill-step d 91 s (4 * i + 2) {k = 91 + 4 * i + 2} (omega arith) (omega arith) (omega arith) (colour-byte cs i 2 hi (omega arith)) p2 ∙ ap (paste d 91 s) z3 in
-    fill-step d 91 s (4 * i + 3) {k = 91 + 4 * i + 3} (omega arith) (omega arith) (omega arith) (colour-byte cs i 3 hi (omega arith)) p3 ∙ ap (paste d 91 s) z4
+    let p1 = fill-step d 91 s (4 * i + 0) {k = 91 + 4 * i} (omega arith) (omega arith) (omega arith) (colour-byte cs i 0 hi (omega arith)) p0 ∙ ap
+    (paste d 91 s) z1 in
+    let p2 = fill-step d 91 s (4 * i + 1) {k = 91 + 4 * i + 1} (omega arith) (omega arith) (omega arith) (colour-byte cs i 1 hi (omega arith)) p1 ∙
+    ap (paste d 91 s) z2 in
+    let p3 = fill-step d 91 s (4 * i + 2) {k = 91 + 4 * i + 2} (omega arith) (omega arith) (omega arith) (colour-byte cs i 2 hi (omega arith)) p2 ∙
+    ap (paste d 91 s) z3 in
+    fill-step d 91 s (4 * i + 3) {k = 91 + 4 * i + 3} (omega arith) (omega arith) (omega arith) (colour-byte cs i 3 hi (omega arith)) p3 ∙ ap
+    (paste d 91 s) z4
 
 pub length-coloursAt : (b : List ℕ) → length (coloursAt b) ≡ 32
 unfolding coloursAt

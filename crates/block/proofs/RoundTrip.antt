@@ -24,7 +24,8 @@ use Rattle.vdp.specs.declared.WriteDest.{WriteDest}
 use Rattle.vdp.specs.declared.WriteDest.the-variants.{None, Vram, Cram}
 use Rattle.vdp.specs.declared.Latch.{Latch}
 use Rattle.vdp.specs.declared.Latch.the-variants.{Empty, Held}
-use Rattle.block.specs.Block.{sized, markOf, fits, last, flagOf, flagFrom, chosenOf, chosenFrom, latchFlag, latchByte, latchFrom, head, small, colourAt, colourBytes, coloursAt, blockOf, stateOf, marked, flagged, latchFits, wellFormed, decoded, Shape}
+use Rattle.block.specs.Block.{sized, markOf, fits, last, flagOf, flagFrom, chosenOf, chosenFrom, latchFlag, latchByte, latchFrom, head, small}
+use Rattle.block.specs.Block.{colourAt, colourBytes, coloursAt, blockOf, stateOf, marked, flagged, latchFits, wellFormed, decoded, Shape}
 use Rattle.block.proofs.Copies.{length-colourBytes, colour-byte}
 use Rattle.block.proofs.Whole.{length-small, last-old, last-new, length-last, fits-sized, length-of, long}
 
@@ -164,15 +165,25 @@ module _ (n : ℕ) (s : VdpState) (g : Shape s) where
         «vram_buffer» = byte 5 refl i;
         dest = (ap chosenFrom (byte 6 refl) ∙ chosen-back (s .dest)) i;
         cram = palette-back i;
-        «cmd_byte1» = (ap (λ (x : ℕ). latchFrom x (at k 22)) (byte 7 refl) ∙ ap (latchFrom (latchFlag (s .«cmd_byte1»))) (byte 8 refl) ∙ latch-back (s .«cmd_byte1»)) i;
-        «cram_byte1» = (ap (λ (x : ℕ). latchFrom x (at k 24)) (byte 9 refl) ∙ ap (latchFrom (latchFlag (s .«cram_byte1»))) (byte 10 refl) ∙ latch-back (s .«cram_byte1»)) i;
+        «cmd_byte1» = (ap (λ (x : ℕ). latchFrom x (at k 22)) (byte 7 refl) ∙ ap (latchFrom (latchFlag (s .«cmd_byte1»))) (byte 8 refl) ∙ latch-back
+            (s .«cmd_byte1»)) i;
+        «cram_byte1» = (ap (λ (x : ℕ). latchFrom x (at k 24)) (byte 9 refl) ∙ ap (latchFrom (latchFlag (s .«cram_byte1»))) (byte 10 refl) ∙
+            latch-back (s .«cram_byte1»)) i;
         «cram_dirty» = (ap flagFrom (byte 12 refl) ∙ flag-back (s .«cram_dirty»)) i;
         «color_cache» = colours-back i;
       }
 
   pub length-block : sized n ≡ true → length (blockOf n s) ≡ n
   unfolding blockOf head
-  length-block h = simp length-append (omega (arith, g .registers, g .palette, length-small s, length-colourBytes (s .«color_cache»), length-last n s h))
+  length-block h = simp length-append (omega (
+    arith,
+    g .registers,
+    g .palette,
+    length-small s,
+    length-colourBytes (s .«color_cache»),
+    length-last n s
+        h,
+  ))
 
   mark-back : (at (blockOf n s) 0 ≡ 0x56) × (at (blockOf n s) 1 ≡ markOf n)
   unfolding blockOf head
@@ -187,8 +198,32 @@ module _ (n : ℕ) (s : VdpState) (g : Shape s) where
   unfolding wellFormed small
   good-block room =
       let h : sized n ≡ true = fits-sized (s .raster .table) n room in
-      rw (length-block h, h, mark-back .0, mark-back .1, eq-eqb (markOf n) (markOf n) refl, byte 1 refl, byte 6 refl, byte 7 refl, byte 8 refl, byte 9 refl, byte 10 refl, byte 12 refl, table-ok)
-      (rw (flag-ok (s .raster .«v_counter_jumped»), chosen-ok (s .dest), latch-ok (s .«cmd_byte1»), latch-ok (s .«cram_byte1»), flag-ok (s .«cram_dirty»), byte-ok (s .«cmd_byte1»), byte-ok (s .«cram_byte1»)))
+      rw (
+        length-block h,
+        h,
+        mark-back .0,
+        mark-back .1,
+        eq-eqb (markOf n) (markOf n) refl,
+        byte 1 refl,
+        byte 6 refl,
+        byte 7 refl,
+        byte 8 refl,
+        byte
+            9 refl,
+        byte 10 refl,
+        byte 12 refl,
+        table-ok,
+      )
+      (rw (
+        flag-ok (s .raster .«v_counter_jumped»),
+        chosen-ok (s .dest),
+        latch-ok (s .«cmd_byte1»),
+        latch-ok (s .«cram_byte1»),
+        flag-ok
+            (s .«cram_dirty»),
+        byte-ok (s .«cmd_byte1»),
+        byte-ok (s .«cram_byte1»),
+      ))
 
   -- decode after encode
   pub decoded-back : fits (s .raster .table) n ≡ true → decoded (blockOf n s) ≡ record { good = true; vdp = s }
@@ -283,27 +318,42 @@ module _ (b : List ℕ) (w : wellFormed b ≡ true) (bytes : (i : ℕ) → at b 
   small-in =
       let low : (at b 17 + 256 * at b 18) % 256 ≡ at b 17 = omega (arith, bytes 17) in
       let high : (at b 17 + 256 * at b 18) / 256 ≡ at b 18 = omega (arith, bytes 17) in
-      rw (flag-in (at b 15) (said b w .flag-15), low, high, chosen-in (at b 20) (said b w .chosen-20), latch-flag-in (at b 21) (at b 22) (said b w .flag-21), latch-byte-in (at b 21) (at b 22) (said b w .command), latch-flag-in (at b 23) (at b 24) (said b w .flag-23), latch-byte-in (at b 23) (at b 24) (said b w .palette), flag-in (at b 26) (said b w .flag-26))
+      rw (
+        flag-in (at b 15) (said b w .flag-15),
+        low,
+        high,
+        chosen-in (at b 20) (said b w .chosen-20),
+        latch-flag-in (at b 21) (at b 22)
+            (said b w .flag-21),
+        latch-byte-in (at b 21) (at b 22) (said b w .command),
+        latch-flag-in (at b 23) (at b 24) (said b w .flag-23),
+        latch-byte-in (at b 23) (at b 24) (said b w .palette),
+        flag-in (at b 26) (said b w .flag-26),
+      )
       (part-table 13 14 b (omega (arith, long b w)))
 
   four : (i r : ℕ) → r < 4 → byteOfColour (colourAt b i) r ≡ at b (i + r)
   unfolding colourAt
-  four i zero h = let z : i + 0 ≡ i = omega arith in rw z (byte-0 (at b i) (at b (i + 1)) (at b (i + 2)) (at b (i + 3)) (bytes i) (bytes (i + 1)) (bytes (i + 2)) (bytes (i + 3)))
+  four i zero h = let z : i + 0 ≡ i = omega arith in rw z
+      (byte-0 (at b i) (at b (i + 1)) (at b (i + 2)) (at b (i + 3)) (bytes i) (bytes (i + 1)) (bytes (i + 2)) (bytes (i + 3)))
   four i (suc zero) h = byte-1 (at b i) (at b (i + 1)) (at b (i + 2)) (at b (i + 3)) (bytes i) (bytes (i + 1)) (bytes (i + 2)) (bytes (i + 3))
   four i (suc (suc zero)) h = byte-2 (at b i) (at b (i + 1)) (at b (i + 2)) (at b (i + 3)) (bytes i) (bytes (i + 1)) (bytes (i + 2)) (bytes (i + 3))
-  four i (suc (suc (suc zero))) h = byte-3 (at b i) (at b (i + 1)) (at b (i + 2)) (at b (i + 3)) (bytes i) (bytes (i + 1)) (bytes (i + 2)) (bytes (i + 3))
+  four i (suc (suc (suc zero))) h = byte-3 (at b i) (at b (i + 1)) (at b (i + 2)) (at b (i + 3)) (bytes i) (bytes (i + 1)) (bytes (i + 2))
+      (bytes (i + 3))
   four i (suc (suc (suc (suc r)))) h = absurd (omega arith)
 
   colours-in : colourBytes (coloursAt b) ≡ take 128 (drop 91 b)
   unfolding colourBytes coloursAt
   colours-in =
       sym
-      (is-table (take 128 (drop 91 b)) 128 (λ k. byteOfColour (at (coloursAt b) (k / 4)) (k % 4)) (simp (length-take, length-drop) (omega (arith, long b w)))
+      (is-table (take 128 (drop 91 b)) 128 (λ k. byteOfColour (at (coloursAt b) (k / 4)) (k % 4))
+      (simp (length-take, length-drop) (omega (arith, long b w)))
       (λ k h.
       let q : k / 4 < 32 = omega arith in
       let r : k % 4 < 4 = omega arith in
       let e : 91 + k ≡ 91 + 4 * (k / 4) + k % 4 = omega arith in
-      getD-take 128 (drop 91 b) k 0 h ∙ getD-drop 91 b k 0 ∙ ap (at b) e ∙ sym (four (91 + 4 * (k / 4)) (k % 4) r) ∙ ap (λ (c : ℕ). byteOfColour c (k % 4)) (sym (getD-table 32 (λ i. colourAt b (91 + 4 * i)) (k / 4) q))))
+      getD-take 128 (drop 91 b) k 0 h ∙ getD-drop 91 b k 0 ∙ ap (at b) e ∙ sym (four (91 + 4 * (k / 4)) (k % 4) r) ∙ ap
+      (λ (c : ℕ). byteOfColour c (k % 4)) (sym (getD-table 32 (λ i. colourAt b (91 + 4 * i)) (k / 4) q))))
 
   last-in : last (length b) (stateOf b) ≡ drop 219 b
   unfolding stateOf

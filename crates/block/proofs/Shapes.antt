@@ -62,7 +62,8 @@ module _ (b : List ℕ) (w : wellFormed b ≡ true) (bytes : (i : ℕ) → at b 
   unfolding coloursAt colourAt
   colour-low i =
       elim (decLt i 32) [
-        | yes l ↦ rw (getD-table 32 (λ k. colourAt b (91 + 4 * k)) i l) (omega (arith, bytes (91 + 4 * i), bytes (91 + 4 * i + 1), bytes (91 + 4 * i + 2), bytes (91 + 4 * i + 3)))
+        | yes l ↦ rw (getD-table 32 (λ k. colourAt b (91 + 4 * k)) i l)
+            (omega (arith, bytes (91 + 4 * i), bytes (91 + 4 * i + 1), bytes (91 + 4 * i + 2), bytes (91 + 4 * i + 3)))
         | no l ↦
             let h : length (coloursAt b) ≤ i = omega (arith, length-coloursAt b) in
             rw (List·getD-eq-default (coloursAt b) 0 h) (omega arith)

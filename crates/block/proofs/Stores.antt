@@ -2,7 +2,7 @@
 -- Assumes nothing.
 use mathlib.Core.Path.{_≡_, refl, sym, ap, _∙_}
 use mathlib.Core.List.{List, _++_, append-nil, append-assoc}
-use Prim.Native.Nat.{ℕ, _+_, _≤_}
+use Prim.Native.Nat.{ℕ, _≤_}
 use native.Mathlib.Omega.{arith}
 use lib.ListN.{length, take, drop, length-append, length-take, length-drop, replicate}
 use lib.Seq.{paste, drop-at}
@@ -33,7 +33,13 @@ module _ (n : ℕ) (s : VdpState) (g : Sized s) where
   unfolding blockOf head small last
   raster-stored b status r t e =
       rw (e, t)
-      (rw (set-past (s .reg) _ 11 0 _ (g .registers), set-past (s .reg) _ 11 1 _ (g .registers), set-past (s .reg) _ 11 2 _ (g .registers), set-past (s .reg) _ 11 11 _ (g .registers)))
+      (rw (
+        set-past (s .reg) _ 11 0 _ (g .registers),
+        set-past (s .reg) _ 11 1 _ (g .registers),
+        set-past (s .reg) _ 11 2 _ (g .registers),
+        set-past
+            (s .reg) _ 11 11 _ (g .registers),
+      ))
 
   pub cache-stored : (b colours : List ℕ) → b ≡ blockOf n s → cacheStored colours b ≡ blockOf n (withCache s colours)
   unfolding blockOf head small last
@@ -42,10 +48,13 @@ module _ (n : ℕ) (s : VdpState) (g : Sized s) where
       let p : List ℕ = ((head n s ++ s .reg) ++ small s) ++ s .cram in
       let cb : List ℕ = colourBytes (s .«color_cache») in
       let k : length p ≡ 91 = simp length-append (omega (arith, g .registers, g .palette, length-head n s, length-small s)) in
-      let z : length (p ++ cb) ≡ 219 = simp length-append (omega (arith, g .registers, g .palette, length-head n s, length-small s, length-colourBytes (s .«color_cache»))) in
+      let z : length (p ++ cb) ≡ 219 = simp length-append
+      (omega (arith, g .registers, g .palette, length-head n s, length-small s, length-colourBytes (s .«color_cache»))) in
       let x : b ≡ p ++ (cb ++ last n s) = e ∙ simp append-assoc in
       let y : b ≡ p ++ drop 91 (p ++ (cb ++ last n s)) = x ∙ ap (λ (l : List ℕ). p ++ l) (sym (drop-at p (cb ++ last n s) 91 k)) in
-      let w : b1 ≡ (p ++ colourBytes colours) ++ drop 219 (p ++ (cb ++ last n s)) = pasted p (p ++ (cb ++ last n s)) (colourBytes colours) 91 128 k (length-colourBytes colours) y refl in
+      let w : b1 ≡ (p ++ colourBytes colours) ++ drop 219 (p ++ (cb ++ last n s)) = pasted p (p ++ (cb ++ last n s)) (colourBytes colours) 91 128 k
+      (length-colourBytes colours) y refl in
       let q : drop 219 (p ++ (cb ++ last n s)) ≡ last n s = ap (drop 219) (sym (append-assoc p cb (last n s))) ∙ drop-at (p ++ cb) (last n s) 219 z in
-      let v : b1 ≡ head n s ++ (s .reg ++ (small s ++ (s .cram ++ (colourBytes colours ++ last n s)))) = w ∙ ap (λ (l : List ℕ). (p ++ colourBytes colours) ++ l) q ∙ simp append-assoc in
+      let v : b1 ≡ head n s ++ (s .reg ++ (small s ++ (s .cram ++ (colourBytes colours ++ last n s)))) = w ∙ ap
+      (λ (l : List ℕ). (p ++ colourBytes colours) ++ l) q ∙ simp append-assoc in
       rw v (rw (set-past (s .reg) _ 11 12 _ (g .registers)))

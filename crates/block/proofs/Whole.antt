@@ -3,7 +3,7 @@
 use mathlib.Core.Path.{_≡_, refl, sym, ap, _∙_}
 use mathlib.Core.Bool.{Bool, true, false, cond}
 use mathlib.Core.List.{List, [], _∷_, _++_, append-nil, append-assoc}
-use Prim.Native.Nat.{ℕ, zero, suc, _+_, _*_, _≤_, _<_}
+use Prim.Native.Nat.{ℕ, _+_, _*_, _≤_, _<_}
 use native.Mathlib.Omega.{arith}
 use borrow.Author.Tests.{eqb-true, eqb-false, eq-eqb, ne-eqb}
 use lib.Dec.{eqb}
@@ -21,7 +21,8 @@ use Rattle.vdp.specs.declared.WriteDest.{WriteDest}
 use Rattle.vdp.specs.declared.Latch.{Latch}
 use Rattle.vdp.specs.Device.{device}
 use Rattle.block.specs.declared.Decoded.{Decoded}
-use Rattle.block.specs.Block.{sized, fits, head, small, last, colourBytes, blockOf, encoded, stateOf, wellFormed, decoded, chosenFrom, latchFrom}
+use Rattle.block.specs.Block.{sized, fits, head, small, last, colourBytes, blockOf, encoded, stateOf, wellFormed, decoded, chosenFrom}
+use Rattle.block.specs.Block.{latchFrom}
 use Rattle.block.proofs.Copies.{length-colourBytes}
 
 pub length-head : (n : ℕ) (s : VdpState) → length (head n s) ≡ 3
@@ -121,8 +122,10 @@ module _ (s : VdpState) (b : List ℕ) (hb : sized (length b) ≡ true) (hr : le
       stored-new {t} h et =
           let n : length b ≡ 220 = omega (arith, sized-high (length b) hb) in
           rw (e, room, last-new (length b) s n, et)
-          (set-past ((((head (length b) s ++ s .reg) ++ small s) ++ s .cram) ++ colourBytes (s .«color_cache»)) (drop 219 b) 219 0 (lineTableNumber (s .raster .table)) body-long
-          ∙ ap (λ (l : List ℕ). ((((head (length b) s ++ s .reg) ++ small s) ++ s .cram) ++ colourBytes (s .«color_cache»)) ++ l) (one (drop 219 b) (lineTableNumber (s .raster .table)) (simp length-drop (omega arith)))
+          (set-past ((((head (length b) s ++ s .reg) ++ small s) ++ s .cram) ++ colourBytes (s .«color_cache»)) (drop 219 b) 219 0
+          (lineTableNumber (s .raster .table)) body-long
+          ∙ ap (λ (l : List ℕ). ((((head (length b) s ++ s .reg) ++ small s) ++ s .cram) ++ colourBytes (s .«color_cache»)) ++ l)
+          (one (drop 219 b) (lineTableNumber (s .raster .table)) (simp length-drop (omega arith)))
           ∙ simp append-assoc)
 
 -- what the fields are read as, of a block that is well formed

@@ -153,7 +153,8 @@ encoded s b = cond (fits (s .raster .table) (length b)) (blockOf (length b) s) b
 -- a block with another status and raster (the table stays: no call changes it), and one with clean colours
 abbrev pub rasterStored : ℕ → Raster → List ℕ → List ℕ
 rasterStored status r b =
-    set (set (set (set (set b 2 status) 14 (r .«v_counter»)) 15 (flagOf (r .«v_counter_jumped»))) 16 (r .«line_interrupt_counter»)) 25 (r .«vertical_scroll»)
+    set (set (set (set (set b 2 status) 14 (r .«v_counter»)) 15 (flagOf (r .«v_counter_jumped»))) 16 (r .«line_interrupt_counter»)) 25
+    (r .«vertical_scroll»)
 
 abbrev pub cacheStored : List ℕ → List ℕ → List ℕ
 cacheStored colours b = set (paste b 91 (colourBytes colours) 128) 26 0

@@ -1,6 +1,6 @@
 -- A colour's four bytes, and the cache filled one colour at a time.
 -- Assumes nothing.
-use mathlib.Core.Path.{_≡_, refl, sym, _∙_}
+use mathlib.Core.Path.{_≡_, sym, _∙_}
 use mathlib.Core.List.{List}
 use Prim.Native.Nat.{ℕ, _+_, _*_, _<_}
 use native.Mathlib.Omega.{arith}
@@ -50,7 +50,8 @@ made-step f i h e q =
     fill-step (replicate 32 0) 0 (table 32 f) i (omega arith) n (omega arith) (e ∙ sym (getD-table 32 f i h)) q
 
 pub colours-step :
-    (p : List ℕ) (i : ℕ) {cache : List ℕ} {v : ℕ} → i < 32 → v ≡ colour (at p (2 * i)) (at p (2 * i + 1)) → cache ≡ paste (replicate 32 0) 0 (coloursOf p) i
+    (p : List ℕ) (i : ℕ) {cache : List ℕ} {v : ℕ} → i < 32 → v ≡ colour (at p (2 * i)) (at p (2 * i + 1)) → cache ≡ paste (replicate 32 0) 0
+    (coloursOf p) i
     → set cache i v ≡ paste (replicate 32 0) 0 (coloursOf p) (i + 1)
 unfolding coloursOf
 colours-step p i h e q = made-step (λ i. colour (at p (2 * i)) (at p (2 * i + 1))) i h e q

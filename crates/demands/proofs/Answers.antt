@@ -25,7 +25,8 @@ pub without : (ls : List Line) → none 7 ls ≡ true → NotSeven (first ls)
 without ls h = never 7 ls (λ z. omega arith) h
 
 -- with frame interrupts off an interrupt is the line's
-pub line-alone : (frame ended line : Bool) → frame ≡ false → (cond ((frame && ended) || line) InterruptGenerated NoInterrupt ≡ InterruptGenerated) ↔ (line ≡ true)
+pub line-alone : (frame ended line : Bool) → frame ≡ false → (cond ((frame && ended) || line) InterruptGenerated NoInterrupt ≡ InterruptGenerated) ↔
+    (line ≡ true)
 line-alone frame ended line off = rw off (raised line)
   where
     raised : (b : Bool) → (cond b InterruptGenerated NoInterrupt ≡ InterruptGenerated) ↔ (b ≡ true)

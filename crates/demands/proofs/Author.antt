@@ -87,7 +87,8 @@ module _ (m : List ℕ) (w : whole m ≡ true) where
       let x = withAddr (withPaletteByte (aimed d) (Held low)) 7 in
       by-front x 0xBE high (byte (frontOf x) high)
 
-  recoloured : (d : VdpState) (p : List ℕ) (low high : ℕ) → Holds d p → Holds (told (told (told (told d 0xBF 0x06) 0xBF 0xC0) 0xBE low) 0xBE high) (set (set p 6 low) 7 (high % 16))
+  recoloured : (d : VdpState) (p : List ℕ) (low high : ℕ) → Holds d p → Holds (told (told (told (told d 0xBF 0x06) 0xBF 0xC0) 0xBE low) 0xBE high)
+      (set (set p 6 low) 7 (high % 16))
   recoloured d p low high k =
       let e =
       ap (λ (x : VdpState). told (told x 0xBE low) 0xBE high) (chosen d (k .latch))
@@ -109,7 +110,8 @@ step-holds r i p k =
 
 -- ---- the run
 module _
-    (t : LineTable) (vram : ℕ → List ℕ) (frame : List ℕ) (accepted : (i : ℕ) (d : VdpState) → frameStep VisibleOnly (vram i) (length frame) d .refusal ≡ Accepted) (low high : ℕ)
+    (t : LineTable) (vram : ℕ → List ℕ) (frame : List ℕ)
+    (accepted : (i : ℕ) (d : VdpState) → frameStep VisibleOnly (vram i) (length frame) d .refusal ≡ Accepted) (low high : ℕ)
   where
     abbrev r : Run handheld VisibleOnly
     r = asked t vram frame accepted low high

@@ -1,7 +1,7 @@
 -- Demand 3, proved of any lawful machine: after any calls, with any calls but steps between, for any area whose lines end where the jump ends.
 -- Assumes nothing.
 use mathlib.Core.Path.{_≡_, refl, sym, _∙_, ap, subst}
-use mathlib.Core.Logic.{_↔_, _≢_, _⊎_, inl, inr}
+use mathlib.Core.Logic.{_↔_, _≢_, _⊎_, inl}
 use mathlib.Core.List.{List, [], _∷_}
 use Prim.Native.Nat.{ℕ, zero, suc, _+_, _-_, _≤_, _<_}
 use native.Mathlib.Nat.{add-zero, add-suc, add-comm}
@@ -20,7 +20,8 @@ use Rattle.step.specs.declared.DrawnRow.the-variants.{Drawn}
 use Rattle.step.specs.Points.{rowOn}
 use Rattle.step.proofs.Rows.{row-low, row-line, row-at}
 use Rattle.demands.specs.Machine.{Machine, register, lineOf}
-use Rattle.demands.specs.Pass.{History, pass, Between, Run, deviceAfter, then, stepCall, until, through, ready, answer, lineSet, frameAt, latched, coloursAt, pictureAt, rowAtEnd, LineInterruptsEvery, ForLine, Demand3}
+use Rattle.demands.specs.Pass.{History, pass, Between, Run, deviceAfter, then, stepCall, until, through, ready, answer, lineSet, frameAt}
+use Rattle.demands.specs.Pass.{latched, coloursAt, pictureAt, rowAtEnd, LineInterruptsEvery, ForLine, Demand3}
 use Rattle.demands.specs.Rows.{RowsDrawn}
 use Rattle.demands.specs.Interrupts.{AllSo, here, call, step}
 use Rattle.demands.proofs.Counter.{line}
@@ -104,7 +105,8 @@ module _ {M : Machine} (ok : Lawful M) {a : M .Area} (r : Run M a) where
   -- and so in the pass that begins one step later
   pub lines-later : (q : ℕ) → q < jumpTo → ExactlyOnce (pass r) (λ i. line (M .raster (dev (suc i))) ≡ q)
   lines-later q h =
-      line-once (λ i. M .raster (dev (suc i))) (λ i. register M (dev (suc i))) (λ i. raster-next (suc i)) (r .table) (table-at 1) (ready-sound 1 .within) q (inl h) (omega arith)
+      line-once (λ i. M .raster (dev (suc i))) (λ i. register M (dev (suc i))) (λ i. raster-next (suc i)) (r .table) (table-at 1)
+      (ready-sound 1 .within) q (inl h) (omega arith)
 
   -- until the next step the counter reads the line that a step set
   pub still : (i : ℕ) → lineOf M (dev (suc i)) ≡ lineSet r i
@@ -191,7 +193,8 @@ module _ {M : Machine} (ok : Lawful M) {a : M .Area} (r : Run M a) where
 
     line-interrupts : lineSet r i ≡ 0 → (k : ℕ) → k ≤ 193 → ForLine M N k (answer r (i + k))
     line-interrupts b k h =
-        from-line-0 ok N (dev i) (reads-ff b) .to-193 k h (dev (i + k)) (stepCall r (i + k)) (answer r (i + k)) (so-far k h) (every k h) (step-is (i + k))
+        from-line-0 ok N (dev i) (reads-ff b) .to-193 k h (dev (i + k)) (stepCall r (i + k)) (answer r (i + k)) (so-far k h) (every k h)
+        (step-is (i + k))
 
   module _ (once : firstLine shown + rows shown ≤ jumpTo) where
     row-once : (y : ℕ) → y < rows shown → ExactlyOnce (pass r) (λ i. answer r i .row ≡ Drawn y)

@@ -1,15 +1,13 @@
 -- Where an edge cuts nothing, areas 0 and 2 give the same row: sprite by sprite both canvases show the same, and one mask is the other, 48 + e places on.
 -- Assumes nothing.
 use mathlib.Core.Path.{_≡_, refl, sym, ap, _∙_}
-use mathlib.Core.Logic.{_⊎_, inl, inr, ⊎-elim}
+use mathlib.Core.Logic.{inl, inr, ⊎-elim}
 use mathlib.Core.List.{List, [], _∷_}
-use mathlib.Core.Bool.{Bool, true, false, cond, _&&_, _||_, not, and-true, and-false}
+use mathlib.Core.Bool.{Bool, true, false, _&&_, _||_, not, and-false}
 use Prim.Native.Nat.{ℕ, _+_, _-_, _*_, _%_, _<_, _≤_, min}
-use native.Mathlib.Decide.{decLt}
 use native.Mathlib.Omega.{arith}
 use lib.Dec.{eqb, ltb, leb}
-use lib.ListN.{length, take}
-use borrow.Author.Tests.{lt-ltb, le-ltb, le-leb, lt-leb, ltb-true}
+use borrow.Author.Tests.{lt-ltb, le-ltb, ltb-true}
 use Rattle.laws.specs.Bits.{bit, any}
 use Rattle.laws.specs.Circle.{past}
 use Rattle.laws.specs.Lists.{at}
@@ -17,10 +15,11 @@ use Rattle.laws.proofs.Any.{any-cong, any-none}
 use Rattle.laws.proofs.Tests.{either, split, both, same-cond}
 use Rattle.picture.specs.declared.Stand.{Stand}
 use Rattle.picture.specs.declared.Screen.the-variants.{VisibleOnly, TrueEdges}
-use Rattle.picture.specs.View.{early, cutMark, visibleEnd, visibleSeen, visibleStand, visible, edgeStand, trueEdges}
-use Rattle.picture.specs.Picture.{Canvas, back, front, tableAt, listed, solid, heldBack, marked, struck, drawn, laid, spriteCode, withSprite, withSprites, bare, picture}
-use Rattle.picture.specs.Screen.{pictureOf, rowBytes}
-use Rattle.picture.specs.Layers.{owner, stopped, owned, ownedBy, layersWith, layers, layersOf}
+use Rattle.picture.specs.View.{early, visibleEnd, visibleSeen, visibleStand, visible, edgeStand, trueEdges}
+use Rattle.picture.specs.Picture.{Canvas, back, front, tableAt, solid, heldBack, marked, struck, drawn, laid, spriteCode, withSprite, withSprites}
+use Rattle.picture.specs.Picture.{bare, picture}
+use Rattle.picture.specs.Screen.{pictureOf}
+use Rattle.picture.specs.Layers.{stopped, owned, ownedBy, layersWith, layers, layersOf}
 use Rattle.picture.proofs.Laws.{rowBytes-cong}
 use Rattle.background.proofs.Views.{effective-mark}
 use Rattle.demands.specs.Layers.{OneOf}
@@ -130,7 +129,8 @@ pub record Beside (e : ℕ) (c d : Canvas) (L M : ℕ → ℕ) : Type 0 where
   pub mask : (i : ℕ) → i < 160 → c .mask i ≡ d .mask (i + (48 + e))
   pub layer : (x : ℕ) → L x ≡ M x
 
-module _ (e : ℕ) (small : e ≤ 8) (code : ℕ → ℕ) (f f′ : ℕ → Bool) (same : (i : ℕ) → f i ≡ f′ i) (c d : Canvas) (L M : ℕ → ℕ) (b : Beside e c d L M) (n : ℕ) where
+module _ (e : ℕ) (small : e ≤ 8) (code : ℕ → ℕ) (f f′ : ℕ → Bool) (same : (i : ℕ) → f i ≡ f′ i) (c d : Canvas) (L M : ℕ → ℕ) (b : Beside e c d L M)
+    (n : ℕ) where
   -- a sprite at a column of the screen
   module _ (x : ℕ) (l : x < 160) where
     abbrev s : Stand
@@ -193,7 +193,8 @@ module _ (e : ℕ) (small : e ≤ 8) (code : ℕ → ℕ) (f f′ : ℕ → Bool
     hit-both q =
         ap (λ (z : Bool). z || any 8 (λ k. marked s code f c k && struck s code f c k)) q
         ∙ ap (λ (z : Bool). d .hit || z)
-        (any-cong 8 (λ k. marked s code f c k && struck s code f c k) (λ k. marked t code f′ d k && struck t code f′ d k) (λ k _. met-both (λ z. z) k))
+        (any-cong 8 (λ k. marked s code f c k && struck s code f c k) (λ k. marked t code f′ d k && struck t code f′ d k)
+        (λ k _. met-both (λ z. z) k))
 
   -- one that has no pixel on the screen by either stand
   none-both : (s t : Stand) → ((k : ℕ) → solid (s .start) (s .end) code k ≡ false) → ((k : ℕ) → solid (t .start) (t .end) code k ≡ false)
@@ -206,28 +207,30 @@ module _ (e : ℕ) (small : e ≤ 8) (code : ℕ → ℕ) (f f′ : ℕ → Bool
       }
 
   -- one right of the screen: by the visible stand it marks, and no column of the screen
-  module _ (s : Stand) (y : (k : ℕ) → solid (s .start) (s .end) code k ≡ false) (x end h : ℕ) (low : end ≤ 8) (far : 208 + e ≤ h) (byte : h < 256) where
-    abbrev o : Stand
-    o = off-row x end h
+  module _ (s : Stand) (y : (k : ℕ) → solid (s .start) (s .end) code k ≡ false) (x end h : ℕ) (low : end ≤ 8) (far : 208 + e ≤ h) (byte : h < 256)
+    where
+      abbrev o : Stand
+      o = off-row x end h
 
-    off-mark : (i : ℕ) → i < 160 → marked o code f′ d (past (i + (48 + e)) h) ≡ false
-    unfolding marked
-    off-mark i l =
-        let k : 8 ≤ past (i + (48 + e)) h = omega arith in
-        rw (past-end 0 end code (past (i + (48 + e)) h) (omega arith))
+      off-mark : (i : ℕ) → i < 160 → marked o code f′ d (past (i + (48 + e)) h) ≡ false
+      unfolding marked
+      off-mark i l =
+          let k : 8 ≤ past (i + (48 + e)) h = omega arith in
+          rw (past-end 0 end code (past (i + (48 + e)) h) (omega arith))
 
-    off-both : Beside e (laid s code f c) (laid o code f′ d) (owned s code f c n L) (owned o code f′ d n M)
-    unfolding laid owned drawn stopped heldBack
-    off-both =
-        record {
-          colour = λ p. silent-colour s code f c y p ∙ b .colour p ∙ rw (and-false (leb x p));
-          mask = λ i l. silent-mask s code f c y i ∙ b .mask i l ∙ sym (rw (off-mark i l) (or-none (d .mask (i + (48 + e)))));
-          layer = λ p. silent-own s code f c y n L p ∙ b .layer p ∙ sym (rw (and-false (solid 0 end code (p - x))) (same-cond (leb x p) (M p)));
-        }
+      off-both : Beside e (laid s code f c) (laid o code f′ d) (owned s code f c n L) (owned o code f′ d n M)
+      unfolding laid owned drawn stopped heldBack
+      off-both =
+          record {
+            colour = λ p. silent-colour s code f c y p ∙ b .colour p ∙ rw (and-false (leb x p));
+            mask = λ i l. silent-mask s code f c y i ∙ b .mask i l ∙ sym (rw (off-mark i l) (or-none (d .mask (i + (48 + e)))));
+            layer = λ p. silent-own s code f c y n L p ∙ b .layer p ∙ sym (rw (and-false (solid 0 end code (p - x))) (same-cond (leb x p) (M p)));
+          }
 
   -- any sprite that no edge cuts
   module _ (h : ℕ) (u : Uncut e h) where
-    uncut-both : Beside e (laid (edgeStand 48 160 e h) code f c) (laid (visibleStand e h) code f′ d) (owned (edgeStand 48 160 e h) code f c n L) (owned (visibleStand e h) code f′ d n M)
+    uncut-both : Beside e (laid (edgeStand 48 160 e h) code f c) (laid (visibleStand e h) code f′ d) (owned (edgeStand 48 160 e h) code f c n L)
+        (owned (visibleStand e h) code f′ d n M)
     uncut-both =
         ⊎-elim
         (λ l. none-both (edgeStand 48 160 e h) (visibleStand e h) (edge-left e h l code) (visible-left e h l code))
@@ -235,18 +238,21 @@ module _ (e : ℕ) (small : e ≤ 8) (code : ℕ → ℕ) (f f′ : ℕ → Bool
         (λ w.
         let r : h - 48 - e + (48 + e) ≡ h = omega arith in
         rw (edge-shown e h (w .0), visible-shown e h (w .0) (w .1)) (rw r at (shown-both (h - 48 - e) (omega arith))))
-        (λ w. rw (visible-off e h (w .0)) (off-both (edgeStand 48 160 e h) (edge-right e h (w .0) code) (h - 48 - e) (visibleEnd (h - 48 - e)) h (end-low (h - 48 - e)) (w .0) (w .1))))
+        (λ w. rw (visible-off e h (w .0)) (off-both (edgeStand 48 160 e h) (edge-right e h (w .0) code) (h - 48 - e) (visibleEnd (h - 48 - e)) h
+        (end-low (h - 48 - e)) (w .0) (w .1))))
         u
 
     uncut-hit : c .hit ≡ d .hit → h ≤ 208 + e → laid (edgeStand 48 160 e h) code f c .hit ≡ laid (visibleStand e h) code f′ d .hit
     uncut-hit q m =
         ⊎-elim
-        (λ l. silent-hit (edgeStand 48 160 e h) code f c (edge-left e h l code) ∙ q ∙ sym (silent-hit (visibleStand e h) code f′ d (visible-left e h l code)))
+        (λ l. silent-hit (edgeStand 48 160 e h) code f c (edge-left e h l code) ∙ q ∙ sym
+        (silent-hit (visibleStand e h) code f′ d (visible-left e h l code)))
         (⊎-elim
         (λ w.
         let r : h - 48 - e + (48 + e) ≡ h = omega arith in
         rw (edge-shown e h (w .0), visible-shown e h (w .0) (w .1)) (rw r at (hit-both (h - 48 - e) (omega arith) q)))
-        (λ w. silent-hit (edgeStand 48 160 e h) code f c (edge-right e h (w .0) code) ∙ q ∙ sym (silent-hit (visibleStand e h) code f′ d (visible-last e h (w .0) m code))))
+        (λ w. silent-hit (edgeStand 48 160 e h) code f c (edge-right e h (w .0) code) ∙ q ∙ sym
+        (silent-hit (visibleStand e h) code f′ d (visible-last e h (w .0) m code))))
         u
 
 no-hit : (p q : ℕ → ℕ) → bare p .hit ≡ bare q .hit
@@ -269,13 +275,15 @@ module _ (m g : ℕ → ℕ) (l : ℕ) (f f′ : ℕ → Bool) (same : (i : ℕ)
   list-both (n ∷ ns) u c d L M b =
       list-both ns (λ k o. u k (inr o)) _ _ _ _ (uncut-both (early g) (early-le g) (spriteCode m g l n) f f′ same c d L M b n (X n) (u n (inl refl)))
 
-  list-hit : (ns : List ℕ) → ((n : ℕ) → OneOf ns n → Uncut (early g) (X n)) → ((n : ℕ) → OneOf ns n → X n ≤ 208 + early g) → (c d : Canvas) (L M : ℕ → ℕ) → Beside (early g) c d L M → c .hit ≡ d .hit
+  list-hit : (ns : List ℕ) → ((n : ℕ) → OneOf ns n → Uncut (early g) (X n)) → ((n : ℕ) → OneOf ns n → X n ≤ 208 + early g) → (c d : Canvas)
+      (L M : ℕ → ℕ) → Beside (early g) c d L M → c .hit ≡ d .hit
       → withSprites m g (edgeStand 48 160 (early g)) l f ns c .hit ≡ withSprites m g (visibleStand (early g)) l f′ ns d .hit
   unfolding withSprites withSprite
   list-hit [] u w c d L M b q = q
   list-hit (n ∷ ns) u w c d L M b q =
       let one = spriteCode m g l n in
-      list-hit ns (λ k o. u k (inr o)) (λ k o. w k (inr o)) _ _ _ _ (uncut-both (early g) (early-le g) one f f′ same c d L M b n (X n) (u n (inl refl)))
+      list-hit ns (λ k o. u k (inr o)) (λ k o. w k (inr o)) _ _ _ _
+      (uncut-both (early g) (early-le g) one f f′ same c d L M b n (X n) (u n (inl refl)))
       (uncut-hit (early g) (early-le g) one f f′ same c d L M b n (X n) (u n (inl refl)) q (w n (inl refl)))
 
 -- ---- the row
@@ -297,10 +305,14 @@ module _ (reg vram : List ℕ) (scroll y : ℕ) (w : NothingCut reg vram scroll 
   bare-both = record { colour = λ x. refl; mask = λ i l. refl; layer = λ x. refl }
 
   row-both : Beside (early g)
-      (withSprites m g (edgeStand 48 160 (early g)) (y + 24) (front m g (trueEdges g scroll y)) (onRow reg vram scroll y) (bare (back m g (trueEdges g scroll y))))
-      (withSprites m g (visibleStand (early g)) (y + 24) (front m g (visible g scroll y)) (onRow reg vram scroll y) (bare (back m g (visible g scroll y))))
-      (layersWith m g (edgeStand 48 160 (early g)) (y + 24) (front m g (trueEdges g scroll y)) (onRow reg vram scroll y) (bare (back m g (trueEdges g scroll y))) (λ x. 0))
-      (layersWith m g (visibleStand (early g)) (y + 24) (front m g (visible g scroll y)) (onRow reg vram scroll y) (bare (back m g (visible g scroll y))) (λ x. 0))
+      (withSprites m g (edgeStand 48 160 (early g)) (y + 24) (front m g (trueEdges g scroll y)) (onRow reg vram scroll y)
+      (bare (back m g (trueEdges g scroll y))))
+      (withSprites m g (visibleStand (early g)) (y + 24) (front m g (visible g scroll y)) (onRow reg vram scroll y)
+      (bare (back m g (visible g scroll y))))
+      (layersWith m g (edgeStand 48 160 (early g)) (y + 24) (front m g (trueEdges g scroll y)) (onRow reg vram scroll y)
+      (bare (back m g (trueEdges g scroll y))) (λ x. 0))
+      (layersWith m g (visibleStand (early g)) (y + 24) (front m g (visible g scroll y)) (onRow reg vram scroll y)
+      (bare (back m g (visible g scroll y))) (λ x. 0))
   row-both = list-both m g (y + 24) _ _ front-both (onRow reg vram scroll y) (w .sprites) _ _ _ _ bare-both
 
   colour-both : (x : ℕ) → pictureOf TrueEdges reg scroll vram y .colour x ≡ pictureOf VisibleOnly reg scroll vram y .colour x
@@ -315,9 +327,11 @@ module _ (reg vram : List ℕ) (scroll y : ℕ) (w : NothingCut reg vram scroll 
   unfolding pictureOf picture trueEdges visible
   ninth-both = refl
 
-  met-same : ((n : ℕ) → OneOf (onRow reg vram scroll y) n → xByte reg vram scroll y n ≤ 208 + early g) → pictureOf TrueEdges reg scroll vram y .hit ≡ pictureOf VisibleOnly reg scroll vram y .hit
+  met-same : ((n : ℕ) → OneOf (onRow reg vram scroll y) n → xByte reg vram scroll y n ≤ 208 + early g) → pictureOf TrueEdges reg scroll vram y .hit ≡
+      pictureOf VisibleOnly reg scroll vram y .hit
   unfolding pictureOf picture trueEdges visible
-  met-same q = list-hit m g (y + 24) _ _ front-both (onRow reg vram scroll y) (w .sprites) q _ _ _ _ bare-both (no-hit (back m g (trueEdges g scroll y)) (back m g (visible g scroll y)))
+  met-same q = list-hit m g (y + 24) _ _ front-both (onRow reg vram scroll y) (w .sprites) q _ _ _ _ bare-both
+      (no-hit (back m g (trueEdges g scroll y)) (back m g (visible g scroll y)))
 
   -- R18.3: areas 0 and 2 give the same row
   pub same-row : SameRow reg vram scroll y

@@ -40,12 +40,14 @@ use Rattle.step.specs.Frame.{frameAfter, FrameStepLeaves}
 use Rattle.step.specs.Layers.{alsoLayers}
 use Rattle.step.specs.Dump.{dumpLines}
 use Rattle.step.proofs.Kept.{write-keeps, read-keeps}
-use Rattle.step.proofs.Laws.{stepped-row, stepped-report, stepped-raster, stepped-addr, stepped-dest, stepped-interrupt, row-refusing, frame-refusing, step-accepted, step-exact, dump-exact, frame-fits, frame-memory, frame-step-length, frame-step-other, frame-step-here}
+use Rattle.step.proofs.Laws.{stepped-row, stepped-report, stepped-raster, stepped-addr, stepped-dest, stepped-interrupt, row-refusing, frame-refusing}
+use Rattle.step.proofs.Laws.{step-accepted, step-exact, dump-exact, frame-fits, frame-memory, frame-step-length, frame-step-other, frame-step-here}
 use Rattle.step.proofs.Pixels.{pixel-exact}
 use Rattle.face.proofs.Exact.{none}
 use Rattle.tiles.specs.Calls.{readTileLines, writeTileLines, readTileRefusal, writeTileRefusal}
 use Rattle.demands.specs.Machine.{Told}
-use Rattle.demands.specs.Handheld.{Call, out, input, frame-step, row-step, layer-frame-step, layer-row-step, dump-tileset, pixel-at, write-tile, read-tile, layerFrameStep, layerRowStep, after, refusalOf, told, Steps, handheld}
+use Rattle.demands.specs.Handheld.{Call, out, input, frame-step, row-step, layer-frame-step, layer-row-step, dump-tileset, pixel-at, write-tile}
+use Rattle.demands.specs.Handheld.{read-tile, layerFrameStep, layerRowStep, after, refusalOf, told, Steps, handheld}
 use Rattle.demands.specs.Pass.{NoStepOn, Run, pass, ready, answer, lineSet, frameAt, Demand3}
 use Rattle.demands.specs.Rows.{lastTwice, EffectiveRows}
 use Rattle.demands.specs.Split.{Moment, Split, ColourSplit, Ninety, OnlyColour, Twins, Changed}
@@ -118,7 +120,8 @@ record Is (d : VdpState) (s : Told VdpState) : Type 0 where
   is : s ≡ told (stepped area vram d)
 
 accepted :
-    (ls : List Line) (a : RenderArea) (vram : List ℕ) (d : VdpState) (s : Told VdpState) → Refusing ls → s ≡ told (stepWith ls a vram d) → s .refusal ≡ Accepted → Is d s
+    (ls : List Line) (a : RenderArea) (vram : List ℕ) (d : VdpState) (s : Told VdpState) → Refusing ls → s ≡ told (stepWith ls a vram d) → s .refusal
+    ≡ Accepted → Is d s
 accepted ls a vram d s q e ok =
     record { area = a; vram = vram; is = e ∙ ap told (is-stepped ls a vram d q (sym (ap (λ (x : Told VdpState). x .refusal) e) ∙ ok)) }
 
@@ -133,9 +136,11 @@ is-step (input p m) d s e = absurd e
 is-step (frame-step a vram n) d s e = accepted (frameLines a vram n) a vram d s (frame-refusing (screenOf a) vram n) (e .0) (e .1)
 is-step (row-step a vram n) d s e = accepted (rowLines a vram n) a vram d s (row-refusing (screenOf a) vram n) (e .0) (e .1)
 is-step (layer-frame-step a vram n l) d s e =
-    accepted (alsoLayers (columns a) l (frameLines a vram n)) a vram d s (also-refusing (columns a) l (frameLines a vram n) (frame-refusing (screenOf a) vram n)) (e .0) (e .1)
+    accepted (alsoLayers (columns a) l (frameLines a vram n)) a vram d s
+    (also-refusing (columns a) l (frameLines a vram n) (frame-refusing (screenOf a) vram n)) (e .0) (e .1)
 is-step (layer-row-step a vram n l) d s e =
-    accepted (alsoLayers (columns a) l (rowLines a vram n)) a vram d s (also-refusing (columns a) l (rowLines a vram n) (row-refusing (screenOf a) vram n)) (e .0) (e .1)
+    accepted (alsoLayers (columns a) l (rowLines a vram n)) a vram d s
+    (also-refusing (columns a) l (rowLines a vram n) (row-refusing (screenOf a) vram n)) (e .0) (e .1)
 is-step (dump-tileset vram n) d s e = absurd e
 is-step (pixel-at a vram y x) d s e = absurd e
 is-step (write-tile vram n codes) d s e = absurd e
@@ -148,7 +153,8 @@ interrupt-by :
     (d : VdpState) (s : Told VdpState) → Is d s → bit (register d 1) 5 ≡ false →
     (s .interrupt ≡ InterruptGenerated) ↔ (lineInterrupt (register d) (advanced (register d) (d .raster)) ≡ true)
 interrupt-by d s i off =
-    subst (λ (x : Told VdpState). (x .interrupt ≡ InterruptGenerated) ↔ (lineInterrupt (register d) (advanced (register d) (d .raster)) ≡ true)) (sym (i .is))
+    subst (λ (x : Told VdpState). (x .interrupt ≡ InterruptGenerated) ↔ (lineInterrupt (register d) (advanced (register d) (d .raster)) ≡ true))
+    (sym (i .is))
     (rw (stepped-interrupt (i .area) (i .vram) d) (line-alone (bit (register d 1) 5) (bit (stepped (i .area) (i .vram) d .vdp .status) 7) _ off))
 
 -- ---- refusal 7
@@ -189,7 +195,8 @@ module _ (a : RenderArea) (vram : List ℕ) (n : ℕ) (d : VdpState) (ok : frame
   report-is : (line (d .raster) ≡ 193) ↔ (frameStep a vram n d .report ≢ NoDisplay)
   unfolding advanced
   report-is =
-      subst (λ (x : DisplayRefresh). (line (d .raster) ≡ 193) ↔ (x ≢ NoDisplay)) (sym (ap (λ (s : Stepped). s .report) took ∙ stepped-report a vram d))
+      subst (λ (x : DisplayRefresh). (line (d .raster) ≡ 193) ↔ (x ≢ NoDisplay))
+      (sym (ap (λ (s : Stepped). s .report) took ∙ stepped-report a vram d))
       (end-line (d .reg) (lineOf (counterUp d)))
 
 module _ (a : RenderArea) (vram : List ℕ) (d : VdpState) (frame : List ℕ) (y : ℕ) where
@@ -240,7 +247,8 @@ pub by-contract :
     {a : RenderArea} (r : Run handheld a) (i : ℕ) (s : Stepped) → FrameStepLeaves a (r .vram i) (ready r i) (frameAt r i) s (frameAt r (suc i)) →
     told s ≡ answer r i
 unfolding answer
-by-contract {a} r i s leaves = ap told (leaves .answer) ∙ ap (λ (n : ℕ). told (frameStep a (r .vram i) n (ready r i))) (same-length handheld-lawful r i)
+by-contract {a} r i s leaves =
+    ap told (leaves .answer) ∙ ap (λ (n : ℕ). told (frameStep a (r .vram i) n (ready r i))) (same-length handheld-lawful r i)
 
 -- the visible area: 144 rows of 640 bytes, from line 24
 pub demand3-visible : (r : Run handheld VisibleOnly) → Demand3 r
@@ -287,17 +295,20 @@ pub ninety : {r : Run handheld VisibleOnly} {old new : List ℕ} (s : Split r 90
 ninety {r} s =
     let c = colour-split-visible s in
     let out : (lineSet r 0 ≤ 90) ⊎ (91 < lineSet r 0) = ⊎-elim (λ o. inl (o .1)) (λ o. inr (omega (arith, o .0))) (s .moment .from-top) in
-    let on : s .moment .step + 1 < pass r = goes-on handheld-lawful r (s .moment .step) 90 91 (s .moment .in-pass) (s .moment .sets) (omega arith) (omega arith) out in
+    let on : s .moment .step + 1 < pass r = goes-on handheld-lawful r (s .moment .step) 90 91 (s .moment .in-pass) (s .moment .sets) (omega arith)
+    (omega arith) out in
     let n : suc (s .moment .step) < pass r = omega arith in
     let next : lineSet r (suc (s .moment .step)) ≡ 91 =
     line-of handheld-lawful r (suc (s .moment .step)) ∙ line-next (ready r (suc (s .moment .step)) .raster) 90 (c .reads) (omega arith) in
     record {
-      row-66 = c .keeps (s .moment .step) 66 (s .moment .in-pass) (set-row handheld-lawful r (s .moment .step) 66 (omega arith) (s .moment .sets)) (omega arith);
+      row-66 = c .keeps (s .moment .step) 66 (s .moment .in-pass) (set-row handheld-lawful r (s .moment .step) 66 (omega arith) (s .moment .sets))
+          (omega arith);
       row-67 = c .changes (suc (s .moment .step)) 67 n (set-row handheld-lawful r (suc (s .moment .step)) 67 (omega arith) next) (omega arith);
     }
 
 -- a write
-pub write-shows-visible : {r : Run handheld VisibleOnly} {L : ℕ} (m : Moment r L) (r₀ : Run handheld VisibleOnly) → SameUntil r r₀ (m .step) → WriteShows m r₀
+pub write-shows-visible : {r : Run handheld VisibleOnly} {L : ℕ} (m : Moment r L) (r₀ : Run handheld VisibleOnly) → SameUntil r r₀ (m .step) →
+    WriteShows m r₀
 write-shows-visible m r₀ same = write-shows handheld-lawful m r₀ same (omega arith)
 
 -- ---- colours

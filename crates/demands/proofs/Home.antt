@@ -38,12 +38,15 @@ use Rattle.home.specs.Ports.{readLines}
 use Rattle.home.specs.Step.{register, lineOf, counterUp, stepped, stepWith, rowStep, frameStep, frameAfter, FrameStepLeaves}
 use Rattle.home.proofs.Exact.{read-exact, never-six, outside-only}
 use Rattle.home.proofs.Kept.{write-keeps, read-keeps}
-use Rattle.home.proofs.Laws.{step-exact, step-either, is-stepped, refused-raster, frame-fits, frame-memory, stepped-row, stepped-report, stepped-raster, stepped-aimed, stepped-clean, stepped-interrupt, colours-now, frame-step-length, frame-step-other, frame-step-here}
+use Rattle.home.proofs.Laws.{step-exact, step-either, is-stepped, refused-raster, frame-fits, frame-memory, stepped-row, stepped-report}
+use Rattle.home.proofs.Laws.{stepped-raster, stepped-aimed, stepped-clean, stepped-interrupt, colours-now, frame-step-length, frame-step-other}
+use Rattle.home.proofs.Laws.{frame-step-here}
 use Rattle.tiles.specs.Calls.{readTileLines, writeTileLines, readTileRefusal, writeTileRefusal}
 use Rattle.face.proofs.Exact.{none, never}
 use Rattle.demands.specs.Machine.{Told}
-use Rattle.demands.specs.Home.{Call, out, input, frame-step, row-step, dump-tileset, write-tile, read-tile, after, refusalOf, told, Steps, home, NeverSix}
-use Rattle.demands.specs.Pass.{NoStepOn, Run, pass, ready, answer, lineSet, frameAt, Demand3}
+use Rattle.demands.specs.Home.{Call, out, input, frame-step, row-step, dump-tileset, write-tile, read-tile, after, refusalOf, told, Steps, home}
+use Rattle.demands.specs.Home.{NeverSix}
+use Rattle.demands.specs.Pass.{NoStepOn, Run, pass, ready, answer, frameAt, Demand3}
 use Rattle.demands.specs.Rows.{HomeRows}
 use Rattle.demands.specs.Interrupts.{FromLine0, FirstPass}
 use Rattle.demands.specs.Split.{Moment, Split, ColourSplit, FirstAtHome, OnlyColour, Twins, Changed}
@@ -96,7 +99,8 @@ record Is (h : HomeState) (s : Told HomeState) : Type 0 where
   is : s ≡ told (stepped vram h)
 
 accepted :
-    (ls : List Line) (vram : List ℕ) (h : HomeState) (s : Told HomeState) → Refusing ls → s ≡ told (stepWith ls vram h) → s .refusal ≡ Accepted → Is h s
+    (ls : List Line) (vram : List ℕ) (h : HomeState) (s : Told HomeState) → Refusing ls → s ≡ told (stepWith ls vram h) → s .refusal ≡ Accepted → Is
+    h s
 accepted ls vram h s q e ok =
     record { vram = vram; is = e ∙ ap told (is-stepped ls vram h q (sym (ap (λ (x : Told HomeState). x .refusal) e) ∙ ok)) }
 
@@ -116,7 +120,8 @@ interrupt-by :
     (h : HomeState) (s : Told HomeState) → Is h s → bit (register h 1) 5 ≡ false →
     (s .interrupt ≡ InterruptGenerated) ↔ (lineInterrupt (register h) (advanced (register h) (h .raster)) ≡ true)
 interrupt-by h s i off =
-    subst (λ (x : Told HomeState). (x .interrupt ≡ InterruptGenerated) ↔ (lineInterrupt (register h) (advanced (register h) (h .raster)) ≡ true)) (sym (i .is))
+    subst (λ (x : Told HomeState). (x .interrupt ≡ InterruptGenerated) ↔ (lineInterrupt (register h) (advanced (register h) (h .raster)) ≡ true))
+    (sym (i .is))
     (rw (stepped-interrupt (i .vram) h) (line-alone (bit (register h 1) 5) (bit (stepped (i .vram) h .home .front .status) 7) _ off))
 
 -- ---- refusals
@@ -145,7 +150,8 @@ module _ (vram : List ℕ) (n : ℕ) (h : HomeState) (ok : frameStep vram n h .r
   report-is : (line (h .raster) ≡ 193) ↔ (frameStep vram n h .report ≢ NoDisplay)
   unfolding advanced
   report-is =
-      subst (λ (x : DisplayRefresh). (line (h .raster) ≡ 193) ↔ (x ≢ NoDisplay)) (sym (ap (λ (s : HomeStepped). s .report) took ∙ stepped-report vram h))
+      subst (λ (x : DisplayRefresh). (line (h .raster) ≡ 193) ↔ (x ≢ NoDisplay))
+      (sym (ap (λ (s : HomeStepped). s .report) took ∙ stepped-report vram h))
       (end-line (h .front .reg) (lineOf (counterUp h)))
 
 module _ (vram : List ℕ) (h : HomeState) (frame : List ℕ) (y : ℕ) where
@@ -156,10 +162,12 @@ module _ (vram : List ℕ) (h : HomeState) (frame : List ℕ) (y : ℕ) where
   own-row :
       frameStep vram (length frame) h .refusal ≡ Accepted → Clean home h → rowOn Home (line (h .raster)) ≡ Drawn y →
       rowOf (rowSize Home) y (frameAfter vram h frame)
-      ≡ rowBytes (homeColoursOf (h .cram)) (columns Home) (pictureOf Home (h .front .reg) (advanced (register h) (h .raster) .«vertical_scroll») vram y)
+      ≡ rowBytes (homeColoursOf (h .cram)) (columns Home)
+      (pictureOf Home (h .front .reg) (advanced (register h) (h .raster) .«vertical_scroll») vram y)
   unfolding advanced
   own-row ok k e =
-      frame-step-here vram h frame y (frame-memory vram (length frame) h ok) (frame-fits vram (length frame) h ok) e ∙ rw (colours-now (counterUp h) k)
+      frame-step-here vram h frame y (frame-memory vram (length frame) h ok) (frame-fits vram (length frame) h ok) e ∙ rw
+      (colours-now (counterUp h) k)
 
 pub home-lawful : Lawful home
 unfolding after

@@ -17,68 +17,71 @@ use Rattle.demands.proofs.Lawful.{firstRaster, Lawful}
 use Rattle.demands.proofs.Sound.{table-kept}
 
 -- ---- from a raster that has Z, whose step goes to place p₀, each step goes one place on
-module _ {M : Machine} (ok : Lawful M) (N m p₀ : ℕ) (Z : Raster → Type 0) (begins : (g : ℕ → ℕ) (x : Raster) → Z x → g 10 ≡ N → Takes N m p₀ g x) where
-  -- the place that step n goes to
-  goal : ℕ → ℕ
-  goal zero = p₀
-  goal (suc n) = suc (goal n)
+module _ {M : Machine} (ok : Lawful M) (N m p₀ : ℕ) (Z : Raster → Type 0) (begins : (g : ℕ → ℕ) (x : Raster) → Z x → g 10 ≡ N → Takes N m p₀ g x)
+  where
+    -- the place that step n goes to
+    goal : ℕ → ℕ
+    goal zero = p₀
+    goal (suc n) = suc (goal n)
 
-  goal-is : (n : ℕ) → goal n ≡ n + p₀
-  unfolding goal
-  goal-is zero = omega arith
-  goal-is (suc n) = omega (arith, goal-is n)
+    goal-is : (n : ℕ) → goal n ≡ n + p₀
+    unfolding goal
+    goal-is zero = omega arith
+    goal-is (suc n) = omega (arith, goal-is n)
 
-  State : ℕ → Raster → Type 0
-  State zero x = Z x
-  State (suc n) x = Due N m (goal n) x
+    State : ℕ → Raster → Type 0
+    State zero x = Z x
+    State (suc n) x = Due N m (goal n) x
 
-  takes : (n : ℕ) (g : ℕ → ℕ) (x : Raster) → State n x → g 10 ≡ N → goal n < passLength (x .table) → Takes N m (goal n) g x
-  unfolding State goal
-  takes zero g x w e h = begins g x w e
-  takes (suc n) g x w e h = takes-next N m (goal n) g x w h
-
-  module _ (start : M .Device) (z : Z (M .raster start)) where
-    -- the table is the first one's
-    table-so : (n : ℕ) (d : M .Device) → AllSo M N start n d → M .raster d .table ≡ M .raster start .table
-    table-so n d here = refl
-    table-so n d (call {d = d₀} w c q) = table-kept ok c d₀ ∙ table-so n d₀ w
-    table-so (suc n) d (step {d = d₀} w so c s e) =
-        ap (λ (x : Raster). x .table) (ok .step-raster c d₀ s e) ∙ same-table (register M d₀) (M .raster d₀) ∙ table-so n d₀ w
-
-    state : (n : ℕ) (d : M .Device) → AllSo M N start n d → goal n ≤ passLength (M .raster start .table) → State n (M .raster d)
+    takes : (n : ℕ) (g : ℕ → ℕ) (x : Raster) → State n x → g 10 ≡ N → goal n < passLength (x .table) → Takes N m (goal n) g x
     unfolding State goal
-    state n d here h = z
-    state n d (call {d = d₀} w c q) h = subst (State n) (sym (ok .quiet c d₀ q)) (state n d₀ w h)
-    state (suc n) d (step {d = d₀} w so c s e) h =
-        subst (Due N m (goal n)) (sym (ok .step-raster c d₀ s e))
-        (leaves N m (goal n) (register M d₀) (M .raster d₀)
-        (takes n (register M d₀) (M .raster d₀) (state n d₀ w (omega arith)) (so .every) (rw (table-so n d₀ w) h)) (so .every))
+    takes zero g x w e h = begins g x w e
+    takes (suc n) g x w e h = takes-next N m (goal n) g x w h
 
-    -- what step n answers
-    module _ (n : ℕ) (h : n + p₀ < passLength (M .raster start .table)) (d : M .Device) (c : M .Call) (s : Told (M .Device)) (w : AllSo M N start n d) (so : LineInterruptsEvery N (register M d)) (e : M .Steps c d s) where
-      abbrev p : ℕ
-      p = n + p₀
+    module _ (start : M .Device) (z : Z (M .raster start)) where
+      -- the table is the first one's
+      table-so : (n : ℕ) (d : M .Device) → AllSo M N start n d → M .raster d .table ≡ M .raster start .table
+      table-so n d here = refl
+      table-so n d (call {d = d₀} w c q) = table-kept ok c d₀ ∙ table-so n d₀ w
+      table-so (suc n) d (step {d = d₀} w so c s e) =
+          ap (λ (x : Raster). x .table) (ok .step-raster c d₀ s e) ∙ same-table (register M d₀) (M .raster d₀) ∙ table-so n d₀ w
 
-      t : Takes N m p (register M d) (M .raster d)
-      t =
-          subst (λ (q : ℕ). Takes N m q (register M d) (M .raster d)) (goal-is n)
-          (takes n (register M d) (M .raster d) (state n d w (omega (arith, goal-is n))) (so .every) (rw (table-so n d w) (omega (arith, goal-is n))))
+      state : (n : ℕ) (d : M .Device) → AllSo M N start n d → goal n ≤ passLength (M .raster start .table) → State n (M .raster d)
+      unfolding State goal
+      state n d here h = z
+      state n d (call {d = d₀} w c q) h = subst (State n) (sym (ok .quiet c d₀ q)) (state n d₀ w h)
+      state (suc n) d (step {d = d₀} w so c s e) h =
+          subst (Due N m (goal n)) (sym (ok .step-raster c d₀ s e))
+          (leaves N m (goal n) (register M d₀) (M .raster d₀)
+          (takes n (register M d₀) (M .raster d₀) (state n d₀ w (omega arith)) (so .every) (rw (table-so n d₀ w) h)) (so .every))
 
-      pub line-set : p < jumpTo → lineOf M (s .device) ≡ p
-      unfolding ticked counted advanced
-      line-set l = ap (λ (x : Raster). x .«v_counter») (ok .step-raster c d s e) ∙ sets N m p (register M d) (M .raster d) t l
+      -- what step n answers
+      module _ (n : ℕ) (h : n + p₀ < passLength (M .raster start .table)) (d : M .Device) (c : M .Call) (s : Told (M .Device))
+          (w : AllSo M N start n d) (so : LineInterruptsEvery N (register M d)) (e : M .Steps c d s) where
+        abbrev p : ℕ
+        p = n + p₀
 
-      pub early : p ≤ 193 → InterruptsWhen s (N + 1 ∣ p + m)
-      early l =
-          let a = ok .step-interrupt c d s e (so .frame-off) in
-          let b = comes N m p (register M d) (M .raster d) t (so .line-on) l in
-          (λ f. b .0 (a .0 f), λ v. a .1 (b .1 v))
+        t : Takes N m p (register M d) (M .raster d)
+        t =
+            subst (λ (q : ℕ). Takes N m q (register M d) (M .raster d)) (goal-is n)
+            (takes n (register M d) (M .raster d) (state n d w (omega (arith, goal-is n))) (so .every)
+            (rw (table-so n d w) (omega (arith, goal-is n))))
 
-      pub late : 193 < p → InterruptsWhen s (N ≡ 0)
-      late l =
-          let a = ok .step-interrupt c d s e (so .frame-off) in
-          let b = comes-late N m p (register M d) (M .raster d) t (so .line-on) l in
-          (λ f. b .0 (a .0 f), λ v. a .1 (b .1 v))
+        pub line-set : p < jumpTo → lineOf M (s .device) ≡ p
+        unfolding ticked counted advanced
+        line-set l = ap (λ (x : Raster). x .«v_counter») (ok .step-raster c d s e) ∙ sets N m p (register M d) (M .raster d) t l
+
+        pub early : p ≤ 193 → InterruptsWhen s (N + 1 ∣ p + m)
+        early l =
+            let a = ok .step-interrupt c d s e (so .frame-off) in
+            let b = comes N m p (register M d) (M .raster d) t (so .line-on) l in
+            (λ f. b .0 (a .0 f), λ v. a .1 (b .1 v))
+
+        pub late : 193 < p → InterruptsWhen s (N ≡ 0)
+        late l =
+            let a = ok .step-interrupt c d s e (so .frame-off) in
+            let b = comes-late N m p (register M d) (M .raster d) t (so .line-on) l in
+            (λ f. b .0 (a .0 f), λ v. a .1 (b .1 v))
 
 -- ---- from just before line 0
 module _ {M : Machine} (ok : Lawful M) (N : ℕ) (start : M .Device) (reads : lineOf M start ≡ 0xFF) where
@@ -90,10 +93,13 @@ module _ {M : Machine} (ok : Lawful M) (N : ℕ) (start : M .Device) (reads : li
       record {
         to-193 = λ k h d c s w so e.
             rw (← add-zero k) (
-              line-set ok N 2 0 AtFF (takes-0 N) start reads k (omega (arith, pass-is (M .raster start .table), jump-back (M .raster start .table))) d c s w so e (omega arith),
-              early ok N 2 0 AtFF (takes-0 N) start reads k (omega (arith, pass-is (M .raster start .table), jump-back (M .raster start .table))) d c s w so e (omega arith),
+              line-set ok N 2 0 AtFF (takes-0 N) start reads k (omega (arith, pass-is (M .raster start .table), jump-back (M .raster start .table)))
+                  d c s w so e (omega arith),
+              early ok N 2 0 AtFF (takes-0 N) start reads k (omega (arith, pass-is (M .raster start .table), jump-back (M .raster start .table))) d c
+                  s w so e (omega arith),
             );
-        past-193 = λ k l h d c s w so e. late ok N 2 0 AtFF (takes-0 N) start reads k (omega (arith, pass-is (M .raster start .table), jump-back (M .raster start .table))) d c s w so e (omega arith);
+        past-193 = λ k l h d c s w so e. late ok N 2 0 AtFF (takes-0 N) start reads k
+            (omega (arith, pass-is (M .raster start .table), jump-back (M .raster start .table))) d c s w so e (omega arith);
       }
 
 -- ---- the first pass
@@ -125,8 +131,11 @@ module _ {M : Machine} (ok : Lawful M) (N : ℕ) (t : LineTable) (start : M .Dev
   first-pass =
       record {
         to-193 = λ i h d c s w so e. (
-          line-set ok N N 1 (Due N N 0) begins-1 start due i (omega (arith, pass-of, pass-is t, jump-back t)) d c s w so e (omega arith) ∙ omega arith,
-          first-reports i s (early ok N N 1 (Due N N 0) begins-1 start due i (omega (arith, pass-of, pass-is t, jump-back t)) d c s w so e (omega arith)),
+          line-set ok N N 1 (Due N N 0) begins-1 start due i (omega (arith, pass-of, pass-is t, jump-back t)) d c s w so e (omega arith) ∙ omega
+              arith,
+          first-reports i s (early ok N N 1 (Due N N 0) begins-1 start due i (omega (arith, pass-of, pass-is t, jump-back t)) d c s w so e
+              (omega arith)),
         );
-        past-193 = λ i l h d c s w so e. late ok N N 1 (Due N N 0) begins-1 start due i (omega (arith, pass-of, pass-is t, jump-back t)) d c s w so e (omega arith);
+        past-193 = λ i l h d c s w so e. late ok N N 1 (Due N N 0) begins-1 start due i (omega (arith, pass-of, pass-is t, jump-back t)) d c s w so e
+            (omega arith);
       }

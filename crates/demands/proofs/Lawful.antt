@@ -51,7 +51,8 @@ pub record Lawful (M : Machine) : Type 0 where
   -- a call, what is no step, and a step
   pub left : (c : M .Call) (d : M .Device) → Left M d (M .after c d)
   pub quiet : (c : M .Call) (d : M .Device) → NoStepOn M d c → M .raster (M .after c d) ≡ M .raster d
-  pub step-raster : (c : M .Call) (d : M .Device) (s : Told (M .Device)) → M .Steps c d s → M .raster (s .device) ≡ ticked (register M d) (M .raster d)
+  pub step-raster : (c : M .Call) (d : M .Device) (s : Told (M .Device)) → M .Steps c d s → M .raster (s .device) ≡ ticked (register M d)
+      (M .raster d)
   pub step-interrupt :
       (c : M .Call) (d : M .Device) (s : Told (M .Device)) → M .Steps c d s → bit (register M d 1) 5 ≡ false →
       (s .interrupt ≡ InterruptGenerated) ↔ (lineInterrupt (register M d) (advanced (register M d) (M .raster d)) ≡ true)

@@ -1,30 +1,27 @@
 -- What a layer tells, and that layers change nothing else, proved.
 -- Assumes nothing.
 use mathlib.Core.Path.{_≡_, refl, sym, ap, _∙_}
-use mathlib.Core.Logic.{_≢_, _⊎_, inl, inr}
-use mathlib.Core.Bool.{Bool, true, false, cond, _&&_, _||_}
-use mathlib.Core.List.{List, [], _∷_, _++_}
-use Prim.Native.Nat.{ℕ, _+_, _-_, _*_, _<_, _≤_}
-use native.Mathlib.Decide.{decLt}
+use mathlib.Core.Logic.{_⊎_, inl, inr}
+use mathlib.Core.Bool.{Bool, true, false, _&&_, _||_}
+use mathlib.Core.List.{List, [], _∷_}
+use Prim.Native.Nat.{ℕ, _+_, _-_, _<_, _≤_}
 use native.Mathlib.Omega.{arith}
-use lib.Dec.{eqb, ltb, leb}
-use lib.ListN.{length, take, drop}
+use lib.Dec.{eqb, leb}
+use lib.ListN.{length, drop}
 use lib.Seq.{drop-at}
-use borrow.Author.Tests.{eq-eqb, eqb-true, eqb-false, le-ltb, lt-ltb, le-leb}
+use borrow.Author.Tests.{eqb-true, lt-ltb}
 use Rattle.laws.specs.Table.{table}
-use Rattle.laws.proofs.Tests.{split, both, clash}
+use Rattle.laws.proofs.Tests.{split, both}
 use Rattle.laws.proofs.Tables.{length-table}
-use Rattle.picture.specs.declared.Stand.{Stand}
 use Rattle.picture.specs.declared.RenderArea.{RenderArea}
 use Rattle.picture.specs.View.{View}
-use Rattle.picture.specs.Picture.{Canvas, back, front, bare, tableAt, listed, solid, heldBack, drawn, spriteCode, withSprite, withSprites, picture}
+use Rattle.picture.specs.Picture.{Canvas, back, front, bare, solid, heldBack, drawn, spriteCode, withSprite, withSprites, picture}
 use Rattle.picture.specs.Area.{screenOf, columns}
-use Rattle.picture.specs.Layers.{owner, stopped, owned, ownedBy, layersWith, layers, layersIn}
-use Rattle.picture.proofs.Layers.{owned-drawn, owned-stopped, owned-left, colour-drawn, colour-left, drawn-solid, length-layersIn, layersIn-none}
+use Rattle.picture.specs.Layers.{stopped, ownedBy, layersWith, layers, layersIn}
+use Rattle.picture.proofs.Layers.{owned-drawn, owned-stopped, owned-left, colour-drawn, colour-left, drawn-solid, length-layersIn}
 use Rattle.vdp.specs.declared.VdpState.{VdpState}
-use Rattle.vdp.specs.declared.Refusal.{Refusal}
-use Rattle.vdp.specs.declared.Refusal.the-variants.{Accepted, LayerLength}
-use Rattle.vdp.specs.Refusals.{Line, first, under}
+use Rattle.vdp.specs.declared.Refusal.the-variants.{LayerLength}
+use Rattle.vdp.specs.Refusals.{Line, first}
 use Rattle.vdp.proofs.Tables.{Passed, passed, under-either}
 use Rattle.step.specs.declared.DrawnRow.{DrawnRow}
 use Rattle.step.specs.declared.DrawnRow.the-variants.{NoRow, Drawn}
@@ -61,7 +58,8 @@ module _ (m g : ℕ → ℕ) (v : View) (x : ℕ) where
   abbrev here : ℕ → Canvas → Bool
   here n c = leb (standsAt m g v n .x) x && drawn (standsAt m g v n) (code n) prio c (columnAt m g v n x)
 
-  held-any : (n : ℕ) (c : Canvas) → (leb (standsAt m g v n .x) x && stopped (standsAt m g v n) (code n) prio c (columnAt m g v n x)) ≡ heldAt m g v x n
+  held-any : (n : ℕ) (c : Canvas) → (leb (standsAt m g v n .x) x && stopped (standsAt m g v n) (code n) prio c (columnAt m g v n x)) ≡ heldAt m g v x
+      n
   unfolding stopped heldBack
   held-any n c = refl
 
@@ -118,7 +116,8 @@ module _ (m g : ℕ → ℕ) (v : View) (x : ℕ) where
       split (heldAt m g v x p && eqb (own x) 0) (λ t. absurd (omega (arith, after p c own e t .1 .1)))
       (λ t. rw (one-colour p c own e) (q (sym (one-left p c own e t) ∙ h))))
 
-  shown-all : (n : ℕ) (ns : List ℕ) (c : Canvas) (own : ℕ → ℕ) → (own x ≡ 64 + n → Shown n (c .colour x)) → told ns c own ≡ 64 + n → Shown n (on ns c .colour x)
+  shown-all : (n : ℕ) (ns : List ℕ) (c : Canvas) (own : ℕ → ℕ) → (own x ≡ 64 + n → Shown n (c .colour x)) → told ns c own ≡ 64 + n → Shown n
+      (on ns c .colour x)
   unfolding withSprites layersWith
   shown-all n [] c own q h = q h
   shown-all n (p ∷ ns) c own q h = shown-all n ns (one p c) (ones p c own) (shown-one n p c own q) h
@@ -135,7 +134,8 @@ module _ (m g : ℕ → ℕ) (v : View) (x : ℕ) where
       split (here n c)
       (λ e. let z : 64 + n - 64 ≡ n = omega arith in kind-of P (one-drawn n c own e .0) (inr (omega arith, rw z p)))
       (λ e.
-      split (heldAt m g v x n && eqb (own x) 0) (λ t. kind-of P (after n c own e t .1 .1) (inl (omega arith))) (λ t. kind-of P (one-left n c own e t) q))
+      split (heldAt m g v x n && eqb (own x) 0) (λ t. kind-of P (after n c own e t .1 .1) (inl (omega arith)))
+      (λ t. kind-of P (one-left n c own e t) q))
 
   kind-all : (P : ℕ → Type 0) (ns : List ℕ) (c : Canvas) (own : ℕ → ℕ) → ((n : ℕ) → OneOf ns n → P n) → Kind P (own x) → Kind P (told ns c own)
   unfolding layersWith
@@ -202,7 +202,8 @@ module _ (a : RenderArea) (vram : List ℕ) (d : VdpState) (pixels layers : List
   behind : (f : ℕ → ℕ) → drop (columns a) (layersIn layers (columns a) f) ≡ drop (columns a) layers
   unfolding layersIn
   behind f =
-      split (leb (columns a) (length layers)) (λ e. rw e (drop-at (table (columns a) f) (drop (columns a) layers) (columns a) (length-table (columns a) f))) (λ e. rw e)
+      split (leb (columns a) (length layers)) (λ e. rw e (drop-at (table (columns a) f) (drop (columns a) layers) (columns a)
+      (length-table (columns a) f))) (λ e. rw e)
 
   past-by : (r : DrawnRow) → drop (columns a) (layersTold r) ≡ drop (columns a) layers
   unfolding layersBy
@@ -235,6 +236,7 @@ aside a vram d pixels layers =
           (λ p. length-by a vram d pixels layers (comingRow (screenOf a) (readingOf d)));
       past =
           λ ls.
-          under-either (λ (l : List ℕ). drop (columns a) l ≡ drop (columns a) layers) ls (λ r. layers) (layersFilled (screenOf a) vram (readingOf d) layers) (λ r. refl)
+          under-either (λ (l : List ℕ). drop (columns a) l ≡ drop (columns a) layers) ls (λ r. layers)
+          (layersFilled (screenOf a) vram (readingOf d) layers) (λ r. refl)
           (λ p. past-by a vram d pixels layers (comingRow (screenOf a) (readingOf d)));
     }

@@ -19,7 +19,8 @@ use Rattle.raster.specs.declared.Raster.{Raster}
 use Rattle.raster.specs.declared.LineTable.{LineTable}
 use Rattle.raster.specs.Raster.{jumpLine, jumpTo, passLength, up, jumps, starts, advanced, counted, lineInterrupt, ticked}
 use Rattle.raster.proofs.Tables.{jump-back, jump-above, jump-high, jump-not-0, pass-is}
-use Rattle.demands.proofs.Counter.{line, flag, Within, placeOf, Ticked, InPass, place, tick, same-place, two-places, late-place, no-less, not-yet, place-below}
+use Rattle.demands.proofs.Counter.{line, flag, Within, placeOf, Ticked, InPass, place, tick, same-place, two-places, late-place, no-less}
+use Rattle.demands.proofs.Counter.{not-yet, place-below}
 
 -- a step that sets line 0 starts a pass, and so does no other
 pub starts-at : (x : Raster) → line x ≡ 0 → starts x ≡ true
@@ -132,7 +133,8 @@ module _ (N m p : ℕ) (g : ℕ → ℕ) (x : Raster) where
   unfolding starts
   not-start d h =
       ne-eqb (up x) 0
-      (not-yet (jumpLine (x .table)) jumpTo (jump-back (x .table)) jump-above (jump-high (x .table)) (x .«v_counter_jumped») (x .«v_counter») (d .within) (omega (arith, d .at, pass-is (x .table))))
+      (not-yet (jumpLine (x .table)) jumpTo (jump-back (x .table)) jump-above (jump-high (x .table)) (x .«v_counter_jumped») (x .«v_counter»)
+      (d .within) (omega (arith, d .at, pass-is (x .table))))
 
   -- any other step of a pass
   pub takes-next : Due N m p x → suc p < passLength (x .table) → Takes N m (suc p) g x
@@ -149,7 +151,8 @@ module _ (N m p : ℕ) (g : ℕ → ℕ) (x : Raster) where
 
 module _ (N m p : ℕ) (g : ℕ → ℕ) (x : Raster) (t : Takes N m p g x) where
   pub sets : p < jumpTo → line x ≡ p
-  sets h = same-place (jumpLine (x .table)) jumpTo (jump-back (x .table)) jump-above (jump-high (x .table)) (flag x) (line x) p (t .within) h .0 (t .at)
+  sets h = same-place (jumpLine (x .table)) jumpTo (jump-back (x .table)) jump-above (jump-high (x .table)) (flag x) (line x) p (t .within) h .0
+      (t .at)
 
   -- what it leaves
   pub leaves : g 10 ≡ N → Due N m p (ticked g x)
@@ -163,7 +166,8 @@ module _ (N m p : ℕ) (g : ℕ → ℕ) (x : Raster) (t : Takes N m p g x) wher
             let c : ticked g x .«line_interrupt_counter» ≡ cond (eqb (count g x) 0) N (count g x - 1) = rw (le-ltb 192 (line x) l, n) in
             subst (Counting N m (suc p)) (sym c) (again N m p (count g x) (t .low (omega arith)));
         high = λ h.
-            let l : 193 ≤ line x = no-less (jumpLine (x .table)) jumpTo (jump-back (x .table)) jump-above (jump-high (x .table)) (flag x) (line x) 193 (t .within) (omega arith) (omega (arith, t .at)) in
+            let l : 193 ≤ line x = no-less (jumpLine (x .table)) jumpTo (jump-back (x .table)) jump-above (jump-high (x .table)) (flag x) (line x)
+            193 (t .within) (omega arith) (omega (arith, t .at)) in
             rw (lt-ltb 192 (line x) (omega arith), n);
       }
 
@@ -205,7 +209,8 @@ module _ (x : ℕ → Raster) (g : ℕ → ℕ → ℕ) (next : (i : ℕ) → x 
     ticked-at : (i : ℕ) → Ticked J jumpTo (placeAt i) (flag (x i)) (line (x i))
     ticked-at i =
         subst
-        (λ (u : LineTable). Ticked (jumpLine u) jumpTo (placeOf (jumpLine u) jumpTo (x i .«v_counter_jumped») (x i .«v_counter»)) (flag (x i)) (line (x i)))
+        (λ (u : LineTable). Ticked (jumpLine u) jumpTo (placeOf (jumpLine u) jumpTo (x i .«v_counter_jumped») (x i .«v_counter»)) (flag (x i))
+        (line (x i)))
         (table-is i) (tick (x i) (within i))
 
     left : (i : ℕ) → Left i
@@ -236,7 +241,8 @@ module _ (x : ℕ → Raster) (g : ℕ → ℕ → ℕ) (next : (i : ℕ) → x 
 
     place-start : placeAt 0 < J + (256 - jumpTo)
     place-start =
-        place-below J jumpTo (jump-back t) jump-above (jump-high t) (x 0 .«v_counter_jumped») (x 0 .«v_counter») (subst (λ (u : LineTable). Within (jumpLine u) jumpTo (x 0 .«v_counter_jumped») (x 0 .«v_counter»)) begun start)
+        place-below J jumpTo (jump-back t) jump-above (jump-high t) (x 0 .«v_counter_jumped») (x 0 .«v_counter»)
+        (subst (λ (u : LineTable). Within (jumpLine u) jumpTo (x 0 .«v_counter_jumped») (x 0 .«v_counter»)) begun start)
 
     place-once : (q : ℕ) → q < passLength t → ExactlyOnce (passLength t) (λ i. placeAt (suc i) ≡ q)
     place-once q h =
@@ -246,7 +252,8 @@ module _ (x : ℕ → Raster) (g : ℕ → ℕ → ℕ) (next : (i : ℕ) → x 
     -- a line that the jump goes back over is set by exactly two steps of a pass
     pub line-twice : (q : ℕ) → jumpTo ≤ q → q < J → ExactlyTwice (passLength t) (λ i. line (x i) ≡ q)
     line-twice q l h =
-        once-and-once (place-once q (omega (arith, pass-is t, jump-back t, jump-high t))) (place-once (q + (J - jumpTo)) (omega (arith, pass-is t, jump-back t, jump-high t))) (two-lines q l h)
+        once-and-once (place-once q (omega (arith, pass-is t, jump-back t, jump-high t)))
+        (place-once (q + (J - jumpTo)) (omega (arith, pass-is t, jump-back t, jump-high t))) (two-lines q l h)
         (λ i e f. omega (arith, jump-back t))
 
     -- any other by exactly one

@@ -1,7 +1,7 @@
 -- One outcome for every public contract: each theorem names the contract that the toolchain generates from the function's own clauses.
 -- Assumes nothing.
 use mathlib.Core.Path.{_≡_, refl, sym, ap, _∙_}
-use Prim.Native.Nat.{ℕ, _-_, _<_, _≤_}
+use Prim.Native.Nat.{ℕ, _-_, _≤_}
 use native.Mathlib.Decide.{decLt}
 use native.Mathlib.Omega.{arith}
 use denote.Ref.{now}
@@ -44,7 +44,7 @@ use Rattle.background.proofs.names_at
 use Rattle.background.proofs.line_at as tile-line-at
 use Rattle.background.proofs.cut_of
 use Rattle.background.proofs.render_background_line
-use Rattle.sprites.proofs.settings
+use Rattle.stand.proofs.settings
 use Rattle.sprites.proofs.early_of
 use Rattle.sprites.proofs.table_at
 use Rattle.sprites.proofs.line_at as sprite-line-at
@@ -54,6 +54,7 @@ use Rattle.row.proofs.render_line
 use Rattle.vdp.proofs.refusal_number
 use Rattle.vdp.proofs.Front.write as front_write
 use Rattle.vdp.proofs.Front.read as front_read
+use Rattle.vdp.specs.Device.{fresh}
 use Rattle.vdp.proofs.VdpState.new
 use Rattle.vdp.proofs.VdpState.with_raster
 use Rattle.vdp.proofs.VdpState.with_table
@@ -124,11 +125,20 @@ use Rattle.face.proofs.vdp_record_out
 use Rattle.face.proofs.vdp_record_input
 use Rattle.face.proofs.vdp_record_step
 use Rattle.face.proofs.vdp_record_next
-use Rattle.recording.proofs.Device.handheld as device-handheld
-use Rattle.recording.proofs.Device.home as device-home
-use Rattle.recording.proofs.trace
-use Rattle.recording.proofs.snapshot
-use Rattle.recording.proofs.layers
+use Rattle.trace_run.proofs.Device.handheld as device-handheld
+use Rattle.trace_run.proofs.Device.home as device-home
+use Rattle.trace_output.proofs.trace
+use Rattle.trace_output.proofs.snapshot
+use Rattle.trace_output.proofs.layers
+use Rattle.trace_run.specs.Run.{World}
+use Rattle.trace_text.proofs.put_numbered
+use Rattle.trace_text.proofs.put_answer
+use Rattle.trace_run.proofs.row_turn
+use Rattle.trace_run.proofs.frame_turn
+use Rattle.column.proofs.fates
+use Rattle.column.proofs.owner_of
+use Rattle.word.proofs.number
+use Rattle.word.proofs.word_of
 
 -- ---- bitmap
 pub bitmap-new-once : OneOutcome 0 bitmap-new.Kinds.ps bitmap-new.Kinds.r bitmap-new.Reads.Asked bitmap-new.Reads.Learnt
@@ -156,13 +166,15 @@ upper-once κs a q z z′ w w′ e f = (e ∙ sym f, refl)
 pub rgb-once : OneOutcome 0 rgb.Kinds.ps rgb.Kinds.r rgb.Reads.Asked rgb.Reads.Learnt
 rgb-once κs a q z z′ w w′ e f = (e ∙ sym f, refl)
 
-pub palette-recompute-once : OneOutcome 0 palette_recompute.Kinds.ps palette_recompute.Kinds.r palette_recompute.Reads.Asked palette_recompute.Reads.Learnt
+pub palette-recompute-once : OneOutcome 0 palette_recompute.Kinds.ps palette_recompute.Kinds.r palette_recompute.Reads.Asked
+    palette_recompute.Reads.Learnt
 palette-recompute-once κs a q z z′ w w′ e f = (e ∙ sym f, refl)
 
 pub home-rgb-once : OneOutcome 0 home_rgb.Kinds.ps home_rgb.Kinds.r home_rgb.Reads.Asked home_rgb.Reads.Learnt
 home-rgb-once κs a q z z′ w w′ e f = (e ∙ sym f, refl)
 
-pub home-palette-recompute-once : OneOutcome 0 home_palette_recompute.Kinds.ps home_palette_recompute.Kinds.r home_palette_recompute.Reads.Asked home_palette_recompute.Reads.Learnt
+pub home-palette-recompute-once : OneOutcome 0 home_palette_recompute.Kinds.ps home_palette_recompute.Kinds.r home_palette_recompute.Reads.Asked
+    home_palette_recompute.Reads.Learnt
 home-palette-recompute-once κs a q z z′ w w′ e f = (e ∙ sym f, refl)
 
 -- ---- raster
@@ -175,10 +187,12 @@ table-from-once κs a q z z′ w w′ e f = (e ∙ sym f, refl)
 pub advance-once : OneOutcome 0 advance.Kinds.ps advance.Kinds.r advance.Reads.Asked advance.Reads.Learnt
 advance-once κs a q z z′ w w′ e f = (e ∙ sym f, refl)
 
-pub line-interrupt-is-up-once : OneOutcome 0 line_interrupt_is_up.Kinds.ps line_interrupt_is_up.Kinds.r line_interrupt_is_up.Reads.Asked line_interrupt_is_up.Reads.Learnt
+pub line-interrupt-is-up-once : OneOutcome 0 line_interrupt_is_up.Kinds.ps line_interrupt_is_up.Kinds.r line_interrupt_is_up.Reads.Asked
+    line_interrupt_is_up.Reads.Learnt
 line-interrupt-is-up-once κs a q z z′ w w′ e f = (e ∙ sym f, refl)
 
-pub line-interrupt-update-once : OneOutcome 0 line_interrupt_update.Kinds.ps line_interrupt_update.Kinds.r line_interrupt_update.Reads.Asked line_interrupt_update.Reads.Learnt
+pub line-interrupt-update-once : OneOutcome 0 line_interrupt_update.Kinds.ps line_interrupt_update.Kinds.r line_interrupt_update.Reads.Asked
+    line_interrupt_update.Reads.Learnt
 line-interrupt-update-once κs a q z z′ w w′ e f = (e ∙ sym f, refl)
 
 -- ---- picture
@@ -204,6 +218,16 @@ is-set-once κs a q z z′ w w′ e f = (e ∙ sym f, refl)
 pub both-once : OneOutcome 0 both.Kinds.ps both.Kinds.r both.Reads.Asked both.Reads.Learnt
 both-once κs a q z z′ w w′ e f = (e ∙ sym f, refl)
 
+-- ---- column
+pub fates-once : OneOutcome 0 fates.Kinds.ps fates.Kinds.r fates.Reads.Asked fates.Reads.Learnt
+fates-once κs a q z z′ w w′ e f = (
+  λ i. record { marks = (e .0 ∙ sym (f .0)) i; drawn = (e .1 ∙ sym (f .1)) i; held = (e .2 ∙ sym (f .2)) i },
+  refl,
+)
+
+pub owner-of-once : OneOutcome 0 owner_of.Kinds.ps owner_of.Kinds.r owner_of.Reads.Asked owner_of.Reads.Learnt
+owner-of-once κs a q z z′ w w′ e f = (e ∙ sym f, refl)
+
 -- ---- tile
 pub mark-once : OneOutcome 0 mark.Kinds.ps mark.Kinds.r mark.Reads.Asked mark.Reads.Learnt
 mark-once κs a q z z′ w w′ e f = (e ∙ sym f, refl)
@@ -220,7 +244,8 @@ character-line-once κs a q z z′ w w′ e f = (e .1 ∙ sym (f .1), λ i. ((e 
 pub character-whole-once : OneOutcome 3 character_whole.Kinds.ps character_whole.Kinds.r character_whole.Reads.Asked character_whole.Reads.Learnt
 character-whole-once κs a q z z′ w w′ e f = (e .1 ∙ sym (f .1), λ i. ((e .0 ∙ sym (f .0)) i, w .1))
 
-pub character-line-sprite-once : OneOutcome 3 character_line_sprite.Kinds.ps character_line_sprite.Kinds.r character_line_sprite.Reads.Asked character_line_sprite.Reads.Learnt
+pub character-line-sprite-once : OneOutcome 3 character_line_sprite.Kinds.ps character_line_sprite.Kinds.r character_line_sprite.Reads.Asked
+    character_line_sprite.Reads.Learnt
 character-line-sprite-once κs a q z z′ w w′ e f = (
   λ i. record {
     marks = (e .1 .0 ∙ sym (f .1 .0)) i;
@@ -240,7 +265,8 @@ sprite-columns-once κs a q z z′ w w′ e f = (
   λ i. ((e .0 ∙ sym (f .0)) i, w .1),
 )
 
-pub character-line-sprite-bitmap-once : OneOutcome 1 character_line_sprite_bitmap.Kinds.ps character_line_sprite_bitmap.Kinds.r character_line_sprite_bitmap.Reads.Asked character_line_sprite_bitmap.Reads.Learnt
+pub character-line-sprite-bitmap-once : OneOutcome 1 character_line_sprite_bitmap.Kinds.ps character_line_sprite_bitmap.Kinds.r
+    character_line_sprite_bitmap.Reads.Asked character_line_sprite_bitmap.Reads.Learnt
 character-line-sprite-bitmap-once κs a q z z′ w w′ e f = (e ∙ sym f, refl)
 
 pub own-columns-once : OneOutcome 1 own_columns.Kinds.ps own_columns.Kinds.r own_columns.Reads.Asked own_columns.Reads.Learnt
@@ -256,7 +282,8 @@ tile-line-at-once κs a q z z′ w w′ e f = (e .0 ∙ sym (f .0), refl)
 pub cut-of-once : OneOutcome 0 cut_of.Kinds.ps cut_of.Kinds.r cut_of.Reads.Asked cut_of.Reads.Learnt
 cut-of-once κs a q z z′ w w′ e f = (e .0 ∙ sym (f .0), refl)
 
-pub render-background-line-once : OneOutcome 3 render_background_line.Kinds.ps render_background_line.Kinds.r render_background_line.Reads.Asked render_background_line.Reads.Learnt
+pub render-background-line-once : OneOutcome 3 render_background_line.Kinds.ps render_background_line.Kinds.r render_background_line.Reads.Asked
+    render_background_line.Reads.Learnt
 render-background-line-once κs a q z z′ w w′ e f =
     (λ i. record { bits = (e .1 ∙ sym (f .1)) i }, λ i. ((e .0 ∙ sym (f .0)) i, w .1))
 
@@ -274,7 +301,8 @@ pub sprite-line-at-once : OneOutcome 0 sprite-line-at.Kinds.ps sprite-line-at.Ki
 sprite-line-at-once κs a q z z′ w w′ e f = (e .0 ∙ sym (f .0), refl)
 
 -- what the list begins with is one sprite, and its line one; there is no line where there is no sprite
-same-next : {m g : ℕ → ℕ} {l from n n′ d d′ : ℕ} → Follows m g l from n d → Follows m g l from n′ d′ → (n ≤ 64) × (64 ≤ n → d ≡ 0) → (n′ ≤ 64) × (64 ≤ n′ → d′ ≡ 0)
+same-next : {m g : ℕ → ℕ} {l from n n′ d d′ : ℕ} → Follows m g l from n d → Follows m g l from n′ d′ → (n ≤ 64) × (64 ≤ n → d ≡ 0) → (n′ ≤ 64) ×
+    (64 ≤ n′ → d′ ≡ 0)
     → (n ≡ n′) × (d ≡ d′)
 same-next {m} {g} {l} {n} {n′} {d} {d′} e f b c =
     elim (decLt n 64) [
@@ -301,7 +329,8 @@ next-sprite-once κs a q z z′ w w′ e f =
 -- the contract speaks of a row that is painted in the colours, as `row` lends it
 pub render-sprites-line-once :
     OneOutcome 4 render_sprites_line.Kinds.ps render_sprites_line.Kinds.r
-    (λ κs a. PaintedRow (now (a .0)) (now (a .1 .0)) (now (a .1 .1 .1 .0)) (a .1 .1 .1 .1 .1 .1 .1 .0) (a .1 .1 .1 .1 .1 .1 .1 .1 .0 .bits)) render_sprites_line.Reads.Learnt
+    (λ κs a. PaintedRow (now (a .0)) (now (a .1 .0)) (now (a .1 .1 .1 .0)) (a .1 .1 .1 .1 .1 .1 .1 .0) (a .1 .1 .1 .1 .1 .1 .1 .1 .0 .bits))
+    render_sprites_line.Reads.Learnt
 render-sprites-line-once κs a q z z′ w w′ e f =
     let x = e (q .row₀) (q .layers₀) (q .mask) (q .colour) (q .is-mask) (q .is-painted) (q .is-clear) in
     let y = f (q .row₀) (q .layers₀) (q .mask) (q .colour) (q .is-mask) (q .is-painted) (q .is-clear) in (
@@ -367,7 +396,8 @@ layer-row-points-once κs a q z z′ w w′ e f = (
   λ i. (tt, (tt, (tt, (tt, (tt, ((e .points .bytes ∙ sym (f .points .bytes)) i, ((e .owners ∙ sym (f .owners)) i, w .1 .1 .1 .1 .1 .1 .1))))))),
 )
 
-pub layer-frame-points-once : OneOutcome 4 layer_frame_points.Kinds.ps layer_frame_points.Kinds.r layer_frame_points.Reads.Asked layer_frame_points.Reads.Learnt
+pub layer-frame-points-once : OneOutcome 4 layer_frame_points.Kinds.ps layer_frame_points.Kinds.r layer_frame_points.Reads.Asked
+    layer_frame_points.Reads.Learnt
 layer-frame-points-once κs a q z z′ w w′ e f = (
   e .points .answer ∙ sym (f .points .answer),
   λ i. (tt, (tt, (tt, (tt, (tt, ((e .points .bytes ∙ sym (f .points .bytes)) i, ((e .owners ∙ sym (f .owners)) i, w .1 .1 .1 .1 .1 .1 .1))))))),
@@ -419,10 +449,12 @@ home-row-step-once κs a q z z′ w w′ e f = (e .answer ∙ sym (f .answer), �
 pub home-frame-step-once : OneOutcome 2 home-frame-step.Kinds.ps home-frame-step.Kinds.r home-frame-step.Reads.Asked home-frame-step.Reads.Learnt
 home-frame-step-once κs a q z z′ w w′ e f = (e .answer ∙ sym (f .answer), λ i. (tt, (tt, ((e .bytes ∙ sym (f .bytes)) i, w .1 .1 .1))))
 
-pub home-row-view-once : OneOutcomeSeen 1 home-row-view.Kinds.ps home-row-view.Kinds.r home-row-view.Reads.Asked home-row-view.Reads.Learnt (λ κs z. now z)
+pub home-row-view-once : OneOutcomeSeen 1 home-row-view.Kinds.ps home-row-view.Kinds.r home-row-view.Reads.Asked home-row-view.Reads.Learnt
+    (λ κs z. now z)
 home-row-view-once κs a q z z′ w w′ e f = (e ∙ sym f, refl)
 
-pub home-dump-tileset-once : OneOutcome 2 home-dump-tileset.Kinds.ps home-dump-tileset.Kinds.r home-dump-tileset.Reads.Asked home-dump-tileset.Reads.Learnt
+pub home-dump-tileset-once : OneOutcome 2 home-dump-tileset.Kinds.ps home-dump-tileset.Kinds.r home-dump-tileset.Reads.Asked
+    home-dump-tileset.Reads.Learnt
 home-dump-tileset-once κs a q z z′ w w′ e f = (e .refusal ∙ sym (f .refusal), λ i. (tt, (tt, ((e .bytes ∙ sym (f .bytes)) i, tt))))
 
 -- ---- dump
@@ -535,7 +567,8 @@ vdp-layer-step-once κs a q z z′ w w′ e f = (
   λ i. ((e .call .block ∙ sym (f .call .block)) i, (tt, ((e .call .lent ∙ sym (f .call .lent)) i, ((e .owners ∙ sym (f .owners)) i, w .1 .1 .1 .1)))),
 )
 
-pub vdp-layer-row-step-once : OneOutcome 4 vdp_layer_row_step.Kinds.ps vdp_layer_row_step.Kinds.r vdp_layer_row_step.Reads.Asked vdp_layer_row_step.Reads.Learnt
+pub vdp-layer-row-step-once : OneOutcome 4 vdp_layer_row_step.Kinds.ps vdp_layer_row_step.Kinds.r vdp_layer_row_step.Reads.Asked
+    vdp_layer_row_step.Reads.Learnt
 vdp-layer-row-step-once κs a q z z′ w w′ e f = (
   e .call .word ∙ sym (f .call .word),
   λ i. ((e .call .block ∙ sym (f .call .block)) i, (tt, ((e .call .lent ∙ sym (f .call .lent)) i, ((e .owners ∙ sym (f .owners)) i, w .1 .1 .1 .1)))),
@@ -568,7 +601,50 @@ vdp-record-step-once κs a q z z′ w w′ e f = (e .word ∙ sym (f .word), λ 
 pub vdp-record-next-once : OneOutcome 1 vdp_record_next.Kinds.ps vdp_record_next.Kinds.r vdp_record_next.Reads.Asked vdp_record_next.Reads.Learnt
 vdp-record-next-once κs a q z z′ w w′ e f = (e ∙ sym f, refl)
 
--- ---- recording
+-- ---- word
+pub number-once : OneOutcome 0 number.Kinds.ps number.Kinds.r number.Reads.Asked number.Reads.Learnt
+number-once κs a q z z′ w w′ e f = (e .0 ∙ sym (f .0), refl)
+
+pub word-of-once : OneOutcome 0 word_of.Kinds.ps word_of.Kinds.r word_of.Reads.Asked word_of.Reads.Learnt
+word-of-once κs a q z z′ w w′ e f = (e fresh ∙ sym (f fresh), refl)
+
+-- ---- a trace
+pub put-numbered-once : OneOutcome 2 put_numbered.Kinds.ps put_numbered.Kinds.r put_numbered.Reads.Asked put_numbered.Reads.Learnt
+put-numbered-once κs a q z z′ w w′ e f = (e .0 ∙ sym (f .0), λ i. ((e .1 ∙ sym (f .1)) i, w .1))
+
+pub put-answer-once : OneOutcome 1 put_answer.Kinds.ps put_answer.Kinds.r put_answer.Reads.Asked put_answer.Reads.Learnt
+put-answer-once κs a q z z′ w w′ e f = (e .0 ∙ sym (f .0), λ i. ((e .1 ∙ sym (f .1)) i, w .1))
+
+pub row-turn-once : OneOutcome 3 row_turn.Kinds.ps row_turn.Kinds.r row_turn.Reads.Asked row_turn.Reads.Learnt
+row-turn-once κs a q z z′ w w′ e f = (
+  λ i. record {
+    answer = (e .answer ∙ sym (f .answer)) i;
+    run = ap (λ (x : World). x .run) (e .world ∙ sym (f .world)) i;
+  },
+  λ i. (tt, (tt, (ap (λ (x : World). x .vram) (e .world ∙ sym (f .world)) i, (ap (λ (x : World). x .row) (e .world ∙ sym (f .world)) i, tt)))),
+)
+
+pub frame-turn-once : OneOutcome 4 frame_turn.Kinds.ps frame_turn.Kinds.r frame_turn.Reads.Asked frame_turn.Reads.Learnt
+frame-turn-once κs a q z z′ w w′ e f = (
+  λ i. record {
+    answer = (e .answer ∙ sym (f .answer)) i;
+    run = ap (λ (x : World). x .run) (e .world ∙ sym (f .world)) i;
+  },
+  λ i. (
+    tt,
+    (
+      tt,
+      (
+        tt,
+        (
+          ap (λ (x : World). x .vram) (e .world ∙ sym (f .world)) i,
+          (ap (λ (x : World). x .row) (e .world ∙ sym (f .world)) i, (ap (λ (x : World). x .frame) (e .world ∙ sym (f .world)) i, tt)),
+        ),
+      ),
+    ),
+  ),
+)
+
 pub device-handheld-once : OneOutcome 0 device-handheld.Kinds.ps device-handheld.Kinds.r device-handheld.Reads.Asked device-handheld.Reads.Learnt
 device-handheld-once κs a q z z′ w w′ e f = (e ∙ sym f, refl)
 

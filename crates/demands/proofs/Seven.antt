@@ -35,7 +35,8 @@ use Rattle.salvage.proofs.Salvaged.{stays-so}
 use Rattle.pixel.specs.Pixel.{pixelLines}
 use Rattle.step.specs.Step.{rowLines, frameLines, stepWith}
 use Rattle.tiles.specs.Calls.{readTileLines, writeTileLines}
-use Rattle.face.specs.Face.{Called, refused, onArea, newTableCall, outOn, outCall, inputOn, inputCall, stepOn, stepCall, rowStepOn, rowStepCall, dumpCall}
+use Rattle.face.specs.Face.{Called, refused, onArea, newTableCall, outOn, outCall, inputOn, inputCall, stepOn, stepCall, rowStepOn, rowStepCall}
+use Rattle.face.specs.Face.{dumpCall}
 use Rattle.face.specs.Layers.{layerLines, layerOn, layerCall, rowTable, rowFills, frameTable, frameFills}
 use Rattle.face.specs.Pixel.{pixelCall}
 use Rattle.face.specs.Repair.{repairCall}
@@ -51,7 +52,9 @@ use Rattle.demands.specs.Handheld.{Call, out, input, frame-step, row-ste
 use Rattle.demands.specs.Home.{home}
 use Rattle.demands.specs.Pass.{History, deviceAfter}
 use Rattle.demands.specs.Always.{Always}
-use Rattle.demands.specs.Seven.{highest, NeverSeven, FaceCall, vdp-new, vdp-new-table, vdp-out, vdp-input, vdp-step, vdp-row-step, vdp-layer-step, vdp-layer-row-step, vdp-dump-tileset, vdp-pixel, vdp-repair, vdp-write-tile, vdp-read-tile, called, MadeBlock, by-new, by-new-table, blockAfter, FaceNeverSeven}
+use Rattle.demands.specs.Seven.{highest, NeverSeven, FaceCall, vdp-new, vdp-new-table, vdp-out, vdp-input, vdp-step, vdp-row-step}
+use Rattle.demands.specs.Seven.{vdp-layer-step, vdp-layer-row-step, vdp-dump-tileset, vdp-pixel, vdp-repair, vdp-write-tile, vdp-read-tile}
+use Rattle.demands.specs.Seven.{called, MadeBlock, by-new, by-new-table, blockAfter, FaceNeverSeven}
 use Rattle.demands.proofs.Lawful.{Lawful}
 use Rattle.demands.proofs.Sound.{table-is}
 use Rattle.demands.proofs.Handheld.{handheld-lawful}
@@ -155,7 +158,8 @@ module _ {b : List ℕ} (s : Stands b) where
 
   -- a step, with layers or without, of an area that there is or not
   on-area :
-      (n : ℕ) (x : List ℕ) (call : RenderArea → Called) {c : Called} → c ≡ onArea n (blockOf (s .room) d) x call → ((a : RenderArea) → StandsAfter (call a)) →
+      (n : ℕ) (x : List ℕ) (call : RenderArea → Called) {c : Called} → c ≡ onArea n (blockOf (s .room) d) x call →
+      ((a : RenderArea) → StandsAfter (call a)) →
       StandsAfter c
   on-area n x call e f = subst StandsAfter (sym e) (either StandsAfter (leb n 2) (λ _. f (areaFrom n)) (λ _. subst Stands (s .is) s))
 
@@ -174,7 +178,8 @@ module _ {b : List ℕ} (s : Stands b) where
 
     layer-kept :
         (ls : RenderArea → List Line) (filled : VdpState → RenderArea → List ℕ) (layers : List ℕ) →
-        ((a : RenderArea) → Stands (blockOf (s .room) (stepWith (layerLines ls layers a) a m d .vdp))) → StandsAfter (layerCall ls filled b m x layers n)
+        ((a : RenderArea) → Stands (blockOf (s .room) (stepWith (layerLines ls layers a) a m d .vdp))) → StandsAfter
+        (layerCall ls filled b m x layers n)
     layer-kept ls filled layers f =
         on-area n x (layerOn ls filled m x layers (s .room) d)
         (ap (λ (y : List ℕ). layerCall ls filled y m x layers n) (s .is) ∙ layer-on (s .room) d (s .shape) fit ls filled m x layers n) f
@@ -210,7 +215,8 @@ module _ {b : List ℕ} (s : Stands b) where
   right : nothingWrong b ≡ true
   right =
       let lies : ltb (stateOf b .addr) (size (stateOf b .dest)) ≡ true = lt-ltb _ _ (in-block .in-memory) in
-      let claim : (stateOf b .«cram_dirty» || matching b) ≡ true = split (stateOf b .«cram_dirty») (λ e. rw e) (λ e. rw (e, matches (in-block .clean e))) in
+      let claim : (stateOf b .«cram_dirty» || matching b) ≡ true = split (stateOf b .«cram_dirty») (λ e. rw e)
+      (λ e. rw (e, matches (in-block .clean e))) in
       rw (formed, lies, claim)
 
   -- the two bytes of the address are bytes
@@ -242,7 +248,8 @@ module _ {b : List ℕ} (s : Stands b) where
   repair-word : (l : List ℕ) → refusalIn (repairCall b l .word) ≢ 7
   unfolding repairCall
   repair-word l =
-      either NotSeven (not (sized (length b))) (λ _ e. omega arith) (λ _. either NotSeven (ltb (length l) 220) (λ _ e. omega arith) (λ _ e. omega arith))
+      either NotSeven (not (sized (length b))) (λ _ e. omega arith)
+      (λ _. either NotSeven (ltb (length l) 220) (λ _ e. omega arith) (λ _ e. omega arith))
 
   -- ---- so it is not refused by 7, whatever is called
   answers : (c : FaceCall) → NotSeven (called c b)

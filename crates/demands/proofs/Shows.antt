@@ -1,24 +1,19 @@
 -- When a write shows, proved: of any area whose lines end where the jump ends.
 -- Assumes nothing.
-use mathlib.Core.Path.{_≡_, refl, sym, _∙_, ap, subst}
+use mathlib.Core.Path.{_≡_, sym, _∙_, ap, subst}
 use mathlib.Core.Logic.{_≢_}
-use mathlib.Core.Bool.{Bool, true, false, cond, or-true}
-use mathlib.Core.List.{List}
+use mathlib.Core.Bool.{false, or-true}
 use Prim.Native.Nat.{ℕ, zero, suc, _+_, _-_, _≤_, _<_}
 use native.Mathlib.Nat.{add-zero, add-suc}
 use native.Mathlib.Omega.{arith}
-use lib.Dec.{eqb, ltb}
+use lib.Dec.{ltb}
 use borrow.Author.Tests.{eq-eqb, ne-eqb, le-ltb, lt-ltb, eqb-true}
-use Rattle.laws.specs.Lists.{at}
-use Rattle.laws.proofs.Tests.{split, clash}
-use Rattle.picture.specs.declared.RenderArea.{RenderArea}
-use Rattle.picture.specs.declared.RenderArea.the-variants.{VisibleOnly}
+use Rattle.laws.proofs.Tests.{split}
 use Rattle.picture.specs.Screen.{columns, rows, firstLine, rowBytes}
 use Rattle.raster.specs.declared.Raster.{Raster}
 use Rattle.raster.specs.declared.LineTable.{LineTable}
 use Rattle.raster.specs.Raster.{up, jumps, starts, jumpLine, jumpTo, passLength, advanced, counted, ticked}
 use Rattle.raster.proofs.Tables.{jump-back}
-use Rattle.step.specs.declared.DrawnRow.the-variants.{Drawn}
 use Rattle.step.specs.Points.{rowOn}
 use Rattle.demands.specs.Machine.{Machine, register}
 use Rattle.demands.specs.Pass.{Run, pass, through, ready, latched, answer, lineSet, rowAtEnd, pictureAt}
@@ -64,7 +59,8 @@ module _ {M : Machine} (ok : Lawful M) {a : M .Area} (r : Run M a) where
       ∙ rw (no-start (M .raster (ready r (suc i))) (λ z. n (line-of ok r (suc i) ∙ z)))
       (ap (λ (x : Raster). x .«vertical_scroll») (raster-next ok r i) ∙ scroll-at ok r i)
 
-  scroll-on : (s n : ℕ) → ((j : ℕ) → s < j → j ≤ s + n → lineSet r j ≢ 0) → latched M (r .table) (through r (s + n)) ≡ latched M (r .table) (through r s)
+  scroll-on : (s n : ℕ) → ((j : ℕ) → s < j → j ≤ s + n → lineSet r j ≢ 0) → latched M (r .table) (through r (s + n)) ≡ latched M (r .table)
+      (through r s)
   scroll-on s zero h = rw (add-zero s)
   scroll-on s (suc n) h =
       rw (add-suc s n)
@@ -82,7 +78,8 @@ module _ {M : Machine} (ok : Lawful M) {a : M .Area} (r : Run M a) where
       (scroll-on s (i - s) (λ j l u. h j l (omega arith)))
 
 -- ---- the write
-module _ {M : Machine} (ok : Lawful M) {a : M .Area} {r : Run M a} {L : ℕ} (m : Moment r L) (r₀ : Run M a) (same : SameUntil r r₀ (m .step)) (once : firstLine (M .screen a) + rows (M .screen a) ≤ jumpTo) where
+module _ {M : Machine} (ok : Lawful M) {a : M .Area} {r : Run M a} {L : ℕ} (m : Moment r L) (r₀ : Run M a) (same : SameUntil r r₀ (m .step))
+    (once : firstLine (M .screen a) + rows (M .screen a) ≤ jumpTo) where
   stays : (y : ℕ) → y < rows (M .screen a) → y < firstNew (M .screen a) L → rowAtEnd r y ≡ rowAtEnd r₀ y
   stays y h l =
       let o = demand3 ok r once .row-once y h in

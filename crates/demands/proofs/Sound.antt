@@ -12,8 +12,8 @@ use Rattle.raster.specs.declared.Raster.{Raster}
 use Rattle.raster.specs.declared.LineTable.{LineTable}
 use Rattle.raster.specs.Raster.{up, jumps, starts, jumpLine, advanced, counted, ticked}
 use Rattle.raster.proofs.Tables.{jump-back}
-use Rattle.demands.specs.Machine.{Machine, register, lineOf}
-use Rattle.demands.specs.Pass.{History, deviceAfter, becomesZero, latched, Between, then}
+use Rattle.demands.specs.Machine.{Machine}
+use Rattle.demands.specs.Pass.{History, deviceAfter, latched, Between, then}
 use Rattle.demands.specs.Always.{TableKept}
 use Rattle.demands.proofs.Counter.{InPass, tick, line}
 use Rattle.demands.proofs.Lines.{starts-at, same-table}
@@ -88,7 +88,8 @@ module _ {M : Machine} (ok : Lawful M) where
       moved-scroll (latched M t h) (ok .left c (deviceAfter M t h) .moved) (scroll-is t h)
 
   -- ---- between steps
-  pub then-raster : (t : LineTable) (cs : List (Between M)) (h : History M) → M .raster (deviceAfter M t (then {M = M} cs h)) ≡ M .raster (deviceAfter M t h)
+  pub then-raster : (t : LineTable) (cs : List (Between M)) (h : History M) → M .raster (deviceAfter M t (then {M = M} cs h)) ≡ M .raster
+      (deviceAfter M t h)
   unfolding then deviceAfter
   then-raster t [] h = refl
   then-raster t (c ∷ cs) h = then-raster t cs (c .call ∷ h) ∙ ok .quiet (c .call) (deviceAfter M t h) (c .no-step (deviceAfter M t h))

@@ -1,22 +1,19 @@
 -- The author's question, answered.
 -- Assumes nothing.
 use mathlib.Core.Path.{_≡_, refl, sym, _∙_, ap, subst}
-use mathlib.Core.Logic.{_≢_, _⊎_, inl, inr, ⊎-elim}
+use mathlib.Core.Logic.{_⊎_, inl, inr, ⊎-elim}
 use mathlib.Core.List.{List}
 use Prim.Native.Nat.{ℕ, zero, suc, _+_, _-_, _*_, _≤_, _<_}
 use native.Mathlib.Nat.{add-zero, zero-add, add-suc, add-comm}
 use native.Mathlib.Omega.{arith}
 use lib.Dec.{ltb}
-use lib.ListN.{length, getD, take, drop, set, length-drop, List·getD-eq-default}
-use lib.Seq.{ext-getD, getD-take, getD-drop, getD-set-other, length-take-le}
+use lib.ListN.{length, getD, take, drop, length-drop}
+use lib.Seq.{ext-getD, getD-take, getD-drop, length-take-le}
 use borrow.Author.Tests.{ltb-true, ltb-false}
 use Rattle.laws.specs.Lists.{at, rowOf}
 use Rattle.laws.specs.Paint.{byteOfColour}
 use Rattle.laws.proofs.Tests.{split}
-use Rattle.colour.specs.Colour.{colour, coloursOf}
-use Rattle.colour.proofs.Laws.{colours-at, length-colours}
 use Rattle.picture.specs.declared.Screen.{Screen}
-use Rattle.picture.specs.declared.RenderArea.the-variants.{VisibleOnly, TrueEdges}
 use Rattle.picture.specs.Picture.{Row}
 use Rattle.picture.specs.Screen.{columns, rows, firstLine, rowBytes}
 use Rattle.picture.proofs.Laws.{length-rowBytes, pixel-byte}
@@ -27,9 +24,8 @@ use Rattle.step.specs.declared.DrawnRow.the-variants.{Drawn}
 use Rattle.step.specs.Points.{rowOn}
 use Rattle.step.proofs.Rows.{row-low, row-line}
 use Rattle.demands.specs.Machine.{Machine, register}
-use Rattle.demands.specs.Handheld.{handheld}
 use Rattle.demands.specs.Pass.{Run, pass, through, ready, latched, answer, lineSet, rowAtEnd, pictureAt}
-use Rattle.demands.specs.Split.{firstNew, Moment, Split, ColourSplit, Ninety, pixelAtEnd, fourBytes, OnlyColour, WhichPixels, Twins, Changed}
+use Rattle.demands.specs.Split.{firstNew, Moment, Split, ColourSplit, pixelAtEnd, fourBytes, OnlyColour, WhichPixels, Twins, Changed}
 use Rattle.demands.proofs.Counter.{line}
 use Rattle.demands.proofs.Lines.{line-next}
 use Rattle.demands.proofs.Lawful.{Lawful}
@@ -89,8 +85,11 @@ module _ {M : Machine} (ok : Lawful M) {a : M .Area} (r : Run M a) where
 
   row-set : (i y : ℕ) → answer r i .row ≡ Drawn y → (lineSet r i ≡ y + firstLine (M .screen a)) × (y < rows (M .screen a))
   row-set i y e =
-      let o = sym (row-on ok r i) ∙ e in
-      (line-of ok r i ∙ row-line (M .screen a) (line (M .raster (ready r i))) y o ∙ add-comm (firstLine (M .screen a)) y, row-low (M .screen a) (line (M .raster (ready r i))) y o)
+      let o = sym (row-on ok r i) ∙ e in (
+        line-of ok r i ∙ row-line (M .screen a) (line (M .raster (ready r i))) y o ∙ add-comm (firstLine (M .screen a)) y,
+        row-low (M .screen a)
+            (line (M .raster (ready r i))) y o,
+      )
 
   pub set-row : (i y : ℕ) → y < rows (M .screen a) → lineSet r i ≡ y + firstLine (M .screen a) → answer r i .row ≡ Drawn y
   set-row i y h e = row-on ok r i ∙ line-row (M .screen a) (line (M .raster (ready r i))) y h (sym (line-of ok r i) ∙ e)
@@ -130,9 +129,11 @@ module _ (a : Screen) (L y : ℕ) where
       (λ t. omega (arith, ltb-false L (firstLine a + rows a) t))
 
 -- ---- the rows before a moment of a pass, and those after it
-module _ {M : Machine} (ok : Lawful M) {a : M .Area} {r : Run M a} {L : ℕ} (s : Moment r L) (once : firstLine (M .screen a) + rows (M .screen a) ≤ jumpTo) where
+module _ {M : Machine} (ok : Lawful M) {a : M .Area} {r : Run M a} {L : ℕ} (s : Moment r L)
+    (once : firstLine (M .screen a) + rows (M .screen a) ≤ jumpTo) where
   -- where L is at the jump's end or after it, the pass began no later than its first row, and the rows have been drawn
-  far : (i n : ℕ) → i < pass r → lineSet r i ≡ n → firstLine (M .screen a) ≤ n → n < firstLine (M .screen a) + rows (M .screen a) → jumpTo ≤ L → i ≤ s .step
+  far : (i n : ℕ) → i < pass r → lineSet r i ≡ n → firstLine (M .screen a) ≤ n → n < firstLine (M .screen a) + rows (M .screen a) → jumpTo ≤ L → i ≤
+      s .step
   far i n h e f l j =
       let b : ℕ = lineSet r 0 in
       let up : b ≤ firstLine (M .screen a) = ⊎-elim (λ o. o .0) (λ o. absurd (omega (arith, o .2))) (s .from-top) in
@@ -170,7 +171,8 @@ module _ {M : Machine} (ok : Lawful M) {a : M .Area} {r : Run M a} {L : ℕ} (s 
       omega (arith, k)
 
 -- ---- the split
-module _ {M : Machine} (ok : Lawful M) {a : M .Area} {r : Run M a} {L : ℕ} {old new : List ℕ} (s : Split r L old new) (once : firstLine (M .screen a) + rows (M .screen a) ≤ jumpTo) where
+module _ {M : Machine} (ok : Lawful M) {a : M .Area} {r : Run M a} {L : ℕ} {old new : List ℕ} (s : Split r L old new)
+    (once : firstLine (M .screen a) + rows (M .screen a) ≤ jumpTo) where
   -- row y by another palette
   by : (i y : ℕ) {p q : List ℕ} → p ≡ q
       → rowBytes (M .coloursOf p) (columns (M .screen a)) (pictureAt r i y) ≡ rowBytes (M .coloursOf q) (columns (M .screen a)) (pictureAt r i y)
@@ -218,57 +220,58 @@ module _ {M : Machine} (ok : Lawful M) {a : M .Area} {r : Run M a} {L : ℕ} {ol
         }
 
 -- ---- with the change and without it
-module _ {M : Machine} (ok : Lawful M) {a : M .Area} {r r₀ : Run M a} (t : Twins r r₀) (once : firstLine (M .screen a) + rows (M .screen a) ≤ jumpTo) where
-  -- both devices have the same table, and so passes of one length
-  one-table : r .table ≡ r₀ .table
-  one-table = sym (table-at ok r 0) ∙ ap (λ (x : Raster). x .table) (t .start) ∙ table-at ok r₀ 0
+module _ {M : Machine} (ok : Lawful M) {a : M .Area} {r r₀ : Run M a} (t : Twins r r₀) (once : firstLine (M .screen a) + rows (M .screen a) ≤ jumpTo)
+  where
+    -- both devices have the same table, and so passes of one length
+    one-table : r .table ≡ r₀ .table
+    one-table = sym (table-at ok r 0) ∙ ap (λ (x : Raster). x .table) (t .start) ∙ table-at ok r₀ 0
 
-  in-both : (i : ℕ) → i < pass r → i < pass r₀
-  in-both i h = subst (λ (u : LineTable). i < passLength u) one-table h
+    in-both : (i : ℕ) → i < pass r → i < pass r₀
+    in-both i h = subst (λ (u : LineTable). i < passLength u) one-table h
 
-  same-register : (i : ℕ) → i < pass r → register M (ready r i) ≡ register M (ready r₀ i)
-  same-register i h = ap (λ (g : List ℕ). at g) (t .registers i h)
+    same-register : (i : ℕ) → i < pass r → register M (ready r i) ≡ register M (ready r₀ i)
+    same-register i h = ap (λ (g : List ℕ). at g) (t .registers i h)
 
-  same-raster : (i : ℕ) → i < pass r → M .raster (ready r i) ≡ M .raster (ready r₀ i)
-  same-raster zero h = t .start
-  same-raster (suc i) h =
-      let h′ : i < pass r = omega arith in
-      raster-next ok r i ∙ rw (same-register i h′, same-raster i h′) (sym (raster-next ok r₀ i))
+    same-raster : (i : ℕ) → i < pass r → M .raster (ready r i) ≡ M .raster (ready r₀ i)
+    same-raster zero h = t .start
+    same-raster (suc i) h =
+        let h′ : i < pass r = omega arith in
+        raster-next ok r i ∙ rw (same-register i h′, same-raster i h′) (sym (raster-next ok r₀ i))
 
-  same-row : (i : ℕ) → i < pass r → answer r i .row ≡ answer r₀ i .row
-  same-row i h = row-on ok r i ∙ ap (λ (x : Raster). rowOn (M .screen a) (line x)) (same-raster i h) ∙ sym (row-on ok r₀ i)
+    same-row : (i : ℕ) → i < pass r → answer r i .row ≡ answer r₀ i .row
+    same-row i h = row-on ok r i ∙ ap (λ (x : Raster). rowOn (M .screen a) (line x)) (same-raster i h) ∙ sym (row-on ok r₀ i)
 
-  same-scroll : (i : ℕ) → i < pass r → latched M (r .table) (through r i) ≡ latched M (r₀ .table) (through r₀ i)
-  same-scroll i h =
-      sym (scroll-at ok r i)
-      ∙ ap (λ (g : List ℕ). advanced (at g) (M .raster (ready r i)) .«vertical_scroll») (t .registers i h)
-      ∙ ap (λ (x : Raster). advanced (register M (ready r₀ i)) x .«vertical_scroll») (same-raster i h)
-      ∙ scroll-at ok r₀ i
+    same-scroll : (i : ℕ) → i < pass r → latched M (r .table) (through r i) ≡ latched M (r₀ .table) (through r₀ i)
+    same-scroll i h =
+        sym (scroll-at ok r i)
+        ∙ ap (λ (g : List ℕ). advanced (at g) (M .raster (ready r i)) .«vertical_scroll») (t .registers i h)
+        ∙ ap (λ (x : Raster). advanced (register M (ready r₀ i)) x .«vertical_scroll») (same-raster i h)
+        ∙ scroll-at ok r₀ i
 
-  same-picture : (i y : ℕ) → i < pass r → pictureAt r i y ≡ pictureAt r₀ i y
-  same-picture i y h = rw (same-scroll i h, t .registers i h, t .memory i h)
+    same-picture : (i y : ℕ) → i < pass r → pictureAt r i y ≡ pictureAt r₀ i y
+    same-picture i y h = rw (same-scroll i h, t .registers i h, t .memory i h)
 
-  module _ {L : ℕ} {old new : List ℕ} (s : Split r L old new) (kept : (i : ℕ) → i < pass r → M .palette (ready r₀ i) ≡ old) where
-    unchanged :
-        (i x y : ℕ) → i < pass r → answer r i .row ≡ Drawn y → x < columns (M .screen a) →
-        pixelAtEnd r₀ x y ≡ fourBytes (at (M .coloursOf old) (pictureAt r i y .colour x))
-    unchanged i x y h e w =
-        let b = demand3 ok r₀ once .row-bytes i y (in-both i h) (sym (same-row i h) ∙ e) in
-        ap (rowOf 4 x)
-        (b
-        ∙ ap (λ (p : List ℕ). rowBytes (M .coloursOf p) (columns (M .screen a)) (pictureAt r₀ i y)) (kept i h)
-        ∙ ap (rowBytes (M .coloursOf old) (columns (M .screen a))) (sym (same-picture i y h)))
-        ∙ pixel (pictureAt r i y) (M .coloursOf old) (columns (M .screen a)) x w
+    module _ {L : ℕ} {old new : List ℕ} (s : Split r L old new) (kept : (i : ℕ) → i < pass r → M .palette (ready r₀ i) ≡ old) where
+      unchanged :
+          (i x y : ℕ) → i < pass r → answer r i .row ≡ Drawn y → x < columns (M .screen a) →
+          pixelAtEnd r₀ x y ≡ fourBytes (at (M .coloursOf old) (pictureAt r i y .colour x))
+      unchanged i x y h e w =
+          let b = demand3 ok r₀ once .row-bytes i y (in-both i h) (sym (same-row i h) ∙ e) in
+          ap (rowOf 4 x)
+          (b
+          ∙ ap (λ (p : List ℕ). rowBytes (M .coloursOf p) (columns (M .screen a)) (pictureAt r₀ i y)) (kept i h)
+          ∙ ap (rowBytes (M .coloursOf old) (columns (M .screen a))) (sym (same-picture i y h)))
+          ∙ pixel (pictureAt r i y) (M .coloursOf old) (columns (M .screen a)) x w
 
-    pub changed : (c : ℕ) → OnlyColour M c old new → Changed r r₀ L c old new
-    changed c only =
-        let p = which-pixels ok s once c only in
-        record {
-          these = λ i x y h e w l n.
-              (p .these i x y h e w l n, unchanged i x y h e w ∙ ap (λ (k : ℕ). fourBytes (at (M .coloursOf old) k)) n);
-          no-others = λ i x y h e w n.
-              split (ltb y (firstNew (M .screen a) L))
-              (λ b. p .not-above i x y h e w (ltb-true y (firstNew (M .screen a) L) b))
-              (λ b. p .not-others i x y h e w (n (ltb-false y (firstNew (M .screen a) L) b)))
-              ∙ sym (unchanged i x y h e w);
-        }
+      pub changed : (c : ℕ) → OnlyColour M c old new → Changed r r₀ L c old new
+      changed c only =
+          let p = which-pixels ok s once c only in
+          record {
+            these = λ i x y h e w l n.
+                (p .these i x y h e w l n, unchanged i x y h e w ∙ ap (λ (k : ℕ). fourBytes (at (M .coloursOf old) k)) n);
+            no-others = λ i x y h e w n.
+                split (ltb y (firstNew (M .screen a) L))
+                (λ b. p .not-above i x y h e w (ltb-true y (firstNew (M .screen a) L) b))
+                (λ b. p .not-others i x y h e w (n (ltb-false y (firstNew (M .screen a) L) b)))
+                ∙ sym (unchanged i x y h e w);
+          }

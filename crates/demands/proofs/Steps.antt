@@ -16,7 +16,8 @@ use Rattle.vdp.proofs.Tables.{Passed, Refusing, passed}
 use Rattle.step.specs.declared.DrawnRow.{DrawnRow}
 use Rattle.step.specs.declared.DrawnRow.the-variants.{NoRow, Drawn}
 use Rattle.step.specs.Step.{lineOf, counterUp, rowOn, coloursNow, stepped, frameLines, stepWith, frameStep}
-use Rattle.step.proofs.Laws.{stepped-refusal, dirtyAfter, cacheAfter, stepped-dirty, stepped-cache, stepped-cram, step-exact, step-accepted, step-left, frame-refusing}
+use Rattle.step.proofs.Laws.{stepped-refusal, dirtyAfter, cacheAfter, stepped-dirty, stepped-cache, stepped-cram, step-exact, step-accepted}
+use Rattle.step.proofs.Laws.{step-left, frame-refusing}
 use Rattle.step.proofs.Kept.{Clean}
 
 -- ---- colours
@@ -47,5 +48,6 @@ module _ (ls : List Line) (a : RenderArea) (vram : List ℕ) (d : VdpState) wher
   pub accepts : Passed ls → stepWith ls a vram d .refusal ≡ Accepted
   accepts p = rw (step-accepted ls a vram d p) (stepped-refusal a vram d)
 
-pub frame-taken : (a : RenderArea) (vram : List ℕ) (size : ℕ) (d : VdpState) → frameStep a vram size d .refusal ≡ Accepted → Passed (frameLines a vram size)
+pub frame-taken : (a : RenderArea) (vram : List ℕ) (size : ℕ) (d : VdpState) → frameStep a vram size d .refusal ≡ Accepted → Passed
+    (frameLines a vram size)
 frame-taken a vram size d e = taken (frameLines a vram size) a vram d (frame-refusing (screenOf a) vram size) e

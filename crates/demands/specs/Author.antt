@@ -1,4 +1,5 @@
--- R13.7, the author's program itself: from a fresh device of either table, on any frame and with any video memory at each step, it waits until the counter reads 90 and
+-- R13.7, the author's program itself: from a fresh device of either table, on any frame and with any video memory at each step, it waits until the
+-- counter reads 90 and
 -- then gives colour 3 other palette bytes.
 -- Assumes nothing.
 use mathlib.Core.Path.{_≡_}
@@ -28,7 +29,8 @@ abbrev pub recolour : ℕ → ℕ → List ℕ → List (Between handheld)
 recolour low high vram = write 0xBF 0x06 vram ∷ write 0xBF 0xC0 vram ∷ write 0xBE low vram ∷ write 0xBE high vram ∷ []
 
 module _
-    (t : LineTable) (vram : ℕ → List ℕ) (frame : List ℕ) (accepted : (i : ℕ) (d : VdpState) → frameStep VisibleOnly (vram i) (length frame) d .refusal ≡ Accepted) (low high : ℕ)
+    (t : LineTable) (vram : ℕ → List ℕ) (frame : List ℕ)
+    (accepted : (i : ℕ) (d : VdpState) → frameStep VisibleOnly (vram i) (length frame) d .refusal ≡ Accepted) (low high : ℕ)
   where
     -- step 0 sets line 1, so that step 89 sets line 90, and the writes come before step 90
     abbrev pub asked : Run handheld VisibleOnly

@@ -8,13 +8,14 @@ use mathlib.Core.List.{List, [], _∷_}
 use Prim.Native.Nat.{ℕ, zero, suc, _+_, _-_, _*_, _/_, _%_, _<_, _≤_}
 use lib.Dec.{eqb, ltb}
 use lib.ListN.{length, take}
-use Rattle.laws.specs.Bits.{bit, digit, any}
+use Rattle.laws.specs.Bits.{bit, any}
 use Rattle.laws.specs.Lists.{at}
 use Rattle.picture.specs.declared.RenderArea.{RenderArea}
 use Rattle.picture.specs.declared.RenderArea.the-variants.{VisibleOnly, TrueEdges}
 use Rattle.picture.specs.Tile.{codeOf, codeAt, entryAt, tileLine, entryCode, entryColour, entryFront, mapColour, mapFront}
 use Rattle.picture.specs.View.{early, cutMark, visibleEnd, visibleSeen, visibleStand, visible, edgeStand, trueEdges}
-use Rattle.picture.specs.Picture.{Row, back, front, tableAt, topOf, onLine, listed, spriteLine, solid, heldBack, marked, struck, drawn, laid, spriteCode, withSprite, withSprites, bare, picture}
+use Rattle.picture.specs.Picture.{Row, back, front, tableAt, topOf, onLine, listed, spriteLine, solid, heldBack, marked, struck, drawn, laid}
+use Rattle.picture.specs.Picture.{spriteCode, withSprite, withSprites, bare, picture}
 use Rattle.picture.specs.Area.{viewOf, pictureOf, layersOf, rowBytes}
 use Rattle.demands.specs.Layers.{OneOf}
 
@@ -40,10 +41,12 @@ module _ (reg vram : List ℕ) (scroll y : ℕ) where
   -- The rows are the same byte for byte, in any colours, and so are their layers and the ninth sprite. Two sprites that are right of the screen meet in
   -- area 0 alone, so where there are none status bit 5 is the same too.
   pub record SameRow : Type 0 where
-    pub bytes : (colours : List ℕ) → rowBytes colours 160 (pictureOf TrueEdges reg scroll vram y) ≡ rowBytes colours 160 (pictureOf VisibleOnly reg scroll vram y)
+    pub bytes : (colours : List ℕ) → rowBytes colours 160 (pictureOf TrueEdges reg scroll vram y) ≡ rowBytes colours 160
+        (pictureOf VisibleOnly reg scroll vram y)
     pub layer : (x : ℕ) → layersOf TrueEdges reg scroll vram y x ≡ layersOf VisibleOnly reg scroll vram y x
     pub ninth : pictureOf TrueEdges reg scroll vram y .ninth ≡ pictureOf VisibleOnly reg scroll vram y .ninth
-    pub hit : ((n : ℕ) → OneOf onRow n → xByte n ≤ 208 + early (at reg)) → pictureOf TrueEdges reg scroll vram y .hit ≡ pictureOf VisibleOnly reg scroll vram y .hit
+    pub hit : ((n : ℕ) → OneOf onRow n → xByte n ≤ 208 + early (at reg)) → pictureOf TrueEdges reg scroll vram y .hit ≡ pictureOf VisibleOnly reg
+        scroll vram y .hit
 
 -- ---- R18.4
 -- Row 0 of a map whose tile at column 5 is solid and has priority, all others clear, with solid sprites at these X bytes; register 0 and register 8.
@@ -84,7 +87,8 @@ abbrev lastTen : RenderArea → ℕ → ℕ
 lastTen a h = sprites (seen (rowBy a 8 0 (h ∷ [])) 150 10)
 
 pub rightEdge : RenderArea → List ℕ
-rightEdge a = lastTen a 208 ∷ lastTen a 209 ∷ lastTen a 210 ∷ lastTen a 211 ∷ lastTen a 212 ∷ lastTen a 213 ∷ lastTen a 214 ∷ lastTen a 215 ∷ lastTen a 216 ∷ []
+rightEdge a =
+    lastTen a 208 ∷ lastTen a 209 ∷ lastTen a 210 ∷ lastTen a 211 ∷ lastTen a 212 ∷ lastTen a 213 ∷ lastTen a 214 ∷ lastTen a 215 ∷ lastTen a 216 ∷ []
 
 pub edges-computed :
     (scrolledEdge VisibleOnly ≡ 15 ∷ 15 ∷ 31 ∷ 31 ∷ 31 ∷ 31 ∷ 31 ∷ 31 ∷ 0 ∷ 0 ∷ [])
@@ -93,5 +97,7 @@ pub edges-computed :
     × (metAtEdge TrueEdges ≡ true)
     × (rightEdge VisibleOnly ≡ 0 ∷ 0 ∷ 0 ∷ 0 ∷ 0 ∷ 0 ∷ 0 ∷ 0 ∷ 0 ∷ [])
     × (rightEdge TrueEdges ≡ 8 ∷ 7 ∷ 6 ∷ 5 ∷ 4 ∷ 3 ∷ 2 ∷ 1 ∷ 0 ∷ [])
-unfolding scrolledEdge metAtEdge rightEdge picture visible trueEdges visibleStand visibleEnd visibleSeen edgeStand cutMark back front tableAt topOf onLine listed spriteLine solid heldBack marked struck drawn laid spriteCode withSprite withSprites bare codeOf codeAt entryAt tileLine entryCode entryColour entryFront mapColour mapFront bit any
+unfolding scrolledEdge metAtEdge rightEdge picture visible trueEdges visibleStand visibleEnd visibleSeen edgeStand cutMark back front tableAt topOf
+    onLine listed spriteLine solid heldBack marked struck drawn laid spriteCode withSprite withSprites bare codeOf codeAt entryAt tileLine entryCode
+    entryColour entryFront mapColour mapFront bit any
 edges-computed = (refl, refl, refl, refl, refl, refl)

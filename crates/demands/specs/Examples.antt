@@ -123,5 +123,7 @@ pub table :
     ∷ (2 ∷ 6 ∷ 10 ∷ [])
     ∷ (9 ∷ 0 ∷ [])
     ∷ []
-unfolding examples stepsOn interruptLines portWrite portRead frontWrite frontRead after answer answers afterAll start colour coloursOf tableFrom tableOf jumps starts advanced lineInterrupt counted bit rowOn bitsOf endedBy reportBy interruptBy pointsOf stepped stepWith visibleEnd visibleSeen visibleStand solid heldBack marked struck drawn laid bare any
+unfolding examples stepsOn interruptLines portWrite portRead frontWrite frontRead after answer answers afterAll start colour coloursOf tableFrom
+    tableOf jumps starts advanced lineInterrupt counted bit rowOn bitsOf endedBy reportBy interruptBy pointsOf stepped stepWith visibleEnd visibleSeen
+    visibleStand solid heldBack marked struck drawn laid bare any
 table = refl

@@ -111,5 +111,6 @@ found steps up =
     ∷ []
 
 pub computed : (further Steps261 ≡ found 261 217) × (further Steps262 ≡ found 262 218)
-unfolding further stepsOn interruptLines rowsBy portWrite frontWrite after afterAll start colour coloursOf tableFrom table jumps starts advanced lineInterrupt counted bit rowOn bitsOf endedBy interruptBy pointsOf stepped
+unfolding further stepsOn interruptLines rowsBy portWrite frontWrite after afterAll start colour coloursOf tableFrom table jumps starts advanced
+    lineInterrupt counted bit rowOn bitsOf endedBy interruptBy pointsOf stepped
 computed = (refl, refl)

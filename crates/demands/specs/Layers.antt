@@ -11,7 +11,7 @@ use lib.ListN.{length, take, drop}
 use Rattle.picture.specs.declared.Stand.{Stand}
 use Rattle.picture.specs.declared.RenderArea.{RenderArea}
 use Rattle.picture.specs.View.{View}
-use Rattle.picture.specs.Picture.{Canvas, back, front, bare, tableAt, listed, solid, spriteCode, picture}
+use Rattle.picture.specs.Picture.{back, front, bare, tableAt, listed, solid, spriteCode, picture}
 use Rattle.picture.specs.Area.{screenOf, columns}
 use Rattle.picture.specs.Layers.{stopped, layers}
 use Rattle.vdp.specs.declared.VdpState.{VdpState}
@@ -70,12 +70,14 @@ pub record Aside (a : RenderArea) (vram : List ℕ) (d : VdpState) (pixels layer
   pub row-answer : columns a ≤ length layers
       → stepWith (alsoLayers (columns a) (length layers) (rowLines a vram (length pixels))) a vram d ≡ rowStep a vram (length pixels) d
   pub row-pixels : columns a ≤ length layers
-      → under (alsoLayers (columns a) (length layers) (rowLines a vram (length pixels))) (λ r. pixels) (rowFilled (screenOf a) vram (readingOf d) pixels)
+      → under (alsoLayers (columns a) (length layers) (rowLines a vram (length pixels))) (λ r. pixels)
+      (rowFilled (screenOf a) vram (readingOf d) pixels)
       ≡ rowAfter a vram d pixels
   pub frame-answer : columns a ≤ length layers
       → stepWith (alsoLayers (columns a) (length layers) (frameLines a vram (length pixels))) a vram d ≡ frameStep a vram (length pixels) d
   pub frame-pixels : columns a ≤ length layers
-      → under (alsoLayers (columns a) (length layers) (frameLines a vram (length pixels))) (λ r. pixels) (frameFilled (screenOf a) vram (readingOf d) pixels)
+      → under (alsoLayers (columns a) (length layers) (frameLines a vram (length pixels))) (λ r. pixels)
+      (frameFilled (screenOf a) vram (readingOf d) pixels)
       ≡ frameAfter a vram d pixels
   -- without room it is refused: by 16 exactly where the step without layers is accepted, else as that one is
   pub row-short : length layers < columns a → first (rowLines a vram (length pixels)) ≡ Accepted

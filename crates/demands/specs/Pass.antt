@@ -134,7 +134,8 @@ pub record Demand3 {M : Machine} {a : M .Area} (r : Run M a) : Type 0 where
   pub row-once : (y : ℕ) → y < rows (M .screen a) → ExactlyOnce (pass r) (λ i. answer r i .row ≡ Drawn y)
   pub no-other : (i y : ℕ) → answer r i .row ≡ Drawn y → y < rows (M .screen a)
   -- a step that does not draw row y leaves row y as it is (the rows are all of the frame)
-  pub row-kept : (i y : ℕ) → answer r i .row ≢ Drawn y → rowOf (rowSize (M .screen a)) y (frameAt r (suc i)) ≡ rowOf (rowSize (M .screen a)) y (frameAt r i)
+  pub row-kept : (i y : ℕ) → answer r i .row ≢ Drawn y → rowOf (rowSize (M .screen a)) y (frameAt r (suc i)) ≡ rowOf (rowSize (M .screen a)) y
+      (frameAt r i)
   -- R13.4: one end of the screen
   pub end-once : ExactlyOnce (pass r) (λ i. answer r i .report ≢ NoDisplay)
   -- R13.5: at the end row y is as its own step i drew it

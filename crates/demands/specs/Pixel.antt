@@ -27,11 +27,13 @@ pub record PixelIsRow (a : RenderArea) (vram : List ℕ) (d : VdpState) (y x : �
   -- its byte b is byte 4x + b of the row that the row's engine draws, into whatever buffer
   pub bytes :
       length vram ≡ vramSize → y < rows a → x < columns a → (row₀ row : List ℕ) (bits b : ℕ) → b < 4 →
-      row-engine.Drawn (screenOf a) (coloursNow d) (rowPicture a vram d y) row₀ row bits → byteOfColour (pixelOf a vram d y x .colour) b ≡ at row (4 * x + b)
+      row-engine.Drawn (screenOf a) (coloursNow d) (rowPicture a vram d y) row₀ row bits → byteOfColour (pixelOf a vram d y x .colour) b ≡ at row
+      (4 * x + b)
   -- and of the row that a step has drawn, asked of the device that the step left
   pub after-step :
       x < columns a → (buffer buffer′ : List ℕ) (r : Stepped) (b : ℕ) → b < 4 → RowStepLeaves a vram d buffer r buffer′ → r .row ≡ Drawn y →
       byteOfColour (pixelOf a vram (r .vdp) y x .colour) b ≡ at buffer′ (4 * x + b)
   -- outside the area there is none, and four zero bytes; so it is, with refusal 8, of a memory of another size
-  pub outside : length vram ≡ vramSize → (rows a ≤ y) ⊎ (columns a ≤ x) → pixelOf a vram d y x ≡ record { refusal = Accepted; there = false; colour = 0 }
+  pub outside : length vram ≡ vramSize → (rows a ≤ y) ⊎ (columns a ≤ x) → pixelOf a vram d y x ≡ record
+      { refusal = Accepted; there = false; colour = 0 }
   pub refused : length vram ≢ vramSize → pixelOf a vram d y x ≡ record { refusal = VramLength; there = false; colour = 0 }

@@ -19,10 +19,12 @@ use Rattle.demands.specs.Pass.{Run, pass, coloursAt, answer, lineSet, ro
 pub record RowsDrawn {M : Machine} {a : M .Area} (r : Run M a) : Type 0 where
   -- a row whose line the jump goes back over, D5 to D9 or to DA, is drawn exactly twice
   pub twice :
-      (y : ℕ) → y < rows (M .screen a) → jumpTo ≤ y + firstLine (M .screen a) → y + firstLine (M .screen a) < jumpLine (r .table) → ExactlyTwice (pass r) (λ i. answer r i .row ≡ Drawn y)
+      (y : ℕ) → y < rows (M .screen a) → jumpTo ≤ y + firstLine (M .screen a) → y + firstLine (M .screen a) < jumpLine (r .table) → ExactlyTwice
+      (pass r) (λ i. answer r i .row ≡ Drawn y)
   -- every other exactly once
   pub once :
-      (y : ℕ) → y < rows (M .screen a) → (y + firstLine (M .screen a) < jumpTo) ⊎ (jumpLine (r .table) ≤ y + firstLine (M .screen a)) → ExactlyOnce (pass r) (λ i. answer r i .row ≡ Drawn y)
+      (y : ℕ) → y < rows (M .screen a) → (y + firstLine (M .screen a) < jumpTo) ⊎ (jumpLine (r .table) ≤ y + firstLine (M .screen a)) → ExactlyOnce
+      (pass r) (λ i. answer r i .row ≡ Drawn y)
   pub no-other : (i y : ℕ) → answer r i .row ≡ Drawn y → y < rows (M .screen a)
   -- each ends as the picture rule gives it at the last step that draws it, step i
   pub last-bytes :

@@ -84,7 +84,8 @@ OnlyColour M c old new = (n : ℕ) → n ≢ c → at (M .coloursOf new) n ≡ a
 pub record WhichPixels {M : Machine} {a : M .Area} {r : Run M a} {L : ℕ} {old new : List ℕ} (s : Split r L old new) (c : ℕ) : Type 0 where
   -- those of number c in rows from the first new one on show the new colour
   pub these :
-      (i x y : ℕ) → i < pass r → answer r i .row ≡ Drawn y → x < columns (M .screen a) → firstNew (M .screen a) L ≤ y → pictureAt r i y .colour x ≡ c →
+      (i x y : ℕ) → i < pass r → answer r i .row ≡ Drawn y → x < columns (M .screen a) → firstNew (M .screen a) L ≤ y → pictureAt r i y .colour x ≡
+      c →
       pixelAtEnd r x y ≡ fourBytes (at (M .coloursOf new) c)
   -- those in rows before it, and those of any other number, show what they show with the old palette
   pub not-above :
@@ -104,7 +105,8 @@ pub record Twins {M : Machine} {a : M .Area} (r r₀ : Run M a) : Type 0 where
 -- The pixels that change: those of number c in rows from the first new one on, and no others.
 pub record Changed {M : Machine} {a : M .Area} (r r₀ : Run M a) (L c : ℕ) (old new : List ℕ) : Type 0 where
   pub these :
-      (i x y : ℕ) → i < pass r → answer r i .row ≡ Drawn y → x < columns (M .screen a) → firstNew (M .screen a) L ≤ y → pictureAt r i y .colour x ≡ c →
+      (i x y : ℕ) → i < pass r → answer r i .row ≡ Drawn y → x < columns (M .screen a) → firstNew (M .screen a) L ≤ y → pictureAt r i y .colour x ≡
+      c →
       (pixelAtEnd r x y ≡ fourBytes (at (M .coloursOf new) c)) × (pixelAtEnd r₀ x y ≡ fourBytes (at (M .coloursOf old) c))
   pub no-others :
       (i x y : ℕ) → i < pass r → answer r i .row ≡ Drawn y → x < columns (M .screen a) →

@@ -34,7 +34,8 @@ cond-not false a b = refl
 module _ (pixels vram colours : List ℕ) (addr x : ℕ) where
   -- what the line makes of byte k
   abbrev pub lineByte : Bool → ℕ → ℕ
-  lineByte sprite k = cond (leb x (k / 4) && ltb (k / 4 - x) 8) (pixelByte colours sprite (codeAt (at vram) addr (k / 4 - x)) (k % 4) (at pixels k)) (at pixels k)
+  lineByte sprite k = cond (leb x (k / 4) && ltb (k / 4 - x) 8) (pixelByte colours sprite (codeAt (at vram) addr (k / 4 - x)) (k % 4) (at pixels k))
+      (at pixels k)
 
   pub background-byte : (k : ℕ) → (x + 8) * 4 ≤ length pixels → at (painted pixels x 8 (lineColour colours 0 vram addr false 0)) k ≡ lineByte false k
   unfolding pixelByte
@@ -59,7 +60,8 @@ module _ (pixels vram colours : List ℕ) (addr x : ℕ) where
                   let g : x ≤ k / 4 = omega arith in
                   let b : x + (k / 4 - x) < 32768 = omega arith in
                   rw (le-leb x (k / 4) g, lt-ltb (k / 4 - x) 8 l, shown (k / 4 - x) l b, zero-add)
-                  (cond-not (eqb (codeAt (at vram) addr (k / 4 - x)) 0) (byteOfColour (at colours (16 + codeAt (at vram) addr (k / 4 - x))) (k % 4)) (at pixels k))
+                  (cond-not (eqb (codeAt (at vram) addr (k / 4 - x)) 0) (byteOfColour (at colours (16 + codeAt (at vram) addr (k / 4 - x))) (k % 4))
+                  (at pixels k))
               | no l ↦ let g : 8 ≤ k / 4 - x = omega arith in rw (le-ltb (k / 4 - x) 8 g, and-false (leb x (k / 4)))
             ]
       ]
@@ -152,12 +154,14 @@ module _ (vram : List ℕ) (tall high : Bool) (colours pixels₀ : List ℕ) (c 
       ]
 
   pub line-step : {now now′ : List ℕ} → Dumping vram tall high colours pixels₀ (8 * c + l) now
-      → ((k : ℕ) → at now′ k ≡ lineByte now vram colours (lineAt high c l) place (isSprite c) k) → Dumping vram tall high colours pixels₀ (8 * c + (l + 1)) now′
+      → ((k : ℕ) → at now′ k ≡ lineByte now vram colours (lineAt high c l) place (isSprite c) k) → Dumping vram tall high colours pixels₀
+      (8 * c + (l + 1)) now′
   line-step {now} {now′} d e = record { byte = λ k h. e k ∙ each k h }
     where
       each : (k : ℕ) → k < 131072
           → lineByte now vram colours (lineAt high c l) place (isSprite c) k
-          ≡ cond (ltb (lineNumber tall k) (8 * c + (l + 1))) (dumpByte (at vram) tall high colours (k / 4 % 128) (k / 4 / 128) (k % 4) (at pixels₀ k)) (at pixels₀ k)
+          ≡ cond (ltb (lineNumber tall k) (8 * c + (l + 1))) (dumpByte (at vram) tall high colours (k / 4 % 128) (k / 4 / 128) (k % 4)
+          (at pixels₀ k)) (at pixels₀ k)
       each k h =
           elim (decLt (k / 4) place) [
             | yes before ↦ rw (lt-leb place (k / 4) before, ← other k (λ q. let w = number-within k h q in omega arith)) (d .byte k h)
@@ -179,13 +183,15 @@ module _ (vram : List ℕ) (tall high : Bool) (colours pixels₀ : List ℕ) (c 
                       )
                   | no outside ↦
                       let g : 8 ≤ k / 4 - place = omega arith in
-                      rw (le-leb place (k / 4) a, le-ltb (k / 4 - place) 8 g, ← other k (λ q. let w = number-within k h q in omega arith)) (d .byte k h)
+                      rw (le-leb place (k / 4) a, le-ltb (k / 4 - place) 8 g, ← other k (λ q. let w = number-within k h q in omega arith))
+                      (d .byte k h)
                 ]
           ]
 
 -- ---- none drawn, and all drawn
 pub dumping-starts : (vram : List ℕ) (tall high : Bool) (colours pixels : List ℕ) → Dumping vram tall high colours pixels (8 * 0) pixels
-dumping-starts vram tall high colours pixels = record { byte = λ k h. let z : 8 * 0 ≤ lineNumber tall k = omega arith in rw (le-ltb (lineNumber tall k) (8 * 0) z) }
+dumping-starts vram tall high colours pixels =
+    record { byte = λ k h. let z : 8 * 0 ≤ lineNumber tall k = omega arith in rw (le-ltb (lineNumber tall k) (8 * 0) z) }
 
 tile-lt : (tall : Bool) (i j : ℕ) → i < 16 → j < 32 → tileAt tall i j < 512
 unfolding tileAt
@@ -199,7 +205,8 @@ number-lt : (tall : Bool) (k : ℕ) → k < 131072 → lineNumber tall k < 8 * 5
 unfolding lineNumber
 number-lt tall k h = omega (arith, tile-lt tall (k / 4 % 128 / 8) (k / 4 / 128 / 8) (omega arith) (omega arith))
 
-pub dumping-ends : (vram reg colours pixels : List ℕ) {now : List ℕ} {tall high : Bool} {c : ℕ} → length now ≡ 131072 → c ≡ 512 → tall ≡ bit (at reg 1) 1 → high ≡ bit (at reg 6) 2
+pub dumping-ends : (vram reg colours pixels : List ℕ) {now : List ℕ} {tall high : Bool} {c : ℕ} → length now ≡ 131072 → c ≡ 512 → tall ≡ bit
+    (at reg 1) 1 → high ≡ bit (at reg 6) 2
     → Dumping vram tall high colours pixels (8 * c) now → now ≡ dumped vram reg colours pixels
 unfolding dumped
 dumping-ends vram reg colours pixels {now} {tall} {high} {c} len e et eh d =

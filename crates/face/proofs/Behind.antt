@@ -2,9 +2,9 @@
 -- Assumes nothing.
 use mathlib.Core.Path.{_≡_, refl, sym, ap, _∙_}
 use mathlib.Core.Logic.{_≢_}
-use mathlib.Core.Bool.{true, cond, _&&_}
+use mathlib.Core.Bool.{true, _&&_}
 use mathlib.Core.List.{List, [], _∷_, _++_}
-use Prim.Native.Nat.{ℕ, suc, _+_, _<_}
+use Prim.Native.Nat.{ℕ, suc, _<_}
 use native.Mathlib.Omega.{arith}
 use lib.Dec.{eqb, leb}
 use lib.ListN.{length, set, drop, length-drop}
@@ -16,7 +16,9 @@ use Rattle.picture.specs.declared.RenderArea.{RenderArea}
 use Rattle.raster.specs.Raster.{lineTableFrom}
 use Rattle.vdp.specs.declared.VdpState.{VdpState}
 use Rattle.vdp.specs.declared.Refusal.{Refusal}
-use Rattle.vdp.specs.declared.Refusal.the-variants.{Accepted, UnknownPort, HorizontalCounter, HighRegister, NothingChosen, PaletteRead, NoPaletteByte, OutsideMemory, VramLength, PixelLength, BlockMalformed, UnknownArea, FrameTooLong, UnknownTile, CodesLength, HighCode, LayerLength, ListLength, RecordRoom}
+use Rattle.vdp.specs.declared.Refusal.the-variants.{Accepted, UnknownPort, HorizontalCounter, HighRegister, NothingChosen, PaletteRead, NoPaletteByte}
+use Rattle.vdp.specs.declared.Refusal.the-variants.{OutsideMemory, VramLength, PixelLength, BlockMalformed, UnknownArea, FrameTooLong, UnknownTile}
+use Rattle.vdp.specs.declared.Refusal.the-variants.{CodesLength, HighCode, LayerLength, ListLength, RecordRoom}
 use Rattle.vdp.specs.Device.{unlatched}
 use Rattle.vdp.specs.Refusals.{refusalNumber, deviceLeft, Line, under, whole}
 use Rattle.vdp.specs.Ports.{portWrite, portRead}
@@ -32,7 +34,8 @@ use Rattle.vdp.proofs.Tables.{under-refused}
 use Rattle.step.specs.Layers.{layersAfter}
 use Rattle.step.proofs.Laws as Steps
 use Rattle.face.specs.Layers.{layerLines, layerCall, layersLeft}
-use Rattle.face.specs.Face.{stepWord, refused, newTableCall, outCall, inputCall, steppedTo, stepCall, rowStepCall, dumpCall}
+use Rattle.word.specs.Word.{stepWord}
+use Rattle.face.specs.Face.{refused, newTableCall, outCall, inputCall, steppedTo, stepCall, rowStepCall, dumpCall}
 use Rattle.face.specs.Refused.{refusalIn, blockLeft, LeftBehind}
 use Rattle.face.proofs.Exact.{number-low, alone, low-byte, step-byte}
 
@@ -103,7 +106,8 @@ module _ (b : List ℕ) (bytes : (i : ℕ) → at b i < 256) where
       }
 
   -- the same of a step that the device refuses
-  unstepped : wellFormed b ≡ true → (r : Refusal) (x : List ℕ) → b ≡ blockLeft (refusalNumber r) b → LeftBehind b x (steppedTo (length b) (refusedStep r (stateOf b)) x)
+  unstepped : wellFormed b ≡ true → (r : Refusal) (x : List ℕ) → b ≡ blockLeft (refusalNumber r) b → LeftBehind b x
+      (steppedTo (length b) (refusedStep r (stateOf b)) x)
   unfolding stepWord
   unstepped w r x e =
       record {
@@ -185,7 +189,8 @@ module _ (b : List ℕ) (bytes : (i : ℕ) → at b i < 256) where
 
   -- a step with layers: block and pixels, and the layer buffer too
   layer-behind :
-      (lines : RenderArea → List Line) (filled : VdpState → RenderArea → List ℕ) (m x layers : List ℕ) (n : ℕ) → Keeping (layerLines lines layers (areaFrom n))
+      (lines : RenderArea → List Line) (filled : VdpState → RenderArea → List ℕ) (m x layers : List ℕ) (n : ℕ) → Keeping
+      (layerLines lines layers (areaFrom n))
       → LeftBehind b x (layerCall lines filled b m x layers n)
   unfolding layerCall
   layer-behind lines filled m x layers n k =
@@ -195,11 +200,14 @@ module _ (b : List ℕ) (bytes : (i : ℕ) → at b i < 256) where
       (λ _. whole-refused UnknownArea x refl))
       (λ _. whole-refused BlockMalformed x refl)
 
-  pub layer-row-behind : (filled : VdpState → RenderArea → List ℕ) (m row layers : List ℕ) (n : ℕ) → LeftBehind b row (layerCall (λ a. rowLines a m (length row)) filled b m row layers n)
+  pub layer-row-behind : (filled : VdpState → RenderArea → List ℕ) (m row layers : List ℕ) (n : ℕ) → LeftBehind b row
+      (layerCall (λ a. rowLines a m (length row)) filled b m row layers n)
   layer-row-behind filled m row layers n = layer-behind (λ a. rowLines a m (length row)) filled m row layers n (refl, (refl, (refl, tt)))
 
-  pub layer-frame-behind : (filled : VdpState → RenderArea → List ℕ) (m frame layers : List ℕ) (n : ℕ) → LeftBehind b frame (layerCall (λ a. frameLines a m (length frame)) filled b m frame layers n)
-  layer-frame-behind filled m frame layers n = layer-behind (λ a. frameLines a m (length frame)) filled m frame layers n (refl, (refl, (refl, (refl, tt))))
+  pub layer-frame-behind : (filled : VdpState → RenderArea → List ℕ) (m frame layers : List ℕ) (n : ℕ) → LeftBehind b frame
+      (layerCall (λ a. frameLines a m (length frame)) filled b m frame layers n)
+  layer-frame-behind filled m frame layers n = layer-behind (λ a. frameLines a m (length frame)) filled m frame layers n
+      (refl, (refl, (refl, (refl, tt))))
 
   pub layers-behind :
       (lines : RenderArea → List Line) (filled : VdpState → RenderArea → List ℕ) (m x layers : List ℕ) (n : ℕ)

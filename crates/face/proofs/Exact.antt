@@ -13,7 +13,9 @@ use lib.ListN.{length}
 use Rattle.laws.proofs.Tests.{split, both, clash}
 use Rattle.raster.specs.Raster.{lineTableFrom}
 use Rattle.vdp.specs.declared.Refusal.{Refusal}
-use Rattle.vdp.specs.declared.Refusal.the-variants.{Accepted, UnknownPort, HorizontalCounter, HighRegister, NothingChosen, PaletteRead, NoPaletteByte, OutsideMemory, VramLength, PixelLength, BlockMalformed, UnknownArea, FrameTooLong, UnknownTile, CodesLength, HighCode, LayerLength, ListLength, RecordRoom}
+use Rattle.vdp.specs.declared.Refusal.the-variants.{Accepted, UnknownPort, HorizontalCounter, HighRegister, NothingChosen, PaletteRead, NoPaletteByte}
+use Rattle.vdp.specs.declared.Refusal.the-variants.{OutsideMemory, VramLength, PixelLength, BlockMalformed, UnknownArea, FrameTooLong, UnknownTile}
+use Rattle.vdp.specs.declared.Refusal.the-variants.{CodesLength, HighCode, LayerLength, ListLength, RecordRoom}
 use Rattle.picture.specs.declared.RenderArea.{RenderArea}
 use Rattle.vdp.specs.declared.VdpState.{VdpState}
 use Rattle.vdp.specs.Refusals.{refusalNumber, Line, first, line, writeLines, readLines}
@@ -28,7 +30,8 @@ use Rattle.step.specs.Step.{rowLines, frameLines, stepWith, rowStep, frameStep}
 use Rattle.step.proofs.Laws as Steps
 use Rattle.picture.specs.Area.{areaFrom}
 use Rattle.face.specs.Layers.{layerLines, layerCall}
-use Rattle.face.specs.Face.{rowBits, stepWord, newTableCall, outCall, inputCall, stepCall, rowStepCall, dumpCall}
+use Rattle.word.specs.Word.{rowBits, stepWord}
+use Rattle.face.specs.Face.{newTableCall, outCall, inputCall, stepCall, rowStepCall, dumpCall}
 use Rattle.face.specs.Refused.{refusalIn, malformed, newLines, outLines, inputLines, stepCallLines, dumpCallLines}
 
 pub number-low : (r : Refusal) → refusalNumber r < 256
@@ -100,7 +103,8 @@ step-exact b m frame n =
     (λ e. simp e)
 
 pub row-exact :
-    (b m row : List ℕ) (n : ℕ) → refusalIn (rowStepCall b m row n .word) ≡ refusalNumber (first (stepCallLines b n (rowLines (areaFrom n) m (length row))))
+    (b m row : List ℕ) (n : ℕ) → refusalIn (rowStepCall b m row n .word) ≡ refusalNumber
+    (first (stepCallLines b n (rowLines (areaFrom n) m (length row))))
 unfolding rowStepCall
 row-exact b m row n =
     split (wellFormed b)
@@ -149,7 +153,8 @@ never n (l ∷ ls) z h =
     by-test (l .holds) (l .refusal) (first ls) n (t .0) (never n ls z (t .1))
 
 ten-exactly :
-    (b : List ℕ) (ls : List Line) (w : ℕ) → none 10 ls ≡ true → refusalIn w ≡ refusalNumber (first (malformed b ∷ ls)) → (refusalIn w ≡ 10) ↔ (wellFormed b ≡ false)
+    (b : List ℕ) (ls : List Line) (w : ℕ) → none 10 ls ≡ true → refusalIn w ≡ refusalNumber (first (malformed b ∷ ls)) → (refusalIn w ≡ 10) ↔
+    (wellFormed b ≡ false)
 ten-exactly b ls w h e =
     split (wellFormed b)
     (λ t. (λ q. absurd (never 10 ls (λ z. omega arith) h (sym (simp t at e) ∙ q)), λ f. clash (sym t ∙ f)))
@@ -176,10 +181,13 @@ eleven-exactly b ls n w h e =
     (λ f. (λ q. absurd (let k = simp f at e in omega (arith, k, q)), λ k. clash (sym (k .0) ∙ f)))
 
 pub step-ten : (b m frame : List ℕ) (n : ℕ) → (refusalIn (stepCall b m frame n .word) ≡ 10) ↔ (wellFormed b ≡ false)
-step-ten b m frame n = ten-exactly b (line (not (leb n 2)) UnknownArea ∷ frameLines (areaFrom n) m (length frame)) (stepCall b m frame n .word) refl (step-exact b m frame n)
+step-ten b m frame n =
+    ten-exactly b (line (not (leb n 2)) UnknownArea ∷ frameLines (areaFrom n) m (length frame)) (stepCall b m frame n .word) refl
+    (step-exact b m frame n)
 
 pub row-ten : (b m row : List ℕ) (n : ℕ) → (refusalIn (rowStepCall b m row n .word) ≡ 10) ↔ (wellFormed b ≡ false)
-row-ten b m row n = ten-exactly b (line (not (leb n 2)) UnknownArea ∷ rowLines (areaFrom n) m (length row)) (rowStepCall b m row n .word) refl (row-exact b m row n)
+row-ten b m row n =
+    ten-exactly b (line (not (leb n 2)) UnknownArea ∷ rowLines (areaFrom n) m (length row)) (rowStepCall b m row n .word) refl (row-exact b m row n)
 
 pub step-eleven : (b m frame : List ℕ) (n : ℕ) → (refusalIn (stepCall b m frame n .word) ≡ 11) ↔ ((wellFormed b ≡ true) × (2 < n))
 step-eleven b m frame n = eleven-exactly b (frameLines (areaFrom n) m (length frame)) n (stepCall b m frame n .word) refl (step-exact b m frame n)

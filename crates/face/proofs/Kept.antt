@@ -1,8 +1,8 @@
 -- No call of the C face changes a block's version or its device's table.
 -- Assumes nothing.
-use mathlib.Core.Path.{_≡_, refl, sym, ap, _∙_}
+use mathlib.Core.Path.{_≡_, refl, ap, _∙_}
 use mathlib.Core.Bool.{true}
-use mathlib.Core.List.{List, []}
+use mathlib.Core.List.{List}
 use Prim.Native.Nat.{ℕ, _<_}
 use lib.Dec.{leb}
 use lib.ListN.{length}
@@ -31,7 +31,8 @@ module _ (b : List ℕ) where
   same e = record { version = ap length e; table = ap (λ (x : List ℕ). stateOf x .raster .table) e }
 
   -- a device with the block's own table, stored in the block
-  kept : (s : VdpState) {c : Called} → wellFormed b ≡ true → Shape s → s .raster .table ≡ stateOf b .raster .table → c .block ≡ blockOf (length b) s → SameTable b c
+  kept : (s : VdpState) {c : Called} → wellFormed b ≡ true → Shape s → s .raster .table ≡ stateOf b .raster .table → c .block ≡ blockOf (length b)
+      s → SameTable b c
   kept s w g t e =
       let room : fits (s .raster .table) (length b) ≡ true = rw t (fits-own b (length-of b w)) in
       record {
@@ -59,7 +60,8 @@ module _ (b : List ℕ) where
         kept (portRead s m p .vdp) w (read-shape s m p (state-shape b w bytes)) (ap (λ (x : Raster). x .table) (read-keeps s m p .raster)) refl)
         (λ _. same refl)
 
-    stepped : (ls : List Line) (a : RenderArea) (m : List ℕ) {c : Called} → wellFormed b ≡ true → c .block ≡ blockOf (length b) (stepWith ls a m (stateOf b) .vdp) → SameTable b c
+    stepped : (ls : List Line) (a : RenderArea) (m : List ℕ) {c : Called} → wellFormed b ≡ true → c .block ≡ blockOf (length b)
+        (stepWith ls a m (stateOf b) .vdp) → SameTable b c
     stepped ls a m w e =
         let s = stateOf b in
         kept (stepWith ls a m s .vdp) w (with-shape ls a m s (state-shape b w bytes)) (step-table ls a m s) e
@@ -79,7 +81,8 @@ module _ (b : List ℕ) where
         (λ _. same refl)
 
     pub layer-table-kept :
-        (lines : RenderArea → List Line) (filled : VdpState → RenderArea → List ℕ) (m x layers : List ℕ) (n : ℕ) → SameTable b (layerCall lines filled b m x layers n)
+        (lines : RenderArea → List Line) (filled : VdpState → RenderArea → List ℕ) (m x layers : List ℕ) (n : ℕ) → SameTable b
+        (layerCall lines filled b m x layers n)
     unfolding layerCall
     layer-table-kept lines filled m x layers n =
         either (SameTable b) (wellFormed b)

@@ -39,7 +39,9 @@ use Rattle.step.specs.declared.DrawnRow.the-variants.{NoRow, Drawn}
 use Rattle.step.specs.Dump.{DumpLeaves}
 use Rattle.picture.specs.Area.{areaFrom, screenOf, columns}
 use Rattle.face.specs.Layers.{layerLines, layerOn, layerCall, layersLeft, LayerLeaves, LayerRowLeaves, LayerFrameLeaves}
-use Rattle.face.specs.Face.{Called, Leaves, stepWord, onBlock, onArea, newTableCall, outOn, outCall, inputOn, inputCall, steppedTo, stepOn, stepCall, rowStepOn, rowStepCall, dumpOn, dumpCall}
+use Rattle.word.specs.Word.{stepWord}
+use Rattle.face.specs.Face.{Called, Leaves, onBlock, onArea, newTableCall, outOn, outCall, inputOn, inputCall, steppedTo, stepOn}
+use Rattle.face.specs.Face.{stepCall, rowStepOn, rowStepCall, dumpOn, dumpCall}
 
 -- what is left, by a path from it to what the definition says
 leaves : {c k : Called} → c ≡ k → Leaves k (c .word) (c .block) (c .lent)
@@ -99,7 +101,8 @@ module _ (b : List ℕ) {d : Decoded} (e : d ≡ decoded b) where
       along (on g m (outOn m p v (length b)))
       (record {
         word = en ∙ ap (λ (x : Written). refusalNumber (x .refusal)) (l .answer);
-        block = kept g (a .vdp) (ap (λ (x : Written). x .vdp .raster) (l .answer) ∙ write-keeps (d .vdp) m p v .raster) eb ∙ ap (λ (x : Written). blockOf (length b) (x .vdp)) (l .answer);
+        block = kept g (a .vdp) (ap (λ (x : Written). x .vdp .raster) (l .answer) ∙ write-keeps (d .vdp) m p v .raster) eb ∙ ap
+            (λ (x : Written). blockOf (length b) (x .vdp)) (l .answer);
         lent = l .memory;
       })
 
@@ -115,7 +118,8 @@ module _ (b : List ℕ) {d : Decoded} (e : d ≡ decoded b) where
       along (on g [] (inputOn m p (length b)))
       (record {
         word = ap (λ (x : ℕ). x + 256 * a .byte) en ∙ ap (λ (x : ReadBack). refusalNumber (x .refusal) + 256 * x .byte) ea;
-        block = kept g (a .vdp) (ap (λ (x : ReadBack). x .vdp .raster) ea ∙ read-keeps (d .vdp) m p .raster) eb ∙ ap (λ (x : ReadBack). blockOf (length b) (x .vdp)) ea;
+        block = kept g (a .vdp) (ap (λ (x : ReadBack). x .vdp .raster) ea ∙ read-keeps (d .vdp) m p .raster) eb ∙ ap
+            (λ (x : ReadBack). blockOf (length b) (x .vdp)) ea;
         lent = refl;
       })
 
@@ -160,43 +164,55 @@ module _ (b m x : List ℕ) (n : ℕ) where
   row-unknown = unknown (rowStepOn m x (length b))
 
   -- the same of a step with layers
-  pub layer-bad : (lines : RenderArea → List Line) (filled : VdpState → RenderArea → List ℕ) (layers : List ℕ) {r : ℕ} → wellFormed b ≡ false → r ≡ refusalNumber BlockMalformed
+  pub layer-bad : (lines : RenderArea → List Line) (filled : VdpState → RenderArea → List ℕ) (layers : List ℕ) {r : ℕ} → wellFormed b ≡ false → r ≡
+      refusalNumber BlockMalformed
       → LayerLeaves lines filled b m x layers n r b x layers
   unfolding layerCall layersLeft
   layer-bad lines filled layers w er = record { call = bad (layerOn lines filled m x layers (length b)) w er; owners = rw w }
 
-  pub layer-unknown : (lines : RenderArea → List Line) (filled : VdpState → RenderArea → List ℕ) (layers : List ℕ) {r : ℕ} → wellFormed b ≡ true → 2 < n → r ≡ refusalNumber UnknownArea
+  pub layer-unknown : (lines : RenderArea → List Line) (filled : VdpState → RenderArea → List ℕ) (layers : List ℕ) {r : ℕ} → wellFormed b ≡ true → 2
+      < n → r ≡ refusalNumber UnknownArea
       → LayerLeaves lines filled b m x layers n r b x layers
   unfolding layerCall layersLeft
-  layer-unknown lines filled layers w h er = record { call = unknown (layerOn lines filled m x layers (length b)) w h er; owners = rw (w, lt-leb n 2 h) }
+  layer-unknown lines filled layers w h er = record {
+    call = unknown (layerOn lines filled m x layers (length b)) w h er;
+    owners = rw
+        (w, lt-leb n 2 h);
+  }
 
   -- a step, by what its points answer and leave, the block that they are stored in, and their word
   module _
       {a : RenderArea} {screen : Screen} {points : Points} {k : Reading} {b′ x′ : List ℕ} {r : ℕ}
-      (bytes : (i : ℕ) → at b i < 256) (w : wellFormed b ≡ true) (h : n ≤ 2) (ea : a ≡ areaFrom n) (ez : screen ≡ screenOf a) (g : k ≡ readingOf (stateOf b))
-      (es : (j : ℕ) (s : VdpState) → Sized s → points .raster .table ≡ s .raster .table → k .colours ≡ coloursNow s → b ≡ blockOf j s → b′ ≡ blockOf j (joined s points .vdp))
+      (bytes : (i : ℕ) → at b i < 256) (w : wellFormed b ≡ true) (h : n ≤ 2) (ea : a ≡ areaFrom n) (ez : screen ≡ screenOf a)
+      (g : k ≡ readingOf (stateOf b))
+      (es : (j : ℕ) (s : VdpState) → Sized s → points .raster .table ≡ s .raster .table → k .colours ≡ coloursNow s → b ≡ blockOf j s → b′ ≡ blockOf
+      j (joined s points .vdp))
       (er : (d : VdpState) → r ≡ stepWord (joined d points))
     where
       stored :
-          (call : VdpState → RenderArea → Called) (ls : List Line) {y : List ℕ} → call (stateOf b) a ≡ steppedTo (length b) (stepWith ls a m (stateOf b)) y
+          (call : VdpState → RenderArea → Called) (ls : List Line) {y : List ℕ} → call (stateOf b) a ≡ steppedTo (length b)
+          (stepWith ls a m (stateOf b)) y
           → joined (stateOf b) points ≡ stepWith ls a m (stateOf b) → x′ ≡ y → Leaves (asked call) r b′ x′
       stored call ls ec e ey =
           along (sym ec ∙ ap (call (stateOf b)) ea ∙ sym (rw (w, le-leb n 2 h)))
           (record {
             word = er (stateOf b) ∙ ap stepWord e;
             block =
-                es (length b) (stateOf b) (sized-state b (long b w)) (ap (λ (s : Stepped). s .vdp .raster .table) e ∙ step-table ls a m (stateOf b)) (ap (λ (q : Reading). q .colours) g) (sym (block-back b w bytes))
+                es (length b) (stateOf b) (sized-state b (long b w)) (ap (λ (s : Stepped). s .vdp .raster .table) e ∙ step-table ls a m (stateOf b))
+                (ap (λ (q : Reading). q .colours) g) (sym (block-back b w bytes))
                 ∙ ap (λ (s : Stepped). blockOf (length b) (s .vdp)) e;
             lent = ey;
           })
 
       pub step-kept : FramePointsLeave screen m k x points x′ → Leaves (stepCall b m x n) r b′ x′
       unfolding stepCall
-      step-kept l = let q = frame-joined a m (stateOf b) g refl x (rw ez at l) in stored (stepOn m x (length b)) (frameLines a m (length x)) refl (q .answer) (q .bytes)
+      step-kept l = let q = frame-joined a m (stateOf b) g refl x (rw ez at l) in stored (stepOn m x (length b)) (frameLines a m (length x)) refl
+          (q .answer) (q .bytes)
 
       pub row-kept : RowPointsLeave screen m k x points x′ → Leaves (rowStepCall b m x n) r b′ x′
       unfolding rowStepCall
-      row-kept l = let q = row-joined a m (stateOf b) g refl x (rw ez at l) in stored (rowStepOn m x (length b)) (rowLines a m (length x)) refl (q .answer) (q .bytes)
+      row-kept l = let q = row-joined a m (stateOf b) g refl x (rw ez at l) in stored (rowStepOn m x (length b)) (rowLines a m (length x)) refl
+          (q .answer) (q .bytes)
 
       layer-kept :
           (lines : RenderArea → List Line) (filled : VdpState → RenderArea → List ℕ) (layers : List ℕ) {layers′ : List ℕ}
@@ -209,10 +225,12 @@ module _ (b m x : List ℕ) (n : ℕ) where
             owners = l .owners ∙ rw (w, le-leb n 2 h, ea);
           }
 
-      pub layer-row-kept : (layers : List ℕ) {layers′ : List ℕ} → RowLayerPointsLeave screen m k x layers points x′ layers′ → LayerRowLeaves b m x layers n r b′ x′ layers′
+      pub layer-row-kept : (layers : List ℕ) {layers′ : List ℕ} → RowLayerPointsLeave screen m k x layers points x′ layers′ → LayerRowLeaves b m x
+          layers n r b′ x′ layers′
       layer-row-kept layers l = layer-kept _ _ layers (row-layers-joined a m (stateOf b) g refl x layers (rw ez at l))
 
-      pub layer-frame-kept : (layers : List ℕ) {layers′ : List ℕ} → FrameLayerPointsLeave screen m k x layers points x′ layers′ → LayerFrameLeaves b m x layers n r b′ x′ layers′
+      pub layer-frame-kept : (layers : List ℕ) {layers′ : List ℕ} → FrameLayerPointsLeave screen m k x layers points x′ layers′ → LayerFrameLeaves b
+          m x layers n r b′ x′ layers′
       layer-frame-kept layers l = layer-kept _ _ layers (frame-layers-joined a m (stateOf b) g refl x layers (rw ez at l))
 
 -- a step's colours keep the sizes

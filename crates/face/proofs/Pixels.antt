@@ -1,32 +1,29 @@
 -- One pixel in the C face: the colour that a block gives to a number, and when the call is refused.
 -- Assumes nothing.
-use mathlib.Core.Path.{_≡_, refl, sym, ap, _∙_}
-use mathlib.Core.Logic.{_≢_}
-use mathlib.Core.Bool.{Bool, true, false, cond}
+use mathlib.Core.Path.{_≡_, sym, ap, _∙_}
+use mathlib.Core.Bool.{Bool, true, false}
 use mathlib.Core.List.{List}
-use Prim.Native.Nat.{ℕ, _+_, _*_, _%_, _<_}
+use Prim.Native.Nat.{ℕ, _+_, _*_, _<_}
 use native.Mathlib.Omega.{arith}
 use lib.Dec.{leb}
-use lib.ListN.{length, take, drop}
+use lib.ListN.{take, drop}
 use lib.Seq.{getD-take, getD-drop}
-use borrow.Author.Tests.{eq-eqb, ne-eqb, eqb-true, eqb-false}
+use borrow.Author.Tests.{eq-eqb, ne-eqb}
 use Rattle.laws.specs.Lists.{at}
-use Rattle.laws.specs.Sizes.{vramSize}
 use Rattle.laws.proofs.Tables.{getD-table}
 use Rattle.laws.proofs.Tests.{split}
 use Rattle.colour.specs.Colour.{colour, coloursOf}
 use Rattle.picture.specs.Area.{areaFrom}
 use Rattle.vdp.specs.declared.Refusal.{Refusal}
-use Rattle.vdp.specs.Refusals.{refusalNumber, whole, first}
+use Rattle.vdp.specs.Refusals.{refusalNumber, first}
 use Rattle.block.specs.Block.{wellFormed, stateOf, colourAt, coloursAt}
 use Rattle.pixel.specs.Pixel.{pixelLines}
-use Rattle.step.specs.declared.Pixel.{Pixel}
 use Rattle.step.specs.Step.{coloursNow}
 use Rattle.step.specs.Pixel.{pixelOf}
 use Rattle.step.proofs.Pixels.{pixel-exact}
 use Rattle.face.specs.Refused.{refusalIn, stepCallLines}
-use Rattle.face.specs.Pixel.{pixelBits, pixelWord, pixelCall}
-use Rattle.face.proofs.Exact.{number-low, alone}
+use Rattle.face.specs.Pixel.{pixelBits, pixelCall}
+use Rattle.face.proofs.Exact.{number-low}
 
 module _ (b : List ℕ) (n : ℕ) (h : n < 32) where
   pub colour-dirty : at b 26 ≡ 1 → colour (at b (27 + 2 * n)) (at b (27 + (2 * n + 1))) ≡ at (coloursNow (stateOf b)) n
@@ -34,7 +31,12 @@ module _ (b : List ℕ) (n : ℕ) (h : n < 32) where
   colour-dirty e =
       rw (eq-eqb (at b 26) 1 e)
       (sym (getD-table 32 (λ i. colour (at (take 64 (drop 27 b)) (2 * i)) (at (take 64 (drop 27 b)) (2 * i + 1))) n h
-      ∙ rw (getD-take 64 (drop 27 b) (2 * n) 0 (omega arith), getD-take 64 (drop 27 b) (2 * n + 1) 0 (omega arith), getD-drop 27 b (2 * n) 0, getD-drop 27 b (2 * n + 1) 0)))
+      ∙ rw (
+        getD-take 64 (drop 27 b) (2 * n) 0 (omega arith),
+        getD-take 64 (drop 27 b) (2 * n + 1) 0 (omega arith),
+        getD-drop 27 b (2 * n) 0,
+        getD-drop 27 b (2 * n + 1) 0,
+      )))
 
   pub colour-clean : (at b 26 ≡ 1 → ⊥) → colourAt b (91 + 4 * n) ≡ at (coloursNow (stateOf b)) n
   unfolding stateOf coloursAt
@@ -55,7 +57,8 @@ module _ (b m : List ℕ) (n y x : ℕ) where
       split (leb n 2)
       (λ l.
       simp (e, l)
-      (word-low (pixelOf (areaFrom n) m (stateOf b) y x .refusal) (pixelOf (areaFrom n) m (stateOf b) y x .there) (pixelOf (areaFrom n) m (stateOf b) y x .colour)
+      (word-low (pixelOf (areaFrom n) m (stateOf b) y x .refusal) (pixelOf (areaFrom n) m (stateOf b) y x .there)
+      (pixelOf (areaFrom n) m (stateOf b) y x .colour)
       ∙ ap refusalNumber (pixel-exact (areaFrom n) m (stateOf b) y x)))
       (λ l. simp (e, l)))
       (λ e. simp e)

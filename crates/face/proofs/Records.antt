@@ -1,8 +1,7 @@
 -- The calls on a recording: what they promise of what the crate `record` does, when each is refused, and what is then left.
 -- Assumes nothing.
 use mathlib.Core.Path.{_≡_, refl, sym, ap, subst, _∙_}
-use mathlib.Core.Logic.{_≢_}
-use mathlib.Core.Bool.{Bool, true, false, cond, not}
+use mathlib.Core.Bool.{not}
 use mathlib.Core.List.{List, [], _∷_}
 use Prim.Native.Nat.{ℕ, _+_, _*_, _%_, _<_, _≤_}
 use native.Mathlib.Omega.{arith}
@@ -10,17 +9,17 @@ use borrow.Author.Tests.{lt-leb, le-leb}
 use lib.Dec.{ltb, leb}
 use lib.ListN.{length}
 use Rattle.laws.specs.Lists.{written}
-use Rattle.laws.proofs.Tests.{either, split}
+use Rattle.laws.proofs.Tests.{split}
 use Rattle.picture.specs.declared.RenderArea.{RenderArea}
 use Rattle.picture.specs.Area.{areaFrom}
-use Rattle.vdp.specs.declared.Refusal.the-variants.{UnknownArea, RecordRoom}
-use Rattle.vdp.specs.Refusals.{refusalNumber, Line, line, first}
+use Rattle.vdp.specs.declared.Refusal.the-variants.{UnknownArea}
+use Rattle.vdp.specs.Refusals.{refusalNumber, line, first}
 use Rattle.record.specs.declared.Record.{Record}
-use Rattle.record.specs.declared.Record.the-variants.{Write, Read, Step, Bad, End}
+use Rattle.record.specs.declared.Record.the-variants.{Step}
 use Rattle.record.specs.declared.Recorded.{Recorded}
 use Rattle.record.specs.Record.{recordAt}
 use Rattle.record.specs.Writer.{recordBytes, size, recordLines, recorded, RecordLeaves}
-use Rattle.face.specs.Face.{Called, Leaves, refused}
+use Rattle.face.specs.Face.{Called, Leaves}
 use Rattle.face.specs.Refused.{refusalIn, LeftBehind}
 use Rattle.face.specs.Record.{recordCall, recordStepCall, recordWord, nextCall}
 use Rattle.face.proofs.Repairs.{word-under, lent-under}
@@ -66,7 +65,8 @@ record-exact s k x = split (ltb (length s) (k + size x)) (λ t. rw t) (λ t. rw 
     even n = omega arith
 
 pub record-step-exact :
-    (s : List ℕ) (k n : ℕ) → refusalIn (recordStepCall s k n .word) ≡ refusalNumber (first (line (not (leb n 2)) UnknownArea ∷ recordLines s k (Step (areaFrom n))))
+    (s : List ℕ) (k n : ℕ) → refusalIn (recordStepCall s k n .word) ≡ refusalNumber
+    (first (line (not (leb n 2)) UnknownArea ∷ recordLines s k (Step (areaFrom n))))
 unfolding recordStepCall
 record-step-exact s k n = split (leb n 2) (λ t. rw t (record-exact s k (Step (areaFrom n)))) (λ t. rw t)
 

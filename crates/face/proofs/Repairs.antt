@@ -1,14 +1,12 @@
 -- The repair of the C face, from what `salvage` gives.
 -- Assumes nothing.
 use mathlib.Core.Path.{_≡_, refl, sym, ap, _∙_}
-use mathlib.Core.Bool.{cond}
 use mathlib.Core.List.{List, [], _∷_}
 use Prim.Native.Nat.{ℕ, _+_, _*_}
 use native.Mathlib.Nat.{zero-add, add-zero}
 use lib.ListN.{length}
 use Rattle.laws.proofs.Tests.{split}
 use Rattle.laws.specs.Lists.{written}
-use Rattle.vdp.specs.declared.Refusal.{Refusal}
 use Rattle.vdp.specs.Refusals.{refusalNumber, Line, first, under}
 use Rattle.salvage.specs.declared.Repaired.{Repaired}
 use Rattle.salvage.specs.Repair.{mended, changes, repairLines, RepairLeaves}

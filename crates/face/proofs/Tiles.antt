@@ -12,7 +12,8 @@ use lib.ListN.{length}
 use Rattle.laws.proofs.Tests.{same-cond}
 use Rattle.vdp.specs.declared.Refusal.{Refusal}
 use Rattle.vdp.specs.Refusals.{refusalNumber, first}
-use Rattle.tiles.specs.Calls.{readTileLines, writeTileLines, readTileRefusal, writeTileRefusal, unless, tileWritten, tileRead, WriteLeaves, ReadLeaves}
+use Rattle.tiles.specs.Calls.{readTileLines, writeTileLines, readTileRefusal, writeTileRefusal, unless, tileWritten, tileRead, WriteLeaves}
+use Rattle.tiles.specs.Calls.{ReadLeaves}
 use Rattle.face.specs.Face.{Leaves}
 use Rattle.face.specs.Refused.{refusalIn, LeftBehind}
 use Rattle.face.specs.Tiles.{writeTileCall, readTileCall}
@@ -32,11 +33,13 @@ unfolding readTileCall
 read-tile m n codes l e = record { word = e ∙ ap refusalNumber (l .refusal); block = refl; lent = l .buffer }
 
 -- refused by the first line of its table that holds: "checked after 8 in that order"
-pub write-tile-exact : (m : List ℕ) (n : ℕ) (codes : List ℕ) → refusalIn (writeTileCall m n codes .word) ≡ refusalNumber (first (writeTileLines m n codes))
+pub write-tile-exact : (m : List ℕ) (n : ℕ) (codes : List ℕ) → refusalIn (writeTileCall m n codes .word) ≡ refusalNumber
+    (first (writeTileLines m n codes))
 unfolding writeTileCall writeTileRefusal
 write-tile-exact m n codes = alone (first (writeTileLines m n codes))
 
-pub read-tile-exact : (m : List ℕ) (n : ℕ) (codes : List ℕ) → refusalIn (readTileCall m n codes .word) ≡ refusalNumber (first (readTileLines m n (length codes)))
+pub read-tile-exact : (m : List ℕ) (n : ℕ) (codes : List ℕ) → refusalIn (readTileCall m n codes .word) ≡ refusalNumber
+    (first (readTileLines m n (length codes)))
 unfolding readTileCall readTileRefusal
 read-tile-exact m n codes = alone (first (readTileLines m n (length codes)))
 

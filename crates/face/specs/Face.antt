@@ -17,10 +17,9 @@ use Rattle.vdp.specs.Device.{made}
 use Rattle.vdp.specs.Refusals.{refusalNumber}
 use Rattle.vdp.specs.Ports.{portWrite, portRead}
 use Rattle.block.specs.Block.{fits, wellFormed, stateOf, blockOf}
-use Rattle.step.specs.declared.DrawnRow.{DrawnRow}
-use Rattle.step.specs.declared.DrawnRow.the-variants.{NoRow, Drawn}
+use Rattle.word.specs.Word.{stepWord}
 use Rattle.step.specs.declared.Stepped.{Stepped}
-use Rattle.step.specs.Step.{interruptNumber, reportNumber, rowStep, frameStep}
+use Rattle.step.specs.Step.{rowStep, frameStep}
 use Rattle.step.specs.Dump.{dumpRefusal, dumpAfter}
 use Rattle.step.specs.Frame.{rowAfter, frameAfter}
 
@@ -31,17 +30,9 @@ pub record Called : Type 0 where
   pub block : List ℕ
   pub lent : List ℕ
 
--- ---- R7.7, the answer word: the refusal, from bit 8 on a read's byte, or a step's interrupt, from bit 9 on its report, from bit 16 on its row, and bit 24
--- where it drew one
+-- ---- R7.7, the answer word of a read: the refusal, and from bit 8 on its byte (that of a step: crate `word`)
 abbrev pub readWord : ReadBack → ℕ
 readWord a = refusalNumber (a .refusal) + 256 * a .byte
-
-abbrev pub rowBits : DrawnRow → ℕ
-rowBits NoRow = 0
-rowBits (Drawn y) = 65536 * y + 16777216
-
-unfoldable pub stepWord : Stepped → ℕ
-stepWord s = refusalNumber (s .refusal) + 256 * interruptNumber (s .interrupt) + 512 * reportNumber (s .report) + rowBits (s .row)
 
 -- ---- R2.4, its beginning: first the block b is read, then the area number n; x is the buffer that a refusal leaves as it was
 abbrev pub refused : Refusal → List ℕ → List ℕ → Called

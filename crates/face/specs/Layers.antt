@@ -34,7 +34,8 @@ layersLeft lines b m layers n =
     cond (wellFormed b) (cond (leb n 2) (layersAfter (layerLines lines layers (areaFrom n)) (areaFrom n) m (stateOf b) layers) layers) layers
 
 -- What such a call promises: its answer r, and what the block, the pixels and the layer buffer hold after it.
-pub record LayerLeaves (lines : RenderArea → List Line) (filled : VdpState → RenderArea → List ℕ) (b m pixels layers : List ℕ) (n r : ℕ) (b′ pixels′ layers′ : List ℕ) : Type 0 where
+pub record LayerLeaves (lines : RenderArea → List Line) (filled : VdpState → RenderArea → List ℕ) (b m pixels layers : List ℕ) (n r : ℕ)
+    (b′ pixels′ layers′ : List ℕ) : Type 0 where
   pub call : Leaves (layerCall lines filled b m pixels layers n) r b′ pixels′
   pub owners : layers′ ≡ layersLeft lines b m layers n
 

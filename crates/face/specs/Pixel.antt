@@ -22,4 +22,5 @@ pixelWord p = refusalNumber (p .refusal) + pixelBits (p .there) (p .colour)
 -- R16.3: the block, the area, then video memory
 unfoldable pub pixelCall : List ℕ → List ℕ → ℕ → ℕ → ℕ → ℕ
 pixelCall b m n y x =
-    cond (wellFormed b) (cond (leb n 2) (pixelWord (pixelOf (areaFrom n) m (stateOf b) y x)) (refusalNumber UnknownArea)) (refusalNumber BlockMalformed)
+    cond (wellFormed b) (cond (leb n 2) (pixelWord (pixelOf (areaFrom n) m (stateOf b) y x)) (refusalNumber UnknownArea))
+    (refusalNumber BlockMalformed)

@@ -8,9 +8,9 @@ ghost use lib.ListN.{length};
 ghost use Rattle.laws.specs.Lists.{at};
 ghost use Rattle.vdp.specs.declared.VdpState.{VdpState};
 ghost use Rattle.block.specs.Block.{oldSize, stateOf, blockOf, Sized};
-ghost use Rattle.step.specs.Step.{interruptNumber, reportNumber, coloursNow, cleaned, joined};
+ghost use Rattle.step.specs.Step.{coloursNow, cleaned, joined};
 ghost use Rattle.face.specs.Tiles.{writeTileCall, readTileCall};
-ghost use Rattle.face.specs.Face.{rowBits, stepWord, newTableCall, newCall, outCall, inputCall, stepCall, rowStepCall, dumpCall, Leaves};
+ghost use Rattle.face.specs.Face.{newTableCall, newCall, outCall, inputCall, stepCall, rowStepCall, dumpCall, Leaves};
 ghost use Rattle.face.specs.Layers.{LayerRowLeaves, LayerFrameLeaves};
 ghost use Rattle.record.specs.declared.Record.the-variants.{Write, Read};
 ghost use Rattle.face.specs.Record.{recordCall, recordStepCall, bytesWord, nextCall};
@@ -19,53 +19,10 @@ ghost use Rattle.face.specs.Version.{version};
 ghost use Rattle.face.specs.Pixel.{pixelBits, pixelCall};
 use record::Record;
 use record::Recorded;
-use step::DisplayRefresh;
 use step::DrawnRow;
 use step::Points;
-use step::VdpInt;
 use vdp::Refusal;
 use vdp::VdpState;
-
-// The parts of a step's answer, as parts of a word: refusal, interrupt, report, and the row with the drawn bit.
-fn number(r: Refusal) -> u32
-    ensures { λ n. ⌜ (n ≡ refusalNumber r) × (n < 256) ⌝ }
-{
-    vdp::refusal_number(r) as u32
-}
-
-fn interrupt_number(i: VdpInt) -> u32
-    ensures { λ n. ⌜ (n ≡ interruptNumber i) × (n < 2) ⌝ }
-{
-    step::interrupt_number(i) as u32
-}
-
-fn report_number(r: DisplayRefresh) -> u32
-    ensures { λ n. ⌜ (n ≡ reportNumber r) × (n < 3) ⌝ }
-{
-    step::report_number(r) as u32
-}
-
-fn row_bits(r: DrawnRow) -> u32
-    ensures { λ n. ⌜ (n ≡ rowBits r) × (n < 33554432) ⌝ }
-{
-    match r {
-        DrawnRow::NoRow => 0,
-        DrawnRow::Drawn(y) => 65536 * (y as u32) + 16777216,
-    }
-}
-
-fn word_of(points: Points) -> u32
-    ensures { λ r. ⌜ ((d : VdpState) → r ≡ stepWord (joined d points)) ⌝ }
-{
-    let refusal = points.refusal;
-    let interrupt = points.interrupt;
-    let report = points.report;
-    let row = points.row;
-    number(refusal)
-        + 256 * interrupt_number(interrupt)
-        + 512 * report_number(report)
-        + row_bits(row)
-}
 
 // A fresh device of this table into the block, in the version that the block's length tells.
 #[no_mangle]
@@ -73,14 +30,14 @@ pub extern "C" fn vdp_new_table(state: &mut [u8], table: u8) -> u32
     ensures { λ r. ⌜ Leaves (newTableCall (now (state .entry)) table) r (now (state .exit)) [] ⌝ }
 {
     if 1 < table {
-        return number(Refusal::BlockMalformed);
+        return word::number(Refusal::BlockMalformed);
     }
     let named = raster::table_from(table);
     if !block::has_room(named, state.len()) {
-        return number(Refusal::BlockMalformed);
+        return word::number(Refusal::BlockMalformed);
     }
     block::encode(VdpState::with_table(named), state);
-    number(Refusal::Accepted)
+    word::number(Refusal::Accepted)
 }
 
 // The same with no table named: the chart's.
@@ -98,14 +55,14 @@ pub extern "C" fn vdp_out(state: &mut [u8], vram: &mut [u8], port: u16, value: u
 {
     let d = block::decode(state);
     if !d.good {
-        return number(Refusal::BlockMalformed);
+        return word::number(Refusal::BlockMalformed);
     }
     let vdp = d.vdp;
     let a = vdp.out(vram, port, value);
     let next = a.vdp;
     block::encode(next, state);
     let refusal = a.refusal;
-    number(refusal)
+    word::number(refusal)
 }
 
 // A port read; its byte is in bits 8 to 15 of the answer.
@@ -115,14 +72,14 @@ pub extern "C" fn vdp_input(state: &mut [u8], vram: &[u8], port: u16) -> u32
 {
     let d = block::decode(state);
     if !d.good {
-        return number(Refusal::BlockMalformed);
+        return word::number(Refusal::BlockMalformed);
     }
     let vdp = d.vdp;
     let a = vdp.input(vram, port);
     let next = a.vdp;
     block::encode(next, state);
     let refusal = a.refusal;
-    number(refusal) + 256 * (a.byte as u32)
+    word::number(refusal) + 256 * (a.byte as u32)
 }
 
 // The colours that a step of the block's device draws with.
@@ -164,10 +121,10 @@ pub extern "C" fn vdp_step(state: &mut [u8], vram: &[u8], frame: &mut [u8], area
     ensures { λ r. ⌜ Leaves (stepCall (now (state .entry)) (now (vram .entry)) (now (frame .entry)) area) r (now (state .exit)) (now (frame .exit)) ⌝ }
 {
     if !block::well_formed(state) {
-        return number(Refusal::BlockMalformed);
+        return word::number(Refusal::BlockMalformed);
     }
     if 2 < area {
-        return number(Refusal::UnknownArea);
+        return word::number(Refusal::UnknownArea);
     }
     let colours = colours_of(state);
     let points = step::frame_points(
@@ -180,7 +137,7 @@ pub extern "C" fn vdp_step(state: &mut [u8], vram: &[u8], frame: &mut [u8], area
         picture::screen_of(picture::area_from(area)),
     );
     store(state, points, &colours);
-    word_of(points)
+    word::word_of(points)
 }
 
 // A step, whose row goes to the first bytes of the row buffer.
@@ -189,10 +146,10 @@ pub extern "C" fn vdp_row_step(state: &mut [u8], vram: &[u8], row: &mut [u8], ar
     ensures { λ r. ⌜ Leaves (rowStepCall (now (state .entry)) (now (vram .entry)) (now (row .entry)) area) r (now (state .exit)) (now (row .exit)) ⌝ }
 {
     if !block::well_formed(state) {
-        return number(Refusal::BlockMalformed);
+        return word::number(Refusal::BlockMalformed);
     }
     if 2 < area {
-        return number(Refusal::UnknownArea);
+        return word::number(Refusal::UnknownArea);
     }
     let colours = colours_of(state);
     let points = step::row_points(
@@ -205,7 +162,7 @@ pub extern "C" fn vdp_row_step(state: &mut [u8], vram: &[u8], row: &mut [u8], ar
         picture::screen_of(picture::area_from(area)),
     );
     store(state, points, &colours);
-    word_of(points)
+    word::word_of(points)
 }
 
 // The step on a frame, with the layers of the row's columns, which go to the first bytes of the layer buffer.
@@ -220,10 +177,10 @@ pub extern "C" fn vdp_layer_step(
     ensures { λ r. ⌜ LayerFrameLeaves (now (state .entry)) (now (vram .entry)) (now (frame .entry)) (now (layers .entry)) area r (now (state .exit)) (now (frame .exit)) (now (layers .exit)) ⌝ }
 {
     if !block::well_formed(state) {
-        return number(Refusal::BlockMalformed);
+        return word::number(Refusal::BlockMalformed);
     }
     if 2 < area {
-        return number(Refusal::UnknownArea);
+        return word::number(Refusal::UnknownArea);
     }
     let colours = colours_of(state);
     let points = step::layer_frame_points(
@@ -237,7 +194,7 @@ pub extern "C" fn vdp_layer_step(
         picture::screen_of(picture::area_from(area)),
     );
     store(state, points, &colours);
-    word_of(points)
+    word::word_of(points)
 }
 
 // The same of the step on a row buffer.
@@ -252,10 +209,10 @@ pub extern "C" fn vdp_layer_row_step(
     ensures { λ r. ⌜ LayerRowLeaves (now (state .entry)) (now (vram .entry)) (now (row .entry)) (now (layers .entry)) area r (now (state .exit)) (now (row .exit)) (now (layers .exit)) ⌝ }
 {
     if !block::well_formed(state) {
-        return number(Refusal::BlockMalformed);
+        return word::number(Refusal::BlockMalformed);
     }
     if 2 < area {
-        return number(Refusal::UnknownArea);
+        return word::number(Refusal::UnknownArea);
     }
     let colours = colours_of(state);
     let points = step::layer_row_points(
@@ -269,7 +226,7 @@ pub extern "C" fn vdp_layer_row_step(
         picture::screen_of(picture::area_from(area)),
     );
     store(state, points, &colours);
-    word_of(points)
+    word::word_of(points)
 }
 
 // All tiles into the pixels; the block is only read.
@@ -279,10 +236,10 @@ pub extern "C" fn vdp_dump_tileset(state: &[u8], vram: &[u8], pixels: &mut [u8])
 {
     let d = block::decode(state);
     if !d.good {
-        return number(Refusal::BlockMalformed);
+        return word::number(Refusal::BlockMalformed);
     }
     let vdp = d.vdp;
-    number(step::dump_tileset(vdp, vram, pixels))
+    word::number(step::dump_tileset(vdp, vram, pixels))
 }
 
 // The number of this face.
@@ -298,7 +255,7 @@ pub extern "C" fn vdp_version() -> u32
 pub extern "C" fn vdp_write_tile(vram: &mut [u8], tile: u16, codes: &[u8]) -> u32
     ensures { λ r. ⌜ Leaves (writeTileCall (now (vram .entry)) tile (now (codes .entry))) r [] (now (vram .exit)) ⌝ }
 {
-    number(tiles::write_tile(vram, tile, codes))
+    word::number(tiles::write_tile(vram, tile, codes))
 }
 
 // The 64 codes of a tile; video memory is only read.
@@ -306,7 +263,7 @@ pub extern "C" fn vdp_write_tile(vram: &mut [u8], tile: u16, codes: &[u8]) -> u3
 pub extern "C" fn vdp_read_tile(vram: &[u8], tile: u16, codes: &mut [u8]) -> u32
     ensures { λ r. ⌜ Leaves (readTileCall (now (vram .entry)) tile (now (codes .entry))) r [] (now (codes .exit)) ⌝ }
 {
-    number(tiles::read_tile(vram, tile, codes))
+    word::number(tiles::read_tile(vram, tile, codes))
 }
 
 // ---- one pixel
@@ -347,10 +304,10 @@ pub extern "C" fn vdp_pixel(state: &[u8], vram: &[u8], area: u8, row: u32, colum
     ensures { λ r. ⌜ r ≡ pixelCall (now (state .entry)) (now (vram .entry)) area row column ⌝ }
 {
     if !block::well_formed(state) {
-        return long(number(Refusal::BlockMalformed));
+        return long(word::number(Refusal::BlockMalformed));
     }
     if 2 < area {
-        return long(number(Refusal::UnknownArea));
+        return long(word::number(Refusal::UnknownArea));
     }
     let raster = block::raster_in(state);
     let spot = pixel::spot_at(
@@ -362,7 +319,7 @@ pub extern "C" fn vdp_pixel(state: &[u8], vram: &[u8], area: u8, row: u32, colum
         column,
     );
     let refusal = spot.refusal;
-    long(number(refusal)) + pixel_bits(state, spot.there, spot.colour)
+    long(word::number(refusal)) + pixel_bits(state, spot.there, spot.colour)
 }
 
 // A damaged block mended, and the changed offsets at the start of the list.
@@ -372,7 +329,7 @@ pub extern "C" fn vdp_repair(state: &mut [u8], list: &mut [u8]) -> u32
 {
     let repaired = salvage::repair(state, list);
     let refusal = repaired.refusal;
-    number(refusal) + 256 * (repaired.count as u32)
+    word::number(refusal) + 256 * (repaired.count as u32)
 }
 
 // ---- records of a recording
@@ -382,7 +339,7 @@ fn recorded_word(recorded: Recorded) -> u32
     ensures { λ n. ⌜ n ≡ refusalNumber (recorded .refusal) + 256 * recorded .count ⌝ }
 {
     let refusal = recorded.refusal;
-    number(refusal) + 256 * (recorded.count as u32)
+    word::number(refusal) + 256 * (recorded.count as u32)
 }
 
 // A port write as a record, into the bytes from `used` on.
@@ -407,7 +364,7 @@ pub extern "C" fn vdp_record_step(recording: &mut [u8], used: usize, area: u8) -
     ensures { λ r. ⌜ Leaves (recordStepCall (now (recording .entry)) used area) r [] (now (recording .exit)) ⌝ }
 {
     if 2 < area {
-        return number(Refusal::UnknownArea);
+        return word::number(Refusal::UnknownArea);
     }
     let step = Record::Step(picture::area_from(area));
     recorded_word(record::put_record(recording, used, step))

@@ -55,7 +55,8 @@ module _ (h : HomeState) where
       let b = front-write-behind (h .front) 32 m p v in
       record {
         device = either LeftW (a .answer .palette) (λ _ n. absurd (n refl)) (λ _ n. ap (withFront h) (b .front n));
-        memory = either (λ (w : HomeWritten). w .refusal ≢ Accepted → a .vram ≡ m) (a .answer .palette) (λ t _. k .palette t .memory) (λ _ n. b .memory n);
+        memory = either (λ (w : HomeWritten). w .refusal ≢ Accepted → a .vram ≡ m) (a .answer .palette) (λ t _. k .palette t .memory)
+            (λ _ n. b .memory n);
       }
 
   pub read-behind : (m : List ℕ) (p : ℕ) → LeftR (portRead h m p)

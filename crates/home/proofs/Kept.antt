@@ -1,4 +1,5 @@
--- What a port call of the home machine keeps: the raster, the cache and that it is dirty, the length of palette, registers and memory, that clean colours are the palette's,
+-- What a port call of the home machine keeps: the raster, the cache and that it is dirty, the length of palette, registers and memory, that clean
+-- colours are the palette's,
 -- and that the address lies in its memory.
 -- Assumes nothing.
 use Prim.Native.Nat.{ℕ}

@@ -26,7 +26,8 @@ use Rattle.step.proofs.Laws as Points
 use Rattle.home.specs.declared.HomeState.{HomeState}
 use Rattle.home.specs.declared.HomeStepped.{HomeStepped}
 use Rattle.home.specs.Home.{home, withRaster, withStatus}
-use Rattle.home.specs.Step.{register, lineOf, coloursNow, readingOf, counterUp, cleaned, stepped, refusedStep, stepWith, rowStep, frameStep, drawnBytes, rowAfter, frameAfter}
+use Rattle.home.specs.Step.{register, lineOf, coloursNow, readingOf, counterUp, cleaned, stepped, refusedStep, stepWith, rowStep, frameStep}
+use Rattle.home.specs.Step.{drawnBytes, rowAfter, frameAfter}
 use Rattle.home.specs.Promises.{Aimed}
 use Rattle.home.proofs.Kept.{Clean}
 
@@ -96,7 +97,8 @@ module _ (vram : List ℕ) (h : HomeState) where
   -- with this row, status and raster of its points
   left-by :
       (r : DrawnRow) (status : ℕ) (x : Raster) → withRaster (withStatus (cleaned r h (coloursNow h)) status) x
-      ≡ home (front status (h .front .reg) (h .front .addr) (h .front .«vram_buffer») (h .front .dest) (h .front .«cmd_byte1»)) x (h .cram) (dirtyAfter r h)
+      ≡ home (front status (h .front .reg) (h .front .addr) (h .front .«vram_buffer») (h .front .dest) (h .front .«cmd_byte1»)) x (h .cram)
+      (dirtyAfter r h)
       (cacheAfter r h)
   left-by NoRow status x = refl
   left-by (Drawn y) status x = refl
@@ -220,7 +222,8 @@ module _ (vram : List ℕ) (h : HomeState) (f : List ℕ) where
   unfolding frameAfter
   frame-step-length = Points.frame-points-length Home vram (readingOf h) f
 
-  pub frame-step-other : (z : ℕ) → rowOn Home (lineOf (counterUp h)) ≢ Drawn z → rowOf (rowSize Home) z (frameAfter vram h f) ≡ rowOf (rowSize Home) z f
+  pub frame-step-other : (z : ℕ) → rowOn Home (lineOf (counterUp h)) ≢ Drawn z → rowOf (rowSize Home) z (frameAfter vram h f) ≡ rowOf (rowSize Home)
+      z f
   unfolding frameAfter
   frame-step-other z n = Points.frame-points-other Home vram (readingOf h) f z n
 

@@ -29,7 +29,8 @@ joined-with (l ∷ ls) vram h = split (l .holds) (λ t. rw t) (λ t. rw t (joine
 
 -- what the points read, part by part
 pub reading-of :
-    (h : HomeState) {reg : List ℕ} {raster : Raster} {status : ℕ} {colours : List ℕ} → reg ≡ h .front .reg → raster ≡ h .raster → status ≡ h .front .status →
+    (h : HomeState) {reg : List ℕ} {raster : Raster} {status : ℕ} {colours : List ℕ} → reg ≡ h .front .reg → raster ≡ h .raster → status ≡
+    h .front .status →
     colours ≡ coloursNow h → reading reg raster status colours ≡ readingOf h
 reading-of h e f g k = λ i. reading (e i) (f i) (g i) (k i)
 

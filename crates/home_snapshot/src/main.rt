@@ -2,7 +2,7 @@
 ghost use mathlib.Core.Path.{_≡_};
 ghost use lib.ListN.{length, replicate};
 use home::HomeState;
-use recording::Device;
+use trace_run::Device;
 
 // A frame, zeroed: the contract says so, and gives its length, which the caller's check then need not compute.
 fn blank() -> [u8; 196_608]
@@ -39,7 +39,7 @@ fn main() {
         return;
     }
     let n = taken.len;
-    let k = recording::snapshot(
+    let k = trace_output::snapshot(
         device,
         &input[..n],
         &mut vram,

@@ -2,7 +2,7 @@
 ghost use mathlib.Core.Path.{_≡_};
 ghost use lib.ListN.{length};
 use home::HomeState;
-use recording::Device;
+use trace_run::Device;
 
 // Room for the text of any recording. The contract gives only the length: so long an array then costs its caller's check nothing.
 fn room() -> [u8; 327_700]
@@ -30,6 +30,6 @@ fn main() {
         return;
     }
     let n = taken.len;
-    let k = recording::trace(device, &input[..n], &mut vram, &mut row, &mut text);
+    let k = trace_output::trace(device, &input[..n], &mut vram, &mut row, &mut text);
     program::output(b"home-trace", &text[..k]);
 }

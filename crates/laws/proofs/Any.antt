@@ -2,7 +2,7 @@
 -- Assumes nothing.
 use mathlib.Core.Path.{_≡_, refl, sym, ap, _∙_}
 use mathlib.Core.Bool.{Bool, true, false, _&&_, _||_, not, or-false}
-use Prim.Native.Nat.{ℕ, zero, suc, _+_, _-_, _*_, _/_, _%_, _^_, _<_, _≤_}
+use Prim.Native.Nat.{ℕ, zero, suc, _+_, _*_, _%_, _^_, _<_, _≤_}
 use native.Mathlib.Nat.{add-zero, add-suc}
 use native.Mathlib.Decide.{ℕ-discrete, decLt}
 use native.Mathlib.Omega.{arith}
@@ -46,7 +46,8 @@ any-split x zero f = rw add-zero (sym (or-false (any x f)))
 any-split x (suc n) f = rw (add-suc, any-split x n f) (or-swap (f (x + n)) (any x f) (any n (λ j. f (x + j))))
 
 -- of the places off, off + 1, .. around the circle, place i is the one at past i off
-pub any-place : (n off i : ℕ) (g : ℕ → Bool) → n ≤ 256 → i < 256 → any n (λ j. eqb ((off + j) % 256) i && g j) ≡ (ltb (past i off) n && g (past i off))
+pub any-place : (n off i : ℕ) (g : ℕ → Bool) → n ≤ 256 → i < 256 → any n (λ j. eqb ((off + j) % 256) i && g j) ≡
+    (ltb (past i off) n && g (past i off))
 unfolding any
 any-place zero off i g h l = let z : 0 ≤ past i off = omega arith in rw (le-ltb (past i off) 0 z)
 any-place (suc n) off i g h l =
@@ -55,7 +56,8 @@ any-place (suc n) off i g h l =
           let here : (off + n) % 256 ≡ i = omega arith in
           let more : past i off < suc n = omega arith in
           let less : n ≤ past i off = omega arith in
-          rw (eq-eqb ((off + n) % 256) i here, any-place n off i g (omega arith) l, lt-ltb (past i off) (suc n) more, le-ltb (past i off) n less, e) (or-false (g (past i off)))
+          rw (eq-eqb ((off + n) % 256) i here, any-place n off i g (omega arith) l, lt-ltb (past i off) (suc n) more, le-ltb (past i off) n less, e)
+          (or-false (g (past i off)))
       | no ne ↦
           let there : (off + n) % 256 ≡ i → ⊥ = λ q. ne (omega arith) in
           rw (ne-eqb ((off + n) % 256) i there, any-place n off i g (omega arith) l)

@@ -193,7 +193,8 @@ marked-next f i b false h e q = rw (e, add-one) (number-skip i f q)
 
 -- one bit more: what a turn of the loop shows
 pub number-step :
-    (f : ℕ → Bool) (i : ℕ) {b b′ : ℕ} {t : Bool} → i < 8 → b ≡ number i f → t ≡ f i → b′ ≡ cond t (bitOr b (1 * 2 ^ i % 256)) b → b′ ≡ number (i + 1) f
+    (f : ℕ → Bool) (i : ℕ) {b b′ : ℕ} {t : Bool} → i < 8 → b ≡ number i f → t ≡ f i → b′ ≡ cond t (bitOr b (1 * 2 ^ i % 256)) b → b′ ≡ number (i + 1)
+    f
 number-step f i {b} {b′} {t} h e q p = p ∙ marked-next f i b t h e (sym q)
 
 number-by : (f : ℕ → Bool) (n d : ℕ) → ((k : ℕ) → n ≤ k → f k ≡ false) → number n f ≡ number (n + d) f

@@ -3,7 +3,7 @@
 use mathlib.Core.Path.{_≡_, refl, sym, ap, _∙_}
 use mathlib.Core.List.{List, _++_}
 use mathlib.Core.Bool.{Bool, true, false, cond, _&&_, and-false}
-use Prim.Native.Nat.{ℕ, zero, suc, _+_, _-_, _*_, _/_, _%_, _^_, _<_, _≤_}
+use Prim.Native.Nat.{ℕ, zero, suc, _+_, _-_, _*_, _/_, _%_, _<_, _≤_}
 use mathlib.Core.Logic.{⊎-elim}
 use native.Mathlib.Nat.{eq-or-lt-of-le, le-of-suc-le-suc, add-zero, zero-add, add-suc, add-assoc}
 use native.Mathlib.Numerals.{add-one}
@@ -23,7 +23,8 @@ unfolding painted
 painted-more row x n f = rw add-one
 
 -- one pixel more: what a turn of a loop that paints shows
-pub painted-step : (row₀ : List ℕ) (x i : ℕ) (f : ℕ → ℕ) {row row′ : List ℕ} {v : ℕ} → row ≡ painted row₀ x i f → v ≡ f i → row′ ≡ put row (x + i) v → row′ ≡ painted row₀ x (i + 1) f
+pub painted-step : (row₀ : List ℕ) (x i : ℕ) (f : ℕ → ℕ) {row row′ : List ℕ} {v : ℕ} → row ≡ painted row₀ x i f → v ≡ f i → row′ ≡ put row (x + i)
+    v → row′ ≡ painted row₀ x (i + 1) f
 painted-step row₀ x i f e q p = rw (painted-more, ← e, ← q) p
 
 -- ---- what `put` and `painted` leave, byte by byte
@@ -66,7 +67,8 @@ put-at row x c (suc (suc zero)) h r =
     rw (getD-set-other, getD-set-same)
 put-at row x c (suc (suc (suc b))) h r =
     let e : suc (suc (suc b)) ≡ 3 = omega arith in
-    let s : x * 4 + 3 < length (set (set (set row (x * 4) (c % 256)) (x * 4 + 1) (c / 256 % 256)) (x * 4 + 2) (c / 65536 % 256)) = simp length-set (omega arith) in
+    let s : x * 4 + 3 < length (set (set (set row (x * 4) (c % 256)) (x * 4 + 1) (c / 256 % 256)) (x * 4 + 2) (c / 65536 % 256)) = simp length-set
+    (omega arith) in
     rw (e, getD-set-same)
 
 -- a byte of no painted pixel stays
@@ -89,7 +91,8 @@ painted-join row x n zero f = rw add-zero
 painted-join row x n (suc m) f = rw (add-suc, painted-join row x n m f, add-assoc)
 
 -- byte b of painted pixel i is that of its colour
-pub painted-at : (row : List ℕ) (x n : ℕ) (f : ℕ → ℕ) (i b : ℕ) → i < n → b < 4 → (x + n) * 4 ≤ length row → getD (painted row x n f) ((x + i) * 4 + b) 0 ≡ byteOfColour (f i) b
+pub painted-at : (row : List ℕ) (x n : ℕ) (f : ℕ → ℕ) (i b : ℕ) → i < n → b < 4 → (x + n) * 4 ≤ length row → getD (painted row x n f)
+    ((x + i) * 4 + b) 0 ≡ byteOfColour (f i) b
 unfolding painted
 painted-at row x zero f i b l h r = absurd (omega arith)
 painted-at row x (suc n) f i b l h r =
@@ -104,12 +107,14 @@ painted-at row x (suc n) f i b l h r =
     (eq-or-lt-of-le (le-of-suc-le-suc l))
 
 -- a run after what is painted so far
-pub painted-on : (row₀ : List ℕ) (x n : ℕ) (f : ℕ → ℕ) {row row′ : List ℕ} → row ≡ painted row₀ 0 x f → row′ ≡ painted row x n (λ i. f (x + i)) → row′ ≡ painted row₀ 0 (x + n) f
+pub painted-on : (row₀ : List ℕ) (x n : ℕ) (f : ℕ → ℕ) {row row′ : List ℕ} → row ≡ painted row₀ 0 x f → row′ ≡ painted row x n (λ i. f (x + i)) →
+    row′ ≡ painted row₀ 0 (x + n) f
 painted-on row₀ x n f e p = p ∙ rw (e, ← painted-join row₀ 0 x n f, zero-add)
 
 -- ---- a pixel put over a painted row is a row painted otherwise
 -- every index of a painted row is byte b of pixel i
-pub painted-byte : (row : List ℕ) (w : ℕ) (f : ℕ → ℕ) (k : ℕ) → k < w * 4 → w * 4 ≤ length row → getD (painted row 0 w f) k 0 ≡ byteOfColour (f (k / 4)) (k % 4)
+pub painted-byte : (row : List ℕ) (w : ℕ) (f : ℕ → ℕ) (k : ℕ) → k < w * 4 → w * 4 ≤ length row → getD (painted row 0 w f) k 0 ≡ byteOfColour
+    (f (k / 4)) (k % 4)
 painted-byte row w f k l r =
     let e : (0 + k / 4) * 4 + k % 4 ≡ k = omega arith in
     let i : k / 4 < w = omega arith in
@@ -131,8 +136,10 @@ pub over-other : (f : ℕ → ℕ) (p c i : ℕ) → (i ≡ p → ⊥) → over 
 unfolding over
 over-other f p c i e = simp (ne-eqb i p e)
 
-pub painted-put : (row : List ℕ) (w : ℕ) (f : ℕ → ℕ) (p c : ℕ) → p < w → w * 4 ≤ length row → put (painted row 0 w f) p c ≡ painted row 0 w (over f p c)
-painted-put row w f p c h r = ext-getD 0 _ _ (length-put _ _ _ ∙ length-painted row 0 w f ∙ sym (length-painted row 0 w (over f p c))) (λ k l. each k (ltb k (w * 4)) refl)
+pub painted-put : (row : List ℕ) (w : ℕ) (f : ℕ → ℕ) (p c : ℕ) → p < w → w * 4 ≤ length row → put (painted row 0 w f) p c ≡ painted row 0 w
+    (over f p c)
+painted-put row w f p c h r =
+    ext-getD 0 _ _ (length-put _ _ _ ∙ length-painted row 0 w f ∙ sym (length-painted row 0 w (over f p c))) (λ k l. each k (ltb k (w * 4)) refl)
   where
     room : p * 4 + 4 ≤ length (painted row 0 w f)
     room = rw length-painted (omega arith)
@@ -155,23 +162,27 @@ painted-put row w f p c h r = ext-getD 0 _ _ (length-put _ _ _ ∙ length-painte
     inside k l true q = here k (eqb-true (k / 4) p q) l
     inside k l false q =
         let ne = eqb-false (k / 4) p q in
-        away k ne ∙ painted-byte row w f k l r ∙ sym (painted-byte row w (over f p c) k l r ∙ ap (λ v. byteOfColour v (k % 4)) (over-other f p c (k / 4) ne))
+        away k ne ∙ painted-byte row w f k l r ∙ sym (painted-byte row w (over f p c) k l r ∙ ap (λ v. byteOfColour v (k % 4))
+        (over-other f p c (k / 4) ne))
 
     each : (k : ℕ) (t : Bool) → ltb k (w * 4) ≡ t → getD (put (painted row 0 w f) p c) k 0 ≡ getD (painted row 0 w (over f p c)) k 0
     each k true q = inside k (ltb-true k (w * 4) q) (eqb (k / 4) p) refl
     each k false q = outside k (ltb-false k (w * 4) q)
 
 -- one column more of what is laid over a row
-pub overlaid-step : (row₀ : List ℕ) (x i : ℕ) (s : ℕ → Bool) (f : ℕ → ℕ) {row row′ : List ℕ} {t : Bool} {v : ℕ} → row ≡ overlaid row₀ x i s f → t ≡ s i → v ≡ f i → row′ ≡ putIf t row (x + i) v → row′ ≡ overlaid row₀ x (i + 1) s f
+pub overlaid-step : (row₀ : List ℕ) (x i : ℕ) (s : ℕ → Bool) (f : ℕ → ℕ) {row row′ : List ℕ} {t : Bool} {v : ℕ} → row ≡ overlaid row₀ x i s f → t ≡ s
+    i → v ≡ f i → row′ ≡ putIf t row (x + i) v → row′ ≡ overlaid row₀ x (i + 1) s f
 unfolding overlaid
 overlaid-step row₀ x i s f e q w p = p ∙ rw (add-one, e, q, w)
 
 -- what is laid over a painted row is a row painted otherwise
-put-if-painted : (t : Bool) (row : List ℕ) (w : ℕ) (g : ℕ → ℕ) (p c : ℕ) → (t ≡ true → p < w) → w * 4 ≤ length row → putIf t (painted row 0 w g) p c ≡ painted row 0 w (λ q. cond t (over g p c q) (g q))
+put-if-painted : (t : Bool) (row : List ℕ) (w : ℕ) (g : ℕ → ℕ) (p c : ℕ) → (t ≡ true → p < w) → w * 4 ≤ length row → putIf t (painted row 0 w g) p c
+    ≡ painted row 0 w (λ q. cond t (over g p c q) (g q))
 put-if-painted true row w g p c h r = painted-put row w g p c (h refl) r
 put-if-painted false row w g p c h r = refl
 
-pub overlaid-painted : (row : List ℕ) (w : ℕ) (g : ℕ → ℕ) (x n : ℕ) (s : ℕ → Bool) (f : ℕ → ℕ) → ((i : ℕ) → i < n → s i ≡ true → x + i < w) → w * 4 ≤ length row → overlaid (painted row 0 w g) x n s f ≡ painted row 0 w (overlay g x n s f)
+pub overlaid-painted : (row : List ℕ) (w : ℕ) (g : ℕ → ℕ) (x n : ℕ) (s : ℕ → Bool) (f : ℕ → ℕ) → ((i : ℕ) → i < n → s i ≡ true → x + i < w) → w * 4 ≤
+    length row → overlaid (painted row 0 w g) x n s f ≡ painted row 0 w (overlay g x n s f)
 unfolding overlaid overlay
 overlaid-painted row w g x zero s f h r = refl
 overlaid-painted row w g x (suc n) s f h r =
@@ -180,7 +191,8 @@ overlaid-painted row w g x (suc n) s f h r =
     rw (overlaid-painted row w g x n s f h′ r) (put-if-painted (s n) row w _ (x + n) (f n) (h n k) r)
 
 -- ---- the overlay, pixel by pixel
-pub overlay-at : (g : ℕ → ℕ) (x n : ℕ) (s : ℕ → Bool) (f : ℕ → ℕ) (p : ℕ) → overlay g x n s f p ≡ cond (leb x p && (ltb (p - x) n && s (p - x))) (f (p - x)) (g p)
+pub overlay-at : (g : ℕ → ℕ) (x n : ℕ) (s : ℕ → Bool) (f : ℕ → ℕ) (p : ℕ) → overlay g x n s f p ≡ cond (leb x p && (ltb (p - x) n && s (p - x)))
+    (f (p - x)) (g p)
 unfolding overlay over
 overlay-at g x zero s f p = let z : 0 ≤ p - x = omega arith in rw (le-ltb (p - x) 0 z, and-false (leb x p))
 overlay-at g x (suc n) s f p =
@@ -207,12 +219,14 @@ overlay-at g x (suc n) s f p =
     ]
 
 -- ---- nothing shown from column n on: n columns are all eight
-overlaid-by : (row : List ℕ) (x : ℕ) (s : ℕ → Bool) (f : ℕ → ℕ) (n d : ℕ) → ((k : ℕ) → n ≤ k → s k ≡ false) → overlaid row x n s f ≡ overlaid row x (n + d) s f
+overlaid-by : (row : List ℕ) (x : ℕ) (s : ℕ → Bool) (f : ℕ → ℕ) (n d : ℕ) → ((k : ℕ) → n ≤ k → s k ≡ false) → overlaid row x n s f ≡ overlaid row x
+    (n + d) s f
 unfolding overlaid
 overlaid-by row x s f n zero h = rw add-zero
 overlaid-by row x s f n (suc d) h = rw (add-suc, h (n + d) (omega arith)) (overlaid-by row x s f n d h)
 
-pub overlaid-all : (row : List ℕ) (x : ℕ) (s : ℕ → Bool) (f : ℕ → ℕ) (n : ℕ) → n ≤ 8 → ((k : ℕ) → n ≤ k → s k ≡ false) → overlaid row x n s f ≡ overlaid row x 8 s f
+pub overlaid-all : (row : List ℕ) (x : ℕ) (s : ℕ → Bool) (f : ℕ → ℕ) (n : ℕ) → n ≤ 8 → ((k : ℕ) → n ≤ k → s k ≡ false) → overlaid row x n s f ≡
+    overlaid row x 8 s f
 overlaid-all row x s f n l h = let e : n + (8 - n) ≡ 8 = omega arith in rw e at (overlaid-by row x s f n (8 - n) h)
 
 -- ---- a row painted from its start is a table of bytes, and what was behind it
@@ -248,7 +262,8 @@ length-overlaid row x (suc n) s f = length-put-if (s n) (overlaid row x n s f) (
     length-put-if true row p c = length-put row p c
     length-put-if false row p c = refl
 
-put-if-here : (t : Bool) (row : List ℕ) (p c k : ℕ) → k / 4 ≡ p → p * 4 + 4 ≤ length row → getD (putIf t row p c) k 0 ≡ cond t (byteOfColour c (k % 4)) (getD row k 0)
+put-if-here : (t : Bool) (row : List ℕ) (p c k : ℕ) → k / 4 ≡ p → p * 4 + 4 ≤ length row → getD (putIf t row p c) k 0 ≡ cond t
+    (byteOfColour c (k % 4)) (getD row k 0)
 put-if-here true row p c k e r = put-byte row p c k e r
 put-if-here false row p c k e r = refl
 
@@ -258,7 +273,8 @@ put-if-away false row p c k ne = refl
 
 pub overlaid-byte :
     (row : List ℕ) (x n : ℕ) (s : ℕ → Bool) (f : ℕ → ℕ) (k : ℕ) → (x + n) * 4 ≤ length row
-    → getD (overlaid row x n s f) k 0 ≡ cond (leb x (k / 4) && (ltb (k / 4 - x) n && s (k / 4 - x))) (byteOfColour (f (k / 4 - x)) (k % 4)) (getD row k 0)
+    → getD (overlaid row x n s f) k 0 ≡ cond (leb x (k / 4) && (ltb (k / 4 - x) n && s (k / 4 - x))) (byteOfColour (f (k / 4 - x)) (k % 4))
+    (getD row k 0)
 unfolding overlaid
 overlaid-byte row x zero s f k r = let z : 0 ≤ k / 4 - x = omega arith in rw (le-ltb (k / 4 - x) 0 z, and-false (leb x (k / 4)))
 overlaid-byte row x (suc n) s f k r =

@@ -37,7 +37,7 @@ fn main() {
         return;
     }
     let n = taken.len;
-    let k = recording::layers(
+    let k = trace_output::layers(
         VdpState::new(),
         &input[..n],
         &mut vram,

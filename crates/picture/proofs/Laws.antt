@@ -58,7 +58,8 @@ module _ (m g : ℕ → ℕ) (stand : ℕ → Stand) (l : ℕ) (prio : ℕ → B
 -- every colour number of a picture is below 32, so that its colour is one of the 32 cached ones
 pub colour-lt : (m g : ℕ → ℕ) (v : View) (x : ℕ) → picture m g v .colour x < 32
 unfolding picture bare back
-colour-lt m g v x = sprites-lt m g (v .stand) (v .line) (front m g v) (take 8 (listed m g (v .line) 64 0)) (bare (back m g v)) (λ x. map-colour-lt m _ _ _) x
+colour-lt m g v x =
+    sprites-lt m g (v .stand) (v .line) (front m g v) (take 8 (listed m g (v .line) 64 0)) (bare (back m g v)) (λ x. map-colour-lt m _ _ _) x
 
 filled-lt : (g : ℕ → ℕ) (p : Row) → ((x : ℕ) → p .colour x < 32) → (x : ℕ) → filled g p .colour x < 32
 unfolding filled
@@ -86,7 +87,8 @@ row-size TrueEdges = refl
 row-size Home = refl
 
 -- byte b of pixel x is that of the colour of its number
-pub pixel-byte : (colours : List ℕ) (width : ℕ) (p : Row) (x b : ℕ) → x < width → b < 4 → at (rowBytes colours width p) (4 * x + b) ≡ byteOfColour (at colours (p .colour x)) b
+pub pixel-byte : (colours : List ℕ) (width : ℕ) (p : Row) (x b : ℕ) → x < width → b < 4 → at (rowBytes colours width p) (4 * x + b) ≡ byteOfColour
+    (at colours (p .colour x)) b
 unfolding rowBytes
 pixel-byte colours width p x b h l =
     let i : (4 * x + b) / 4 ≡ x = omega arith in
@@ -95,7 +97,8 @@ pixel-byte colours width p x b h l =
 
 -- the row's bytes go by the colours of the numbers that it shows, and by nothing else: two pictures, each with its colours, that show the same
 -- colour at each column have the same bytes
-pub rowBytes-cong : (colours colours′ : List ℕ) (width : ℕ) (p p′ : Row) → ((x : ℕ) → x < width → at colours (p .colour x) ≡ at colours′ (p′ .colour x))
+pub rowBytes-cong : (colours colours′ : List ℕ) (width : ℕ) (p p′ : Row) →
+    ((x : ℕ) → x < width → at colours (p .colour x) ≡ at colours′ (p′ .colour x))
     → rowBytes colours width p ≡ rowBytes colours′ width p′
 unfolding rowBytes
 rowBytes-cong colours colours′ width p p′ e =

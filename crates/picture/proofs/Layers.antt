@@ -1,12 +1,12 @@
 -- Laws of the layers: a layer buffer byte by byte, and what a layer says of the colour beside it.
 -- Assumes nothing.
 use mathlib.Core.Path.{_≡_, refl, sym, ap, _∙_}
-use mathlib.Core.Bool.{Bool, true, false, cond, _&&_, not}
+use mathlib.Core.Bool.{Bool, true, false, _&&_, not}
 use mathlib.Core.List.{List, _++_}
 use Prim.Native.Nat.{ℕ, _+_, _-_, _<_, _≤_}
 use native.Mathlib.Decide.{decLt, ℕ-discrete}
 use native.Mathlib.Omega.{arith}
-use lib.Dec.{eqb, ltb, leb}
+use lib.Dec.{eqb, leb}
 use lib.ListN.{length, drop, set, length-append, length-drop, length-set, List·getD-append}
 use lib.Seq.{ext-getD, getD-drop, getD-set-same, getD-set-other}
 use borrow.Author.Tests.{le-leb, lt-leb}
@@ -68,7 +68,8 @@ length-layersIn b w f =
 pub layersIn-start : (b : List ℕ) (f : ℕ → ℕ) → b ≡ layersIn b 0 f
 layersIn-start b f = layersIn-is b 0 f (omega arith) b refl (λ k h. absurd (omega arith)) (λ k h. refl)
 
-pub layersIn-more : (b : List ℕ) (i : ℕ) (f : ℕ → ℕ) {l l′ : List ℕ} {v : ℕ} → i < length b → l ≡ layersIn b i f → v ≡ f i → l′ ≡ set l i v → l′ ≡ layersIn b (i + 1) f
+pub layersIn-more : (b : List ℕ) (i : ℕ) (f : ℕ → ℕ) {l l′ : List ℕ} {v : ℕ} → i < length b → l ≡ layersIn b i f → v ≡ f i → l′ ≡ set l i v → l′ ≡
+    layersIn b (i + 1) f
 layersIn-more b i f {l} {l′} {v} h e q p =
     let low : i ≤ length b = omega arith in
     let n : length l ≡ length b = ap length e ∙ length-layersIn b i f in
@@ -122,6 +123,8 @@ module _ (s : Stand) (code : ℕ → ℕ) (prio : ℕ → Bool) (c : Canvas) (n 
   unfolding drawn marked
   drawn-solid e =
       let k = x - s .x in
-      let d = both (leb (s .x) x) (s .seen && ((solid (s .start) (s .end) code k && not (heldBack s code prio c k)) && not (struck s code prio c k))) e .1 in
+      let d = both (leb (s .x) x) (s .seen && ((solid (s .start) (s .end) code k && not (heldBack s code prio c k)) && not (struck s code prio c k)))
+      e .1 in
       let m = both (s .seen) ((solid (s .start) (s .end) code k && not (heldBack s code prio c k)) && not (struck s code prio c k)) d .1 in
-      both (solid (s .start) (s .end) code k) (not (heldBack s code prio c k)) (both (solid (s .start) (s .end) code k && not (heldBack s code prio c k)) (not (struck s code prio c k)) m .0) .0
+      both (solid (s .start) (s .end) code k) (not (heldBack s code prio c k))
+      (both (solid (s .start) (s .end) code k && not (heldBack s code prio c k)) (not (struck s code prio c k)) m .0) .0

@@ -1,4 +1,5 @@
--- The rows of the Rust's own test `sprite_coord`, and a row of the home machine, computed from the definitions. (P8 to P11 stand with the other marked examples in crate `demands`.)
+-- The rows of the Rust's own test `sprite_coord`, and a row of the home machine, computed from the definitions. (P8 to P11 stand with the other
+-- marked examples in crate `demands`.)
 -- Assumes nothing.
 use mathlib.Core.Path.{_≡_, refl}
 use mathlib.Core.Bool.{Bool, cond, _&&_}
@@ -10,7 +11,8 @@ use Rattle.laws.specs.Table.{tableFrom, table}
 use Rattle.picture.specs.declared.Stand.{Stand}
 use Rattle.picture.specs.Tile.{codeOf, codeAt, entryAt, tileLine, entryCode, entryColour, entryFront, mapColour, mapFront}
 use Rattle.picture.specs.View.{visibleEnd, visibleSeen, visibleStand, edgeStand, early, home}
-use Rattle.picture.specs.Picture.{back, front, tableAt, topOf, onLine, listed, spriteLine, solid, heldBack, marked, struck, drawn, laid, spriteCode, withSprite, withSprites, bare, picture, filled}
+use Rattle.picture.specs.Picture.{back, front, tableAt, topOf, onLine, listed, spriteLine, solid, heldBack, marked, struck, drawn, laid}
+use Rattle.picture.specs.Picture.{spriteCode, withSprite, withSprites, bare, picture, filled}
 
 -- x, start, end
 abbrev pub spot : Stand → List ℕ
@@ -32,7 +34,8 @@ registers a b (suc zero) = b
 registers a b (suc (suc k)) = 0
 
 abbrev settings : ℕ → ℕ → ℕ → ℕ → ℕ → ℕ → List ℕ
-settings reg1 reg0 line tile top h = (line - 24) ∷ spriteLine (registers reg0 reg1) tile (line - top) ∷ spot (visibleStand (early (registers reg0 reg1)) h)
+settings reg1 reg0 line tile top h =
+    (line - 24) ∷ spriteLine (registers reg0 reg1) tile (line - top) ∷ spot (visibleStand (early (registers reg0 reg1)) h)
 
 pub asserted : List (List ℕ)
 asserted =
@@ -74,5 +77,6 @@ pub homeRow : List ℕ
 homeRow = table 13 (λ x. filled homeRegisters (picture homeMemory homeRegisters (home homeRegisters 0 0)) .colour x)
 
 pub fill-over-sprite : homeRow ≡ 21 ∷ 21 ∷ 21 ∷ 21 ∷ 21 ∷ 21 ∷ 21 ∷ 21 ∷ 31 ∷ 31 ∷ 31 ∷ 31 ∷ 0 ∷ []
-unfolding homeRow table tableFrom filled picture home edgeStand back front tableAt topOf onLine listed spriteLine solid heldBack marked struck drawn laid spriteCode withSprite withSprites bare codeOf codeAt entryAt tileLine entryCode entryColour entryFront mapColour mapFront bit any
+unfolding homeRow table tableFrom filled picture home edgeStand back front tableAt topOf onLine listed spriteLine solid heldBack marked struck drawn
+    laid spriteCode withSprite withSprites bare codeOf codeAt entryAt tileLine entryCode entryColour entryFront mapColour mapFront bit any
 fill-over-sprite = refl

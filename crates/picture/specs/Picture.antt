@@ -1,6 +1,6 @@
 -- R5.4 to R5.12, over any view: `picture m g v` is a row's colour numbers and the status bits that it sets. R20.6: what lies over a finished row.
 -- Assumes nothing.
-use mathlib.Core.Bool.{Bool, true, false, cond, _&&_, _||_, not}
+use mathlib.Core.Bool.{Bool, false, cond, _&&_, _||_, not}
 use mathlib.Core.List.{List, [], _∷_}
 use Prim.Native.Nat.{ℕ, zero, suc, _+_, _-_, _*_, _/_, _%_}
 use lib.Bits.{bitAnd}

@@ -2,33 +2,33 @@
 -- Assumes nothing.
 use mathlib.Core.Path.{_≡_, refl, sym, ap, _∙_, subst}
 use mathlib.Core.Logic.{_⊎_, inl, inr, ⊎-elim}
-use mathlib.Core.List.{List, [], _∷_}
-use mathlib.Core.Bool.{Bool, true, false, cond, _&&_, _||_, not}
+use mathlib.Core.List.{List}
+use mathlib.Core.Bool.{Bool, true, false, cond, _&&_, not}
 use Prim.Native.Nat.{ℕ, zero, suc, _+_, _-_, _%_, _<_, _≤_, min}
 use native.Mathlib.Decide.{decLt}
 use native.Mathlib.Nat.{add-zero}
 use native.Mathlib.Omega.{arith}
 use lib.Bits.{bitOr, or-zero-r}
-use lib.Dec.{eqb, ltb, leb}
+use lib.Dec.{ltb, leb}
 use lib.ListN.{take}
-use borrow.Author.Tests.{lt-ltb, le-ltb, le-leb, lt-leb, ltb-true, leb-true, ltb-false, ne-eqb}
+use borrow.Author.Tests.{lt-ltb, le-ltb, le-leb, lt-leb, ltb-true, leb-true, ne-eqb}
 use Rattle.laws.specs.Bits.{bit}
 use Rattle.laws.specs.Circle.{past}
 use Rattle.laws.specs.Lists.{at}
 use Rattle.laws.proofs.Bits.{bit-above, bit-or}
-use Rattle.laws.proofs.Tests.{both}
 use Rattle.picture.specs.declared.Stand.{Stand}
 use Rattle.picture.specs.declared.RenderArea.{RenderArea}
 use Rattle.picture.specs.declared.RenderArea.the-variants.{VisibleOnly, EffectiveArea, TrueEdges}
 use Rattle.picture.specs.Tile.{codeAt, namesAt, mapColour}
 use Rattle.picture.specs.View.{View, early, cutMark, visible, visibleStand, visibleSeen, visibleEnd, effectiveStand, trueEdges, edgeStand}
-use Rattle.picture.specs.Picture.{Canvas, front, solid, heldBack, marked, struck, drawn, laid, bare, tableAt, topOf, tall, onLine, listed, withSprites, picture}
+use Rattle.picture.specs.Picture.{Canvas, front, solid, heldBack, marked, struck, drawn, laid, bare, tableAt, topOf, tall, onLine, listed}
+use Rattle.picture.specs.Picture.{withSprites, picture}
 use Rattle.picture.specs.Picture.{back as map-at}
 use Rattle.picture.specs.Screen.{pictureOf}
 use Rattle.picture.specs.Area.{screenOf, columns}
 use Rattle.background.specs.Background.{backColour, prioTo, cutOf}
 use Rattle.background.proofs.Views.{back-at, front-at, visible-x, effective-mark}
-use Rattle.sprites.specs.Sprites.{standOf}
+use Rattle.stand.specs.Stand.{standOf}
 use Rattle.sprites.proofs.List.{Going, list-skips}
 use Rattle.pixel.specs.declared.Scene.{Scene}
 use Rattle.pixel.specs.declared.Column.{Column}
@@ -57,7 +57,8 @@ edge-tied : (e h : ℕ) → Tied 0 0 (edgeStand 48 160 e h)
 unfolding edgeStand
 edge-tied e h = record { mark = λ q. refl; prio = λ q. omega arith; edge = λ q. inl refl; within = omega arith }
 
-pub tied : (area : RenderArea) (e h : ℕ) → e ≤ 8 → Tied (offOf area e) (backOf area (standOf (screenOf area) e h .start)) (standOf (screenOf area) e h)
+pub tied : (area : RenderArea) (e h : ℕ) → e ≤ 8 → Tied (offOf area e) (backOf area (standOf (screenOf area) e h .start))
+    (standOf (screenOf area) e h)
 tied VisibleOnly e h l = visible-tied e h l
 tied EffectiveArea e h l = effective-tied e h l
 tied TrueEdges e h l = edge-tied e h
@@ -106,7 +107,8 @@ prio-place col off j mark prio h e =
     sym (back (prio + k) (col + 256 - j) off (ap (λ (n : ℕ). n % 256) (sym r) ∙ a ∙ ap (λ (n : ℕ). n % 256) q))
 
 -- a sprite's column col - x stands `start` to the left of the column's place
-mark-place : (col off start x mark : ℕ) → start < 8 → x ≤ col → (mark + start) % 256 ≡ (x + off) % 256 → leftOf (col + off) start ≡ (mark + (col - x)) % 256
+mark-place : (col off start x mark : ℕ) → start < 8 → x ≤ col → (mark + start) % 256 ≡ (x + off) % 256 → leftOf (col + off) start ≡
+    (mark + (col - x)) % 256
 mark-place col off start x mark s l e =
     let d = col - x in
     let r : mark + start + d ≡ mark + d + start = omega arith in
@@ -125,7 +127,8 @@ when : (t : Bool) {x y : Bool} → (t ≡ true → x ≡ y) → (t && x) ≡ (t 
 when true e = e refl
 when false e = refl
 
-same-tests : (seen left own bits taken mark struck : Bool) → (seen ≡ true → left ≡ true → own ≡ true → (bits ≡ mark) × (taken ≡ struck)) → (own ≡ false → mark ≡ false)
+same-tests : (seen left own bits taken mark struck : Bool) → (seen ≡ true → left ≡ true → own ≡ true → (bits ≡ mark) × (taken ≡ struck)) →
+    (own ≡ false → mark ≡ false)
     → (seen && (left && (own && (bits && not taken)))) ≡ (left && (seen && (mark && not struck)))
 same-tests true true true bits taken mark struck e f = rw (e refl refl refl .0, e refl refl refl .1)
 same-tests true true false bits taken mark struck e f = rw (f refl)
@@ -135,7 +138,8 @@ same-tests false false own bits taken mark struck e f = refl
 
 -- ---- one sprite
 module _
-    (vram : List ℕ) (b : Scene) (s : Stand) (addr col off back : ℕ) (t : Tied off back s) (low : s .end ≤ 8) (cl : col < 256) (f : ℕ → Bool) (c : Canvas)
+    (vram : List ℕ) (b : Scene) (s : Stand) (addr col off back : ℕ) (t : Tied off back s) (low : s .end ≤ 8) (cl : col < 256) (f : ℕ → Bool)
+    (c : Canvas)
     (pe : (i : ℕ) → i < 256 → frontAt vram b i ≡ f i)
   where
     abbrev code : ℕ → ℕ
@@ -147,7 +151,8 @@ module _
         ap (λ (z : Bool). solid (s .start) (s .end) code (past (leftOf (col + off) j) (s .mark)) && not z)
         (when (s .seen) (λ q. pe (leftOf col j) (omega arith) ∙ ap f (prio-place col off j (s .mark) (s .prio) h (t .prio q))))
 
-    module _ (under : Column) (sh : Shows col off c under) (bits : ℕ) (be : (j : ℕ) → j < reachOf col → bit bits j ≡ marksLeft vram b s addr col off j) where
+    module _ (under : Column) (sh : Shows col off c under) (bits : ℕ)
+        (be : (j : ℕ) → j < reachOf col → bit bits j ≡ marksLeft vram b s addr col off j) where
       bit-near : (j : ℕ) → j < reachOf col → bit bits j ≡ marked s code f c (past (leftOf (col + off) j) (s .mark))
       bit-near j h = let k : j < 8 = omega arith in be j h ∙ near j k
 
@@ -191,7 +196,8 @@ module _
           (bits-here q l′ o′, taken-here q l′ o′))
           no-pixel))
 
-      pub column-laid : {r : Column} → r .colour ≡ colourWith vram s addr col back bits (under .taken) (under .colour) → r .taken ≡ bitOr (under .taken) bits
+      pub column-laid : {r : Column} → r .colour ≡ colourWith vram s addr col back bits (under .taken) (under .colour) → r .taken ≡ bitOr
+          (under .taken) bits
           → Shows col off (laid s code f c) r
       column-laid ce te = record { colour = ce ∙ colour-after; mask = λ j h. rw te (mask-after j h) }
 
@@ -231,7 +237,8 @@ from-0 col e h l u = omega arith
 
 -- a column that is so far to the right of the X byte needs no place that is one of the sprite's columns
 module _ (e h col j : ℕ) (el : e ≤ 8) (hl : h < 256) (cl : col < 256) (l : j < reachOf col) where
-  edge-far : 15 - min col 7 ≤ (col + (48 + e) + 256 - h) % 256 → 8 ≤ edgeStand 48 160 e h .start + past (leftOf (col + 0) j) (edgeStand 48 160 e h .mark)
+  edge-far : 15 - min col 7 ≤ (col + (48 + e) + 256 - h) % 256 → 8 ≤ edgeStand 48 160 e h .start + past (leftOf (col + 0) j)
+      (edgeStand 48 160 e h .mark)
   unfolding edgeStand
   edge-far d =
       elim (decLt h (48 + e)) [
@@ -246,12 +253,14 @@ module _ (e h col j : ℕ) (el : e ≤ 8) (hl : h < 256) (cl : col < 256) (l : j
   pub far-at : (area : RenderArea) → 15 - min col 7 ≤ (col + aheadOf area e + 256 - h) % 256
       → 8 ≤ standOf (screenOf area) e h .start + past (leftOf (col + offOf area e) j) (standOf (screenOf area) e h .mark)
   far-at VisibleOnly d =
-      ⊎-elim (λ z. omega arith) (λ z. rw z (let k = far-place (col + (48 + e)) j h (min col 7) hl (omega arith) l d in omega (arith, k))) (visible-mark e h el)
+      ⊎-elim (λ z. omega arith) (λ z. rw z (let k = far-place (col + (48 + e)) j h (min col 7) hl (omega arith) l d in omega (arith, k)))
+      (visible-mark e h el)
   far-at EffectiveArea d = rw (effective-mark-at e h) (let k = far-place (col + e) j h (min col 7) hl (omega arith) l d in omega (arith, k))
   far-at TrueEdges d = edge-far d
 
 module _
-    (vram : List ℕ) (b : Scene) (s : Stand) (addr col off back : ℕ) (low : s .end ≤ 8) (d : (j : ℕ) → j < reachOf col → 8 ≤ s .start + past (leftOf (col + off) j) (s .mark))
+    (vram : List ℕ) (b : Scene) (s : Stand) (addr col off back : ℕ) (low : s .end ≤ 8)
+    (d : (j : ℕ) → j < reachOf col → 8 ≤ s .start + past (leftOf (col + off) j) (s .mark))
   where
     far-column : (j : ℕ) → j < reachOf col → s .end ≤ s .start + past (leftOf (col + off) j) (s .mark)
     far-column j l = let k = d j l in omega (arith, low, k)
@@ -271,10 +280,12 @@ module _
     far-colour taken old = rw (no-bit back, none (s .seen) (leb (s .x) col) (ltb (s .start + (col - s .x)) (s .end)))
 
     -- it changes neither the column nor the places near it
-    pub column-far : (f : ℕ → Bool) (c : Canvas) (under : Column) → Tied off back s → col < 256 → ((i : ℕ) → i < 256 → frontAt vram b i ≡ f i) → Shows col off c under
+    pub column-far : (f : ℕ → Bool) (c : Canvas) (under : Column) → Tied off back s → col < 256 → ((i : ℕ) → i < 256 → frontAt vram b i ≡ f i) →
+        Shows col off c under
         → Shows col off (laid s (codeAt (at vram) addr) f c) under
     column-far f c under t cl pe sh =
-        column-laid vram b s addr col off back t low cl f c pe under sh 0 far-marks (far-colour (under .taken) (under .colour)) (sym (or-zero-r (under .taken)))
+        column-laid vram b s addr col off back t low cl f c pe under sh 0 far-marks (far-colour (under .taken) (under .colour))
+        (sym (or-zero-r (under .taken)))
 
 -- ---- the list
 pub column-starts : (col off : ℕ) (colour : ℕ → ℕ) {r : Column} → r .colour ≡ colour col → r .taken ≡ 0 → Shows col off (bare colour) r
@@ -282,7 +293,8 @@ unfolding bare
 column-starts col off colour e z = record { colour = e; mask = λ j h. rw z (no-bit j) }
 
 -- the search may begin behind sprites that are not on the line
-pub going-from : (m g : ℕ → ℕ) (stand : ℕ → Stand) (l : ℕ) (f : ℕ → Bool) (colour : ℕ → ℕ) {n : ℕ} (S : Canvas → Type 0) → listed m g l 64 0 ≡ listed m g l (64 - n) n
+pub going-from : (m g : ℕ → ℕ) (stand : ℕ → Stand) (l : ℕ) (f : ℕ → Bool) (colour : ℕ → ℕ) {n : ℕ} (S : Canvas → Type 0) → listed m g l 64 0 ≡ listed
+    m g l (64 - n) n
     → S (bare colour) → Going m g stand l f colour n 0 (λ c L. S c)
 going-from m g stand l f colour S e s = record { canvas = bare colour; layer = λ x. 0; shows = s; rest = rw e; owners = rw e; many = rw e }
 
@@ -326,22 +338,27 @@ module _
     (ey : (x : ℕ) → v .mapY x ≡ y) (em : (x : ℕ) → x < v .width → v .markAt x ≡ cutMark cut x)
   where
     view-number : (col : ℕ) {r : ℕ} → col < v .width
-        → ((f : ℕ → Bool) (colour : ℕ → ℕ) → ((i : ℕ) → i < 256 → prioTo vram names sx y cut (v .width) i ≡ f i) → mapColour (at vram) names ((sx + col) % 256) y ≡ colour col
+        → ((f : ℕ → Bool) (colour : ℕ → ℕ) → ((i : ℕ) → i < 256 → prioTo vram names sx y cut (v .width) i ≡ f i) → mapColour (at vram) names
+        ((sx + col) % 256) y ≡ colour col
         → r ≡ withSprites (at vram) (at reg) (v .stand) (v .line) f (take 8 (listed (at vram) (at reg) (v .line) 64 0)) (bare colour) .colour col)
         → r ≡ picture (at vram) (at reg) v .colour col
     unfolding picture backColour
     view-number col l found =
-        found (front (at vram) (at reg) v) (map-at (at vram) (at reg) v) (λ i h. front-at vram reg v names sx y ne ex ey cut em i) (back-at vram reg v names sx y ne ex ey cut em col l)
+        found (front (at vram) (at reg) v) (map-at (at vram) (at reg) v) (λ i h. front-at vram reg v names sx y ne ex ey cut em i)
+        (back-at vram reg v names sx y ne ex ey cut em col l)
 
 pub scrolled-number : (a : RenderArea) (vram reg : List ℕ) (names sx cut scroll row col : ℕ) {r : ℕ}
     → columns a ≡ 160 → at reg 8 < 256 → names ≡ namesAt (at reg) → sx ≡ (304 - at reg 8) % 256 → cut ≡ cutOf (screenOf a) (sx % 8) → col < 160
     → ((f : ℕ → Bool) (colour : ℕ → ℕ) → ((i : ℕ) → i < 256 → prioTo vram names sx ((row + 24 + scroll) % 224) cut 160 i ≡ f i)
     → mapColour (at vram) names ((sx + col) % 256) ((row + 24 + scroll) % 224) ≡ colour col
-    → r ≡ withSprites (at vram) (at reg) (standOf (screenOf a) (early (at reg))) (row + 24) f (take 8 (listed (at vram) (at reg) (row + 24) 64 0)) (bare colour) .colour col)
+    → r ≡ withSprites (at vram) (at reg) (standOf (screenOf a) (early (at reg))) (row + 24) f (take 8 (listed (at vram) (at reg) (row + 24) 64 0))
+    (bare colour) .colour col)
     → r ≡ pictureOf (screenOf a) reg scroll vram row .colour col
 unfolding pictureOf visible trueEdges
 scrolled-number VisibleOnly vram reg names sx cut scroll row col w low ne se ce l found =
-    view-number vram reg (visible (at reg) scroll row) names sx ((row + 24 + scroll) % 224) cut ne (λ x h. rw se (visible-x (at reg 8) x low)) (λ x. refl) (λ x h. rw (ce, se)) col l found
+    view-number vram reg (visible (at reg) scroll row) names sx ((row + 24 + scroll) % 224) cut ne (λ x h. rw se (visible-x (at reg 8) x low))
+    (λ x. refl) (λ x h. rw (ce, se)) col l found
 scrolled-number EffectiveArea vram reg names sx cut scroll row col w low ne se ce l found = absurd (omega arith)
 scrolled-number TrueEdges vram reg names sx cut scroll row col w low ne se ce l found =
-    view-number vram reg (trueEdges (at reg) scroll row) names sx ((row + 24 + scroll) % 224) cut ne (λ x h. rw se (visible-x (at reg 8) x low)) (λ x. refl) (λ x h. rw ce (effective-mark x (omega arith))) col l found
+    view-number vram reg (trueEdges (at reg) scroll row) names sx ((row + 24 + scroll) % 224) cut ne (λ x h. rw se (visible-x (at reg 8) x low))
+    (λ x. refl) (λ x h. rw ce (effective-mark x (omega arith))) col l found

@@ -12,7 +12,7 @@ ghost use Rattle.picture.specs.Picture.{Canvas, spriteLine, laid, listed, withS
 ghost use Rattle.picture.specs.declared.RenderArea.the-variants.{VisibleOnly, EffectiveArea};
 ghost use Rattle.picture.specs.Area.{screenOf, columns, rows, pictureOf};
 ghost use Rattle.background.specs.Background.{Room, backFront};
-ghost use Rattle.sprites.specs.Sprites.{standOf, Fits};
+ghost use Rattle.stand.specs.Stand.{standOf, Fits};
 ghost use Rattle.pixel.specs.Column.{Set, Clear, frontAt, offOf, aheadOf, backOf, reachOf, marksLeft, colourWith, Tied, Shows};
 ghost use Rattle.pixel.specs.Pixel.{inArea, noSpot, spotOf};
 use picture::RenderArea;
@@ -330,7 +330,7 @@ fn sprite_at(
     if far <= (col + ahead_of(area, e) + 256 - small::wide(h)) % 256 {
         return under;
     }
-    let s = sprites::settings(picture::screen_of(area), e, h);
+    let s = stand::settings(picture::screen_of(area), e, h);
     let addr = sprites::line_at(reg, vram[k + 1], d);
     let back = back_of(area, s.start);
     with_sprite(vram, b, s, addr, col, off, back, under)

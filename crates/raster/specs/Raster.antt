@@ -1,6 +1,6 @@
 -- R4.1, R4.4 (the half of the line count) and R4.5: what a step does to the raster x, by the registers g.
 -- Assumes nothing.
-use mathlib.Core.Bool.{Bool, true, false, cond, not, _&&_, _||_}
+use mathlib.Core.Bool.{Bool, false, cond, not, _&&_, _||_}
 use Prim.Native.Nat.{ℕ, _+_, _-_, _%_}
 use lib.Dec.{eqb, ltb}
 use Rattle.laws.specs.Bits.{bit}

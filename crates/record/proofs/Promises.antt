@@ -1,16 +1,16 @@
 -- What is written reads back, and what is read is written again.
 -- Assumes nothing.
 use mathlib.Core.Path.{_≡_, refl, sym, ap, _∙_}
-use mathlib.Core.Bool.{Bool, true, false, cond, _&&_}
+use mathlib.Core.Bool.{Bool, true, false}
 use mathlib.Core.List.{List, [], _∷_, _++_, append-assoc, append-nil}
 use Prim.Native.Nat.{ℕ, zero, suc, _+_, _-_, _*_, _<_, _≤_}
-use native.Mathlib.Nat.{add-zero, zero-add}
+use native.Mathlib.Nat.{add-zero}
 use native.Mathlib.Decide.{decLt}
 use native.Mathlib.Omega.{arith}
 use borrow.Author.Tests.{ltb-false, leb-true, eqb-true, eqb-false, le-ltb, le-leb, lt-leb}
 use lib.Dec.{ltb, leb, eqb, lit≤}
 use lib.ListN.{length, take, drop, length-append, drop-of-length-le, List·getD-eq-default}
-use lib.Seq.{length-take-le, take-at, drop-cons, getD-take, take-nil}
+use lib.Seq.{length-take-le, take-at, drop-cons, getD-take}
 use Rattle.laws.specs.Lists.{at, written}
 use Rattle.laws.proofs.Lists.{length-written, written-nil, written-on}
 use Rattle.laws.proofs.Parts.{at-past}
@@ -110,7 +110,8 @@ marked-on s k n m =
 not-yet : (s : List ℕ) (k : ℕ) → leb (length s) k ≡ false → isEnd (recordAt s k) ≡ false
 unfolding recordAt
 not-yet s k t =
-    rw t (either (λ (r : Record). isEnd r ≡ false) (ltb (length s - k) 3) (λ _. refl) (λ _. marked-on s k (length s - k) (256 * at s k + at s (k + 1))))
+    rw t (either (λ (r : Record). isEnd r ≡ false) (ltb (length s - k) 3) (λ _. refl)
+    (λ _. marked-on s k (length s - k) (256 * at s k + at s (k + 1))))
 
 ended : (s : List ℕ) (k : ℕ) → recordAt s k ≡ End → length s ≤ k
 ended s k e = split (leb (length s) k) (λ t. leb-true (length s) k t) (λ t. clash (sym (ap isEnd e) ∙ not-yet s k t))

@@ -1,7 +1,7 @@
 -- Laws of one record: where it lies, what room it has, and what the writer leaves.
 -- Assumes nothing.
 use mathlib.Core.Path.{_≡_, refl, sym, ap, _∙_}
-use mathlib.Core.Bool.{Bool, true, false, not}
+use mathlib.Core.Bool.{Bool, true, false}
 use mathlib.Core.List.{List, []}
 use Prim.Native.Nat.{ℕ, _+_, _-_, _*_, _<_, _≤_}
 use native.Mathlib.Omega.{arith}
@@ -14,7 +14,6 @@ use Rattle.laws.proofs.Tests.{either, split, clash}
 use Rattle.vdp.specs.declared.Refusal.the-variants.{Accepted, RecordRoom}
 use Rattle.record.specs.declared.Record.{Record}
 use Rattle.record.specs.declared.Record.the-variants.{Write, Read, Step, Bad, End}
-use Rattle.record.specs.declared.Recorded.{Recorded}
 use Rattle.record.specs.Record.{recordAt, marked}
 use Rattle.record.specs.Writer.{recordBytes, size, recorded, RecordLeaves}
 use Rattle.record.specs.Reader.{isCall}

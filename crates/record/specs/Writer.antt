@@ -8,7 +8,6 @@ use lib.ListN.{length}
 use Rattle.laws.specs.Lists.{written}
 use Rattle.picture.specs.declared.RenderArea.{RenderArea}
 use Rattle.picture.specs.declared.RenderArea.the-variants.{VisibleOnly, EffectiveArea, TrueEdges}
-use Rattle.vdp.specs.declared.Refusal.{Refusal}
 use Rattle.vdp.specs.declared.Refusal.the-variants.{RecordRoom}
 use Rattle.vdp.specs.Refusals.{Line, line, first, under}
 use Rattle.record.specs.declared.Record.{Record}

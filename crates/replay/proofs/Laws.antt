@@ -18,7 +18,8 @@ use Rattle.raster.specs.declared.LineTable.the-variants.{Steps261}
 use Rattle.block.specs.Block.{fits}
 use Rattle.face.proofs.Blocks.{new-on}
 use Rattle.face.specs.Face.{Called, Leaves, newTableCall, outCall, inputCall, rowStepCall}
-use Rattle.replay.specs.Replay.{sumOf, rowSum, agreed, World, world, turn, wrote, read, stepped, turned, Run, run, after, ran, start, tallied, replayed}
+use Rattle.replay.specs.Replay.{sumOf, rowSum, agreed, World, world, turn, wrote, read, stepped, turned, Run, run, after, ran, start, tallied}
+use Rattle.replay.specs.Replay.{replayed}
 
 -- ---- checksums
 pub part-low : (i b : ℕ) → i < 1024 → b < 256 → (i + 1) * b ≤ 261120
@@ -48,7 +49,8 @@ module _ (l : List ℕ) (k : ℕ) (w : World) where
       → t ≡ agreed l k n b′ 0 → turn t (world b′ m′ (w .row)) ≡ turned l k w
   unfolding turned wrote
   wrote-turn e {b′ = b′} {m′ = m′} ep c q =
-      ap (λ (s : Bool). turn s (world b′ m′ (w .row))) q ∙ ap (wrote l k w) (called _ c ∙ ap (λ (p : ℕ). outCall (w .block) (w .vram) p (at l (k + 2))) ep) ∙ sym (rw e)
+      ap (λ (s : Bool). turn s (world b′ m′ (w .row))) q ∙ ap (wrote l k w)
+      (called _ c ∙ ap (λ (p : ℕ). outCall (w .block) (w .vram) p (at l (k + 2))) ep) ∙ sym (rw e)
 
   pub read-turn :
       at l k ≡ 0x52 → {p n : ℕ} {b′ : List ℕ} {t : Bool} → p ≡ at l (k + 1) → Leaves (inputCall (w .block) (w .vram) p) n b′ []
@@ -81,7 +83,8 @@ module _ (l m x : List ℕ) where
       ap (λ (k : List ℕ). run 0 true (world k m x)) (sym (e .block ∙ ap (λ (c : Called). c .block) (new-on b Steps261 room) ∙ rw h))
 
   -- after i records that agree, one more
-  pub run-on : (i : ℕ) {w w′ : World} {t : Bool} → upTo i ≡ run i true w → turn t w′ ≡ turned l (16 * i) w → t ≡ true → upTo (i + 1) ≡ run (i + 1) true w′
+  pub run-on : (i : ℕ) {w w′ : World} {t : Bool} → upTo i ≡ run i true w → turn t w′ ≡ turned l (16 * i) w → t ≡ true → upTo (i + 1) ≡ run (i + 1)
+      true w′
   unfolding ran after
   run-on i e q h = rw (add-one i, e, ← q, h, add-one i)
 
@@ -103,6 +106,7 @@ module _ (l m x : List ℕ) where
       let n : suc i + (length l / 16 - suc i) ≡ length l / 16 = omega arith in
       sym (ap (λ (r : Run). tallied l r) (rw n at (stays (suc i) (length l / 16 - suc i) (stopped i e q f))))
 
-  pub agree : (i : ℕ) {w : World} → i ≡ length l / 16 → upTo i ≡ run i true w → record { count = length l / 16; same = eqb (length l % 16) 0 } ≡ replayed l m x
+  pub agree : (i : ℕ) {w : World} → i ≡ length l / 16 → upTo i ≡ run i true w → record { count = length l / 16; same = eqb (length l % 16) 0 } ≡
+      replayed l m x
   unfolding replayed tallied
   agree i h e = sym (ap (λ (r : Run). tallied l r) (rw h at e))

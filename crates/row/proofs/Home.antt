@@ -30,7 +30,7 @@ use Rattle.picture.specs.Layers.{layersOf, layersIn}
 use Rattle.picture.specs.Screen.{columns, pictureOf}
 use Rattle.background.specs.Background.{backColour, backFront, shade, prioTo}
 use Rattle.background.proofs.Views.{effective-mark}
-use Rattle.sprites.specs.Sprites.{standOf}
+use Rattle.stand.specs.Stand.{standOf}
 use Rattle.row.specs.Row.{Drawn}
 use Rattle.row.proofs.Laws.{as-bytes, row-is, Sprites}
 
@@ -61,14 +61,16 @@ module _ (p q : List ℕ) (x : ℕ) (pl : length p ≡ x * 4) where
       rw (zero-add n) (put-in (painted ys 0 n f) n (f n) (painted-in ys n f (omega arith)) r)
 
 -- the columns from 192 on, as a part of the row
-part-painted : (l : List ℕ) (f : ℕ → ℕ) {ys : List ℕ} → 1024 ≤ length l → ys ≡ painted (midOf 768 256 l) 0 64 f → putMid 768 256 l ys ≡ painted l 192 64 f
+part-painted : (l : List ℕ) (f : ℕ → ℕ) {ys : List ℕ} → 1024 ≤ length l → ys ≡ painted (midOf 768 256 l) 0 64 f → putMid 768 256 l ys ≡ painted l 192
+    64 f
 part-painted l f h e =
     let r : 64 * 4 ≤ length (midOf 768 256 l) = omega (arith, mid-len 768 1024 l h) in
     ap (λ (z : List ℕ). putMid 768 256 l z) e
     ∙ painted-in (take 768 l) (postOf 768 256 l) 192 (length-take-le 768 l (omega arith)) (midOf 768 256 l) 64 f r
     ∙ ap (λ (z : List ℕ). painted z 192 64 f) (put-same 768 256 l)
 
-pub home-runs : (row₀ : List ℕ) (f g : ℕ → ℕ) {row₁ ys : List ℕ} → 1024 ≤ length row₀ → row₁ ≡ painted row₀ 0 192 f → ys ≡ painted (midOf 768 256 row₁) 0 64 g
+pub home-runs : (row₀ : List ℕ) (f g : ℕ → ℕ) {row₁ ys : List ℕ} → 1024 ≤ length row₀ → row₁ ≡ painted row₀ 0 192 f → ys ≡ painted
+    (midOf 768 256 row₁) 0 64 g
     → putMid 768 256 row₁ ys ≡ painted (painted row₀ 0 192 f) 192 64 g
 home-runs row₀ f g {row₁} h e d =
     let r : 1024 ≤ length row₁ = rw (e, length-painted) h in
@@ -86,14 +88,16 @@ prio-own : (vram : List ℕ) (names sx y n i : ℕ) → n ≤ 256 → i < n → 
 unfolding prioTo
 prio-own vram names sx y n i h l =
     let low : i < 256 = omega arith in
-    any-cong n (λ x. eqb (cutMark 0 x) i && backFront vram names sx y x) (λ x. eqb x i && backFront vram names sx y x) (λ x k. let b : x < 256 = omega arith in rw (← effective-mark x b))
+    any-cong n (λ x. eqb (cutMark 0 x) i && backFront vram names sx y x) (λ x. eqb x i && backFront vram names sx y x)
+    (λ x k. let b : x < 256 = omega arith in rw (← effective-mark x b))
     ∙ own-place n i (backFront vram names sx y) h low
     ∙ rw (lt-ltb i n l)
 
 -- ---- what the two runs show is what the view asks of the map
 module _
     (vram reg : List ℕ) (names sx y last scroll line : ℕ) (low : at reg 8 < 256) (ne : names ≡ namesAt (at reg))
-    (se : sx ≡ cond (bit (at reg 0) 6 && ltb line 16) 0 ((256 - at reg 8) % 256)) (ye : y ≡ (line + scroll) % 224) (le : last ≡ cond (bit (at reg 0) 7) line y)
+    (se : sx ≡ cond (bit (at reg 0) 6 && ltb line 16) 0 ((256 - at reg 8) % 256)) (ye : y ≡ (line + scroll) % 224)
+    (le : last ≡ cond (bit (at reg 0) 7) line y)
   where
     abbrev v : View
     v = home (at reg) scroll line
@@ -125,12 +129,16 @@ module _
         rw (home-x (192 + i) b, home-right (192 + i) d, further i, ne)
 
     pub home-back : (row₀ colours : List ℕ)
-        → painted (painted row₀ 0 192 (shade colours (backColour vram names sx y))) 192 64 (shade colours (backColour vram names ((sx + 192) % 256) last))
+        → painted (painted row₀ 0 192 (shade colours (backColour vram names sx y))) 192 64
+        (shade colours (backColour vram names ((sx + 192) % 256) last))
         ≡ painted row₀ 0 256 (λ x. at colours (back (at vram) (at reg) v x))
     home-back row₀ colours =
         painted-on row₀ 192 64 (λ x. at colours (back (at vram) (at reg) v x))
-        (painted-cong row₀ 0 192 (shade colours (backColour vram names sx y)) (λ x. at colours (back (at vram) (at reg) v x)) (λ x h. ap (at colours) (back-left x h)))
-        (painted-cong (painted row₀ 0 192 (shade colours (backColour vram names sx y))) 192 64 (shade colours (backColour vram names ((sx + 192) % 256) last)) (λ i. at colours (back (at vram) (at reg) v (192 + i))) (λ i h. ap (at colours) (back-right i h)))
+        (painted-cong row₀ 0 192 (shade colours (backColour vram names sx y)) (λ x. at colours (back (at vram) (at reg) v x))
+        (λ x h. ap (at colours) (back-left x h)))
+        (painted-cong (painted row₀ 0 192 (shade colours (backColour vram names sx y))) 192 64
+        (shade colours (backColour vram names ((sx + 192) % 256) last)) (λ i. at colours (back (at vram) (at reg) v (192 + i)))
+        (λ i h. ap (at colours) (back-right i h)))
 
     front-own : (i : ℕ) → i < 256 → front (at vram) (at reg) v i ≡ mapFront (at vram) (namesAt (at reg)) (v .mapX i) (v .mapY i)
     unfolding front home
@@ -149,7 +157,8 @@ module _
         let d : ((sx + 192) % 256 + (i - 192)) % 256 ≡ (sx + i) % 256 = omega arith in
         prio-own vram names ((sx + 192) % 256) last 64 (i - 192) (omega arith) k ∙ rw (front-own i b, home-x i b, home-right i h, d, ne)
 
-    pub home-front : joined (bytesOf (prioTo vram names sx y 0 192)) (bytesOf (prioTo vram names ((sx + 192) % 256) last 0 64)) ≡ bytesOf (front (at vram) (at reg) v)
+    pub home-front : joined (bytesOf (prioTo vram names sx y 0 192)) (bytesOf (prioTo vram names ((sx + 192) % 256) last 0 64)) ≡ bytesOf
+        (front (at vram) (at reg) v)
     home-front =
         joined-bytesOf _ _
         ∙ bytesOf-ext _ _
@@ -161,13 +170,15 @@ module _
 
 -- ---- the fill
 -- one pixel more of it
-pub fill-step : (row₀ : List ℕ) (i c : ℕ) {row row′ : List ℕ} → row ≡ painted row₀ 0 i (λ k. c) → row′ ≡ put row i c → row′ ≡ painted row₀ 0 (i + 1) (λ k. c)
+pub fill-step : (row₀ : List ℕ) (i c : ℕ) {row row′ : List ℕ} → row ≡ painted row₀ 0 i (λ k. c) → row′ ≡ put row i c → row′ ≡ painted row₀ 0 (i + 1)
+    (λ k. c)
 fill-step row₀ i c {row} e p = painted-step row₀ 0 i (λ k. c) e refl (p ∙ ap (λ (k : ℕ). put row k c) (sym (zero-add i)))
 
 first-test : (t u s : Bool) (c d : ℕ) → t ≡ true → u ≡ s → cond (t && (u && true)) c d ≡ cond s c d
 first-test t u s c d e q = rw (e, q, and-true s)
 
-fill-painted : (row₀ : List ℕ) (f : ℕ → ℕ) (c : ℕ) → 1024 ≤ length row₀ → painted (painted row₀ 0 256 f) 0 8 (λ i. c) ≡ painted row₀ 0 256 (λ x. cond (ltb x 8) c (f x))
+fill-painted : (row₀ : List ℕ) (f : ℕ → ℕ) (c : ℕ) → 1024 ≤ length row₀ → painted (painted row₀ 0 256 f) 0 8 (λ i. c) ≡ painted row₀ 0 256
+    (λ x. cond (ltb x 8) c (f x))
 fill-painted row₀ f c h =
     painted-overlaid (painted row₀ 0 256 f) 0 8 (λ i. c)
     ∙ overlaid-painted row₀ 256 f 0 8 (λ i. true) (λ i. c) (λ i l e. omega arith) (omega arith)
@@ -183,10 +194,12 @@ over-colours : (t : Bool) (row₀ colours : List ℕ) (f : ℕ → ℕ) (n : ℕ
     ≡ painted row₀ 0 256 (λ x. at colours (cond (t && ltb x 8) n (f x)))
 over-colours true row₀ colours f n h =
     fill-painted row₀ (λ x. at colours (f x)) (at colours n) h
-    ∙ painted-cong row₀ 0 256 (λ x. cond (ltb x 8) (at colours n) (at colours (f x))) (λ x. at colours (cond (ltb x 8) n (f x))) (λ x l. cond-in (at colours) (ltb x 8) n (f x))
+    ∙ painted-cong row₀ 0 256 (λ x. cond (ltb x 8) (at colours n) (at colours (f x))) (λ x. at colours (cond (ltb x 8) n (f x)))
+    (λ x l. cond-in (at colours) (ltb x 8) n (f x))
 over-colours false row₀ colours f n h = refl
 
-shown-row : (t : Bool) (row₀ colours : List ℕ) (f : ℕ → ℕ) (n : ℕ) {row₂ row₃ : List ℕ} {on : Bool} {c : ℕ} → 1024 ≤ length row₀ → on ≡ t → c ≡ at colours n
+shown-row : (t : Bool) (row₀ colours : List ℕ) (f : ℕ → ℕ) (n : ℕ) {row₂ row₃ : List ℕ} {on : Bool} {c : ℕ} → 1024 ≤ length row₀ → on ≡ t → c ≡ at
+    colours n
     → row₂ ≡ painted row₀ 0 256 (λ x. at colours (f x)) → row₃ ≡ cond on (painted row₂ 0 8 (λ i. c)) row₂
     → row₃ ≡ painted row₀ 0 256 (λ x. at colours (cond (t && ltb x 8) n (f x)))
 shown-row t row₀ colours f n {row₂} {row₃} {on} {c} h oe ce re fe =
@@ -197,14 +210,20 @@ shown-row t row₀ colours f n {row₂} {row₃} {on} {c} h oe ce re fe =
     ∙ over-colours t row₀ colours f n h
 
 -- ---- the row
-pub home-row : (vram reg : List ℕ) (names sx y last scroll line : ℕ) (row₀ layers₀ colours : List ℕ) {row₁ row₂ row₃ layers₁ layers′ prio : List ℕ} {hit ninth on : Bool} {bits c : ℕ}
-    → at reg 8 < 256 → names ≡ namesAt (at reg) → sx ≡ cond (bit (at reg 0) 6 && ltb line 16) 0 ((256 - at reg 8) % 256) → y ≡ (line + scroll) % 224 → last ≡ cond (bit (at reg 0) 7) line y
+pub home-row : (vram reg : List ℕ) (names sx y last scroll line : ℕ) (row₀ layers₀ colours : List ℕ) {row₁ row₂ row₃ layers₁ layers′ prio : List ℕ}
+    {hit ninth on : Bool} {bits c : ℕ}
+    → at reg 8 < 256 → names ≡ namesAt (at reg) → sx ≡ cond (bit (at reg 0) 6 && ltb line 16) 0 ((256 - at reg 8) % 256) → y ≡ (line + scroll) %
+    224 → last ≡ cond (bit (at reg 0) 7) line y
     → 1024 ≤ length row₀
-    → row₁ ≡ painted (painted row₀ 0 192 (shade colours (backColour vram names sx y))) 192 64 (shade colours (backColour vram names ((sx + 192) % 256) last))
-    → prio ≡ joined (bytesOf (prioTo vram names sx y 0 192)) (bytesOf (prioTo vram names ((sx + 192) % 256) last 0 64)) → layers₁ ≡ layersIn layers₀ 256 (λ x. 0)
-    → Sprites (at vram) (at reg) (standOf Home (early (at reg))) line colours 256 prio row₁ row₂ layers₁ layers′ hit ninth → bits ≡ cond hit 32 0 + cond ninth 64 0
+    → row₁ ≡ painted (painted row₀ 0 192 (shade colours (backColour vram names sx y))) 192 64
+    (shade colours (backColour vram names ((sx + 192) % 256) last))
+    → prio ≡ joined (bytesOf (prioTo vram names sx y 0 192)) (bytesOf (prioTo vram names ((sx + 192) % 256) last 0 64)) → layers₁ ≡ layersIn layers₀
+    256 (λ x. 0)
+    → Sprites (at vram) (at reg) (standOf Home (early (at reg))) line colours 256 prio row₁ row₂ layers₁ layers′ hit ninth → bits ≡ cond hit 32 0 +
+    cond ninth 64 0
     → on ≡ bit (at reg 0) 5 → c ≡ at colours (16 + at reg 7 % 16) → row₃ ≡ cond on (painted row₂ 0 8 (λ i. c)) row₂
-    → Drawn Home colours (pictureOf Home reg scroll vram line) row₀ row₃ bits × (layers′ ≡ layersIn layers₀ (columns Home) (layersOf Home reg scroll vram line))
+    → Drawn Home colours (pictureOf Home reg scroll vram line) row₀ row₃ bits ×
+    (layers′ ≡ layersIn layers₀ (columns Home) (layersOf Home reg scroll vram line))
 unfolding pictureOf layersOf home filled picture
 home-row vram reg names sx y last scroll line row₀ layers₀ colours low ne se ye te room re pe le drawn be oe ce fe =
     let v : View = home (at reg) scroll line in
@@ -216,7 +235,8 @@ home-row vram reg names sx y last scroll line row₀ layers₀ colours low ne se
     let d = row-is (at vram) (at reg) v row₀ layers₀ colours room f be in
     let p = picture (at vram) (at reg) v in (
       record {
-        bytes = as-bytes row₀ colours 256 (filled (at reg) p) (shown-row (bit (at reg 0) 5) row₀ colours (λ x. p .colour x) (16 + at reg 7 % 16) room oe ce (f .bytes) fe) room;
+        bytes = as-bytes row₀ colours 256 (filled (at reg) p)
+            (shown-row (bit (at reg 0) 5) row₀ colours (λ x. p .colour x) (16 + at reg 7 % 16) room oe ce (f .bytes) fe) room;
         status = d .1;
       },
       d .2,

@@ -2,7 +2,7 @@
 -- Assumes nothing.
 use mathlib.Core.Path.{_≡_, refl, sym, ap, _∙_}
 use mathlib.Core.Logic.{_⊎_, ⊎-elim}
-use mathlib.Core.Bool.{Bool, true, false, cond, not, _||_, _&&_}
+use mathlib.Core.Bool.{Bool, true, false, not}
 use mathlib.Core.List.{List, [], _∷_, _++_, append-nil}
 use Prim.Native.Nat.{ℕ, zero, suc, _+_, _≤_, _<_}
 use native.Mathlib.Numerals.{add-one}
@@ -58,7 +58,8 @@ module _ (b : List ℕ) {cache made : List ℕ} (ec : cache ≡ stateOf b .«col
       let all : any 32 (unlikeAt cache made) ≡ false = rw t at e in
       sym (rw (← ec, ← em, all))
 
-pub like-more : (cache made : List ℕ) (i : ℕ) → any i (unlikeAt cache made) ≡ false → at cache i ≡ at made i → any (i + 1) (unlikeAt cache made) ≡ false
+pub like-more : (cache made : List ℕ) (i : ℕ) → any i (unlikeAt cache made) ≡ false → at cache i ≡ at made i → any (i + 1) (unlikeAt cache made) ≡
+    false
 unfolding any
 like-more cache made i e h = rw (add-one i, eq-eqb (at cache i) (at made i) h) e
 
@@ -149,7 +150,8 @@ module _ (b l : List ℕ) where
       record { refusal = e ∙ sym (rw (h, t)); count = f ∙ sym (rw (h, t)); block = sym (rw (h, t)); list = sym (rw (h, t)) }
 
   pub done :
-      sized (length b) ≡ true → 220 ≤ length l → {r : Repaired} {b′ l′ : List ℕ} → r .refusal ≡ Accepted → r .count ≡ length (changes b) → b′ ≡ mended b
+      sized (length b) ≡ true → 220 ≤ length l → {r : Repaired} {b′ l′ : List ℕ} → r .refusal ≡ Accepted → r .count ≡ length (changes b) → b′ ≡
+      mended b
       → l′ ≡ written l 0 (changes b) → RepairLeaves b l r b′ l′
   done h s e f g i =
       let t = le-ltb (length l) 220 s in

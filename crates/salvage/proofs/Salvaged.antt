@@ -1,29 +1,27 @@
 -- What a repair is good for, proved.
 -- Assumes nothing.
 use mathlib.Core.Path.{_≡_, refl, sym, ap, subst, _∙_}
-use mathlib.Core.Logic.{_≢_, _↔_}
+use mathlib.Core.Logic.{_≢_}
 use mathlib.Core.Bool.{Bool, true, false, cond, not, _&&_, _||_, or-false}
 use mathlib.Core.List.{List, [], _∷_, _++_, append-nil}
 use Prim.Native.Nat.{ℕ, zero, suc, _+_, _*_, _/_, _%_, _≤_, _<_}
 use native.Mathlib.Nat.{mod-lt, mod-eq-of-lt}
 use native.Mathlib.Omega.{arith}
-use borrow.Author.Tests.{eq-eqb, ne-eqb, eqb-true, eqb-false, le-leb, leb-true, lt-ltb, ltb-true}
-use lib.Dec.{eqb, leb, ltb}
-use lib.ListN.{length, take, drop, List·getD-eq-default}
+use borrow.Author.Tests.{eq-eqb, ne-eqb, eqb-true, eqb-false, le-leb, lt-ltb, ltb-true}
+use lib.Dec.{eqb, ltb}
+use lib.ListN.{length, List·getD-eq-default}
 use lib.Seq.{ext-getD}
-use Rattle.laws.specs.Bits.{any}
 use Rattle.laws.specs.Lists.{at}
 use Rattle.laws.specs.Table.{table, tableFrom}
 use Rattle.laws.proofs.Parts.{part-table}
 use Rattle.laws.proofs.Tests.{split, both, clash, either}
-use Rattle.colour.specs.Colour.{coloursOf}
 use Rattle.vdp.specs.declared.WriteDest.{WriteDest}
 use Rattle.vdp.specs.declared.WriteDest.the-variants.{None, Vram, Cram}
 use Rattle.vdp.specs.Refusals.{size}
 use Rattle.block.specs.Block.{sized, markOf, flagFrom, chosenFrom, colourAt, coloursAt, stateOf, latchFits, wellFormed}
-use Rattle.block.proofs.Whole.{sized-low, sized-high, length-of, long}
+use Rattle.block.proofs.Whole.{sized-low}
 use Rattle.block.proofs.RoundTrip.{Said, said}
-use Rattle.salvage.specs.Repair.{within, held, choice, address, matching, dirty, mendedAt, mended, differing, changes}
+use Rattle.salvage.specs.Repair.{within, held, choice, address, matching, dirty, mendedAt, mended, differing}
 use Rattle.salvage.specs.Salvaged.{nothingWrong, among, Salvaged}
 use Rattle.salvage.proofs.Laws.{within-low, length-mended, at-mended}
 
@@ -78,7 +76,22 @@ table-same (suc n) k f g h = λ i. h k (omega arith) (omega arith) i ∷ table-s
 same-byte : (b : List ℕ) (k : ℕ) → 27 ≤ k → k < 219 → mendedAt b k ≡ at b k
 unfolding mendedAt
 same-byte b k l h =
-    rw (ne-eqb k 0 (λ e. omega arith), ne-eqb k 1 (λ e. omega arith), ne-eqb k 15 (λ e. omega arith), ne-eqb k 17 (λ e. omega arith), ne-eqb k 18 (λ e. omega arith), ne-eqb k 20 (λ e. omega arith), ne-eqb k 21 (λ e. omega arith), ne-eqb k 22 (λ e. omega arith), ne-eqb k 23 (λ e. omega arith), ne-eqb k 24 (λ e. omega arith), ne-eqb k 26 (λ e. omega arith), ne-eqb k 219 (λ e. omega arith))
+    rw (
+      ne-eqb k 0 (λ e. omega arith),
+      ne-eqb k 1 (λ e. omega arith),
+      ne-eqb k 15 (λ e. omega arith),
+      ne-eqb k 17 (λ e. omega arith),
+      ne-eqb k 18
+          (λ e. omega arith),
+      ne-eqb k 20 (λ e. omega arith),
+      ne-eqb k 21 (λ e. omega arith),
+      ne-eqb k 22 (λ e. omega arith),
+      ne-eqb k 23
+          (λ e. omega arith),
+      ne-eqb k 24 (λ e. omega arith),
+      ne-eqb k 26 (λ e. omega arith),
+      ne-eqb k 219 (λ e. omega arith),
+    )
 
 module _ (b : List ℕ) (s : sized (length b) ≡ true) where
   m : List ℕ
@@ -109,13 +122,30 @@ module _ (b : List ℕ) (s : sized (length b) ≡ true) where
   m-sized = rw (length-mended b) s
 
   -- each byte that the rules speak of
-  unfolding-0 : (at m 0 ≡ 0x56) × (at m 1 ≡ markOf (length m)) × (at m 15 ≡ within 1 (at b 15)) × (at m 17 ≡ address b % 256) × (at m 18 ≡ address b / 256)
+  unfolding-0 : (at m 0 ≡ 0x56) × (at m 1 ≡ markOf (length m)) × (at m 15 ≡ within 1 (at b 15)) × (at m 17 ≡ address b % 256) ×
+      (at m 18 ≡ address b / 256)
   unfolding m mendedAt
-  unfolding-0 = (byte 0 (omega arith), byte 1 (omega arith) ∙ ap markOf (sym (length-mended b)), byte 15 (omega arith), byte 17 (omega arith), byte 18 (omega arith))
+  unfolding-0 = (
+    byte 0 (omega arith),
+    byte 1 (omega arith) ∙ ap markOf (sym (length-mended b)),
+    byte 15 (omega arith),
+    byte 17 (omega arith),
+    byte
+        18 (omega arith),
+  )
 
-  unfolding-1 : (at m 20 ≡ choice b) × (at m 21 ≡ within 1 (at b 21)) × (at m 22 ≡ held (within 1 (at b 21)) (at b 22)) × (at m 23 ≡ within 1 (at b 23)) × (at m 24 ≡ held (within 1 (at b 23)) (at b 24)) × (at m 26 ≡ dirty b)
+  unfolding-1 : (at m 20 ≡ choice b) × (at m 21 ≡ within 1 (at b 21)) × (at m 22 ≡ held (within 1 (at b 21)) (at b 22)) ×
+      (at m 23 ≡ within 1 (at b 23)) × (at m 24 ≡ held (within 1 (at b 23)) (at b 24)) × (at m 26 ≡ dirty b)
   unfolding mendedAt
-  unfolding-1 = (byte 20 (omega arith), byte 21 (omega arith), byte 22 (omega arith), byte 23 (omega arith), byte 24 (omega arith), byte 26 (omega arith))
+  unfolding-1 = (
+    byte 20 (omega arith),
+    byte 21 (omega arith),
+    byte 22 (omega arith),
+    byte 23 (omega arith),
+    byte 24 (omega arith),
+    byte 26
+        (omega arith),
+  )
 
   dirty-low : dirty b ≤ 1
   unfolding dirty
@@ -127,7 +157,18 @@ module _ (b : List ℕ) (s : sized (length b) ≡ true) where
       let u = unfolding-0 in
       let v = unfolding-1 in
       rw (m-sized, u .0, u .1, eq-eqb (markOf (length m)) (markOf (length m)) refl, u .2, le-leb (within 1 (at b 15)) 1 (within-low 1 (at b 15)))
-      (rw (v .0, le-leb (choice b) 2 (within-low 2 (at b 20)), v .1, le-leb (within 1 (at b 21)) 1 (within-low 1 (at b 21)), v .3, le-leb (within 1 (at b 23)) 1 (within-low 1 (at b 23)), v .5, le-leb (dirty b) 1 dirty-low, le-leb (at m 219) 1 table-low)
+      (rw (
+        v .0,
+        le-leb (choice b) 2 (within-low 2 (at b 20)),
+        v .1,
+        le-leb (within 1 (at b 21)) 1 (within-low 1 (at b 21)),
+        v .3,
+        le-leb
+            (within 1 (at b 23)) 1 (within-low 1 (at b 23)),
+        v .5,
+        le-leb (dirty b) 1 dirty-low,
+        le-leb (at m 219) 1 table-low,
+      )
       (rw (v .2, held-fits (within 1 (at b 21)) (at b 22), v .4, held-fits (within 1 (at b 23)) (at b 24))))
 
   -- the address lies in its memory
@@ -151,7 +192,13 @@ module _ (b : List ℕ) (s : sized (length b) ≡ true) where
   unfolding stateOf coloursAt colourAt table
   same-cache =
       table-same 32 0 (λ i. colourAt m (91 + 4 * i)) (λ i. colourAt b (91 + 4 * i))
-      (λ k l h. rw (kept (91 + 4 * k) (omega arith) (omega arith), kept (91 + 4 * k + 1) (omega arith) (omega arith), kept (91 + 4 * k + 2) (omega arith) (omega arith), kept (91 + 4 * k + 3) (omega arith) (omega arith)))
+      (λ k l h. rw (
+        kept (91 + 4 * k) (omega arith) (omega arith),
+        kept (91 + 4 * k + 1) (omega arith) (omega arith),
+        kept (91 + 4 * k + 2)
+            (omega arith) (omega arith),
+        kept (91 + 4 * k + 3) (omega arith) (omega arith),
+      ))
 
   same-match : matching m ≡ matching b
   unfolding matching

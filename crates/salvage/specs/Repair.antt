@@ -10,7 +10,6 @@ use Rattle.laws.specs.Bits.{any}
 use Rattle.laws.specs.Lists.{at, written}
 use Rattle.laws.specs.Table.{table}
 use Rattle.colour.specs.Colour.{coloursOf}
-use Rattle.vdp.specs.declared.Refusal.{Refusal}
 use Rattle.vdp.specs.declared.Refusal.the-variants.{BlockMalformed, ListLength}
 use Rattle.vdp.specs.Refusals.{size, Line, line, first, under}
 use Rattle.block.specs.Block.{blockSize, sized, markOf, chosenFrom, stateOf}

@@ -1,7 +1,7 @@
 // Writes the picture that a recording draws on a fresh device, one of the chart's line table, as a binary PPM.
 ghost use mathlib.Core.Path.{_≡_};
 ghost use lib.ListN.{length, replicate};
-use recording::Device;
+use trace_run::Device;
 use vdp::VdpState;
 
 // A visible frame, zeroed: the contract says so, and gives its length, which the caller's check then need not compute.
@@ -39,7 +39,7 @@ fn main() {
         return;
     }
     let n = taken.len;
-    let k = recording::snapshot(
+    let k = trace_output::snapshot(
         device,
         &input[..n],
         &mut vram,

@@ -3,7 +3,7 @@
 ghost use mathlib.Core.Path.{_≡_};
 ghost use lib.ListN.{length, replicate};
 use raster::LineTable;
-use recording::Device;
+use trace_run::Device;
 use vdp::VdpState;
 
 // A visible frame, zeroed: the contract says so, and gives its length, which the caller's check then need not compute.
@@ -41,7 +41,7 @@ fn main() {
         return;
     }
     let n = taken.len;
-    let k = recording::snapshot(
+    let k = trace_output::snapshot(
         device,
         &input[..n],
         &mut vram,

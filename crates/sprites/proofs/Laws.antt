@@ -71,26 +71,32 @@ module _ (s : Stand) (code : ℕ → ℕ) (f : ℕ → Bool) (c : Canvas) (low :
   unfolding laid hits struck byteOf
   hit-laid =
       ap (λ (b : Bool). c .hit || b)
-      (any-cong 8 (λ j. bitOf (bytesOf (c .mask)) (s .mark + j) && bit (number 8 (marked s code f c)) j) (λ k. marked s code f c k && c .mask ((s .mark + k) % 256))
-      (λ k h. rw (bitOf-bytesOf (c .mask) (s .mark + k), bit-number 8 (marked s code f c) k h) (and-comm (c .mask ((s .mark + k) % 256)) (marked s code f c k))))
+      (any-cong 8 (λ j. bitOf (bytesOf (c .mask)) (s .mark + j) && bit (number 8 (marked s code f c)) j)
+      (λ k. marked s code f c k && c .mask ((s .mark + k) % 256))
+      (λ k h. rw (bitOf-bytesOf (c .mask) (s .mark + k), bit-number 8 (marked s code f c) k h)
+      (and-comm (c .mask ((s .mark + k) % 256)) (marked s code f c k))))
 
 -- ---- the columns
 module _ (s : Stand) (vram : List ℕ) (addr : ℕ) (f : ℕ → Bool) (c : Canvas) (low : s .end ≤ 8) where
-  marked-seen : s .seen ≡ true → (k : ℕ) → k < 8 → lineMarked vram addr (s .start) (s .end) (byteAt (bytesOf f) (s .prio)) k ≡ marked s (codeAt (at vram) addr) f c k
+  marked-seen : s .seen ≡ true → (k : ℕ) → k < 8 → lineMarked vram addr (s .start) (s .end) (byteAt (bytesOf f) (s .prio)) k ≡ marked s
+      (codeAt (at vram) addr) f c k
   unfolding lineMarked marked heldBack
   marked-seen q k h = rw (q, bit-byteAt (bytesOf f) (s .prio) k h, bitOf-bytesOf f (s .prio + k))
 
   drawn-seen : s .seen ≡ true → (width k : ℕ) → k < 8 → s .x + k < width
-      → lineDrawn vram addr (s .start) (s .end) (byteAt (bytesOf f) (s .prio)) (byteAt (bytesOf (c .mask)) (s .mark)) width (s .x) k ≡ drawn s (codeAt (at vram) addr) f c k
+      → lineDrawn vram addr (s .start) (s .end) (byteAt (bytesOf f) (s .prio)) (byteAt (bytesOf (c .mask)) (s .mark)) width (s .x) k ≡ drawn s
+      (codeAt (at vram) addr) f c k
   unfolding lineDrawn drawn struck
   drawn-seen q width k h l =
       rw (lt-ltb (s .x + k) width l, marked-seen q k h, bit-byteAt (bytesOf (c .mask)) (s .mark) k h, bitOf-bytesOf (c .mask) (s .mark + k))
       (and-true (marked s (codeAt (at vram) addr) f c k && not (c .mask ((s .mark + k) % 256)))
       ∙ sym (ap (λ (b : Bool). b && (marked s (codeAt (at vram) addr) f c k && not (c .mask ((s .mark + k) % 256)))) q))
 
-  pub bits-seen : s .seen ≡ true → byteOf (lineMarked vram addr (s .start) (s .end) (byteAt (bytesOf f) (s .prio))) ≡ byteOf (marked s (codeAt (at vram) addr) f c)
+  pub bits-seen : s .seen ≡ true → byteOf (lineMarked vram addr (s .start) (s .end) (byteAt (bytesOf f) (s .prio))) ≡ byteOf
+      (marked s (codeAt (at vram) addr) f c)
   unfolding byteOf
-  bits-seen q = number-ext 8 (lineMarked vram addr (s .start) (s .end) (byteAt (bytesOf f) (s .prio))) (marked s (codeAt (at vram) addr) f c) (λ k h. marked-seen q k h)
+  bits-seen q = number-ext 8 (lineMarked vram addr (s .start) (s .end) (byteAt (bytesOf f) (s .prio))) (marked s (codeAt (at vram) addr) f c)
+      (λ k h. marked-seen q k h)
 
   marked-unseen : s .seen ≡ false → (k : ℕ) → solid (s .start) (s .end) (codeAt (at vram) addr) k ≡ marked s (codeAt (at vram) addr) f c k
   unfolding marked heldBack
@@ -109,9 +115,11 @@ module _ (s : Stand) (vram : List ℕ) (addr : ℕ) (f : ℕ → Bool) (c : Canv
     unfolding lineDrawn
     inside i l e =
         ltb-true (s .x + i) width
-        (both (lineMarked vram addr (s .start) (s .end) (byteAt (bytesOf f) (s .prio)) i && not (bit (byteAt (bytesOf (c .mask)) (s .mark)) i)) (ltb (s .x + i) width) e .1)
+        (both (lineMarked vram addr (s .start) (s .end) (byteAt (bytesOf f) (s .prio)) i && not (bit (byteAt (bytesOf (c .mask)) (s .mark)) i))
+        (ltb (s .x + i) width) e .1)
 
-    same-test : s .seen ≡ true → (p : ℕ) → p < width → (leb (s .x) p && (ltb (p - s .x) 8 && shown (p - s .x))) ≡ (leb (s .x) p && drawn s (codeAt (at vram) addr) f c (p - s .x))
+    same-test : s .seen ≡ true → (p : ℕ) → p < width → (leb (s .x) p && (ltb (p - s .x) 8 && shown (p - s .x))) ≡
+        (leb (s .x) p && drawn s (codeAt (at vram) addr) f c (p - s .x))
     same-test q p l =
         elim (decLt p (s .x)) [
           | yes h ↦ rw (lt-leb (s .x) p h)
@@ -133,13 +141,16 @@ module _ (s : Stand) (vram : List ℕ) (addr : ℕ) (f : ℕ → Bool) (c : Canv
     row-seen q room =
         overlaid-painted row₀ width (λ x. at colours (c .colour x)) (s .x) 8 shown (spriteColour colours vram addr (s .start)) inside room
         ∙ painted-cong row₀ 0 width (overlay (λ x. at colours (c .colour x)) (s .x) 8 shown (spriteColour colours vram addr (s .start)))
-        (λ x. at colours (cond (leb (s .x) x && drawn s (codeAt (at vram) addr) f c (x - s .x)) (16 + codeAt (at vram) addr (s .start + (x - s .x))) (c .colour x)))
+        (λ x. at colours (cond (leb (s .x) x && drawn s (codeAt (at vram) addr) f c (x - s .x)) (16 + codeAt (at vram) addr (s .start + (x - s .x)))
+        (c .colour x)))
         (λ p l.
         overlay-at (λ x. at colours (c .colour x)) (s .x) 8 shown (spriteColour colours vram addr (s .start)) p
         ∙ rw (same-test q p l)
-        (cond-in (λ (k : ℕ). at colours k) (leb (s .x) p && drawn s (codeAt (at vram) addr) f c (p - s .x)) (16 + codeAt (at vram) addr (s .start + (p - s .x))) (c .colour p)))
+        (cond-in (λ (k : ℕ). at colours k) (leb (s .x) p && drawn s (codeAt (at vram) addr) f c (p - s .x))
+        (16 + codeAt (at vram) addr (s .start + (p - s .x))) (c .colour p)))
 
-    row-unseen : s .seen ≡ false → painted row₀ 0 width (λ x. at colours (c .colour x)) ≡ painted row₀ 0 width (λ x. at colours (laid s (codeAt (at vram) addr) f c .colour x))
+    row-unseen : s .seen ≡ false → painted row₀ 0 width (λ x. at colours (c .colour x)) ≡ painted row₀ 0 width
+        (λ x. at colours (laid s (codeAt (at vram) addr) f c .colour x))
     unfolding laid drawn
     row-unseen q = painted-cong row₀ 0 width _ _ (λ p l. rw (q, and-false (leb (s .x) p)))
 
@@ -159,20 +170,24 @@ module _ (s : Stand) (vram : List ℕ) (addr : ℕ) (f : ℕ → Bool) (c : Canv
   taken = byteAt (bytesOf (c .mask)) (s .mark)
 
   bits-are : (b : Bool) → s .seen ≡ b
-      → cond b (byteOf (lineMarked vram addr (s .start) (s .end) held)) (byteOf (solid (s .start) (s .end) (codeAt (at vram) addr))) ≡ byteOf (marked s (codeAt (at vram) addr) f c)
+      → cond b (byteOf (lineMarked vram addr (s .start) (s .end) held)) (byteOf (solid (s .start) (s .end) (codeAt (at vram) addr))) ≡ byteOf
+      (marked s (codeAt (at vram) addr) f c)
   bits-are true q = bits-seen s vram addr f c low q
   bits-are false q = bits-unseen s vram addr f c low q
 
   row-is : (b : Bool) → s .seen ≡ b → width * 4 ≤ length row₀
-      → cond b (overlaid (painted row₀ 0 width (λ x. at colours (c .colour x))) (s .x) 8 (lineDrawn vram addr (s .start) (s .end) held taken width (s .x)) (spriteColour colours vram addr (s .start)))
+      → cond b (overlaid (painted row₀ 0 width (λ x. at colours (c .colour x))) (s .x) 8
+      (lineDrawn vram addr (s .start) (s .end) held taken width (s .x)) (spriteColour colours vram addr (s .start)))
       (painted row₀ 0 width (λ x. at colours (c .colour x)))
       ≡ painted row₀ 0 width (λ x. at colours (laid s (codeAt (at vram) addr) f c .colour x))
   row-is true q room = row-seen s vram addr f c low width colours row₀ q room
   row-is false q room = row-unseen s vram addr f c low width colours row₀ q
 
-  pub shows-laid : {row row′ prio marks marks′ : List ℕ} {met met′ : Bool} {h t bits : ℕ} → width * 4 ≤ length row → prio ≡ bytesOf f → Shows row₀ colours width c row marks met
+  pub shows-laid : {row row′ prio marks marks′ : List ℕ} {met met′ : Bool} {h t bits : ℕ} → width * 4 ≤ length row → prio ≡ bytesOf f → Shows row₀
+      colours width c row marks met
       → h ≡ byteAt prio (s .prio) → t ≡ byteAt marks (s .mark) → bits < 256
-      → row′ ≡ cond (s .seen) (overlaid row (s .x) 8 (lineDrawn vram addr (s .start) (s .end) h t width (s .x)) (spriteColour colours vram addr (s .start))) row
+      → row′ ≡ cond (s .seen) (overlaid row (s .x) 8 (lineDrawn vram addr (s .start) (s .end) h t width (s .x))
+      (spriteColour colours vram addr (s .start))) row
       → bits ≡ cond (s .seen) (byteOf (lineMarked vram addr (s .start) (s .end) h)) (byteOf (solid (s .start) (s .end) (codeAt (at vram) addr)))
       → met′ ≡ (met || not (eqb (bitAnd t bits) 0)) → marks′ ≡ withByte marks (s .mark) bits
       → Shows row₀ colours width (laid s (codeAt (at vram) addr) f c) row′ marks′ met′
@@ -181,7 +196,8 @@ module _ (s : Stand) (vram : List ℕ) (addr : ℕ) (f : ℕ → Bool) (c : Canv
       let tk : _ ≡ taken = te ∙ ap (λ (l : List ℕ). byteAt l (s .mark)) (sh .mask) in
       let bt : bits ≡ byteOf (marked s (codeAt (at vram) addr) f c) = be ∙ rw hd (bits-are (s .seen) refl) in
       let rm : width * 4 ≤ length row₀ = omega (arith, ap length (sh .bytes) ∙ length-painted row₀ 0 width (λ x. at colours (c .colour x))) in
-      let ht : _ ≡ (met || hits marks (s .mark) bits) = me ∙ ap (λ (b : Bool). met || b) (ap (λ (k : ℕ). not (eqb (bitAnd k bits) 0)) te ∙ hits-is marks (s .mark) bits small) in
+      let ht : _ ≡ (met || hits marks (s .mark) bits) = me ∙ ap (λ (b : Bool). met || b)
+      (ap (λ (k : ℕ). not (eqb (bitAnd k bits) 0)) te ∙ hits-is marks (s .mark) bits small) in
       record {
         bytes = re ∙ rw (hd, tk, sh .bytes) (row-is (s .seen) refl rm);
         mask = ke ∙ rw (sh .mask, bt) (mask-laid s (codeAt (at vram) addr) f c low);
@@ -190,7 +206,8 @@ module _ (s : Stand) (vram : List ℕ) (addr : ℕ) (f : ℕ → Bool) (c : Canv
 
 -- ---- the layers
 module _ (s : Stand) (vram : List ℕ) (addr : ℕ) (f : ℕ → Bool) (c : Canvas) (low : s .end ≤ 8) where
-  stopped-seen : s .seen ≡ true → (k : ℕ) → k < 8 → lineHeld vram addr (s .start) (s .end) (byteAt (bytesOf f) (s .prio)) k ≡ stopped s (codeAt (at vram) addr) f c k
+  stopped-seen : s .seen ≡ true → (k : ℕ) → k < 8 → lineHeld vram addr (s .start) (s .end) (byteAt (bytesOf f) (s .prio)) k ≡ stopped s
+      (codeAt (at vram) addr) f c k
   unfolding lineHeld stopped heldBack
   stopped-seen q k h =
       rw (bit-byteAt (bytesOf f) (s .prio) k h, bitOf-bytesOf f (s .prio + k))
@@ -230,12 +247,15 @@ module _ (s : Stand) (vram : List ℕ) (addr : ℕ) (f : ℕ → Bool) (c : Canv
               elim (decLt (k - s .x) 8) [
                 | yes i ↦
                     let r : s .x + (k - s .x) < width = omega arith in
-                    let d : bit shownByte (k - s .x) ≡ drawn s (codeAt (at vram) addr) f c (k - s .x) = bit-byteOf _ (k - s .x) i ∙ drawn-seen s vram addr f c low q width (k - s .x) i r in
-                    let t : bit heldByte (k - s .x) ≡ stopped s (codeAt (at vram) addr) f c (k - s .x) = bit-byteOf _ (k - s .x) i ∙ stopped-seen q (k - s .x) i in
+                    let d : bit shownByte (k - s .x) ≡ drawn s (codeAt (at vram) addr) f c (k - s .x) = bit-byteOf _ (k - s .x) i ∙ drawn-seen s vram
+                    addr f c low q width (k - s .x) i r in
+                    let t : bit heldByte (k - s .x) ≡ stopped s (codeAt (at vram) addr) f c (k - s .x) = bit-byteOf _ (k - s .x) i ∙ stopped-seen q
+                    (k - s .x) i in
                     rw (le-leb (s .x) k a, lt-ltb (k - s .x) 8 i, lt-ltb k width l, d, t, e)
                 | no i ↦
                     let r : 8 ≤ k - s .x = omega arith in
-                    rw (le-leb (s .x) k a, le-ltb (k - s .x) 8 r, drawn-far s (codeAt (at vram) addr) f c low (k - s .x) r, stopped-far (k - s .x) r) e
+                    rw (le-leb (s .x) k a, le-ltb (k - s .x) 8 r, drawn-far s (codeAt (at vram) addr) f c low (k - s .x) r, stopped-far (k - s .x) r)
+                    e
               ]
         ]
 
@@ -254,7 +274,8 @@ module _ (s : Stand) (vram : List ℕ) (addr : ℕ) (f : ℕ → Bool) (c : Canv
               ∙ rw (le-ltb k width i, and-false (ltb (k - s .x) 8), and-false (leb (s .x) k)) (layersIn-behind base width own r k i)
           | no h ↦
               let a : length base ≤ k = omega arith in
-              let b : length (stamped l width (s .x) n shownByte heldByte 8) ≤ k = omega (arith, stamped-length l width (s .x) n shownByte heldByte 8, length-layersIn base width own) in
+              let b : length (stamped l width (s .x) n shownByte heldByte 8) ≤ k = omega
+              (arith, stamped-length l width (s .x) n shownByte heldByte 8, length-layersIn base width own) in
               List·getD-eq-default (stamped l width (s .x) n shownByte heldByte 8) 0 b ∙ sym (List·getD-eq-default base 0 a)
         ]
 
@@ -271,8 +292,10 @@ module _ (s : Stand) (vram : List ℕ) (addr : ℕ) (f : ℕ → Bool) (c : Canv
               let o : width ≤ length (layersIn base width own) = omega arith in
               let l = layersIn base width own in
               rw (le-leb width (length (layersIn base width own)) o)
-              (layersIn-is base width after r (stamped l width (s .x) n shownByte heldByte 8) (stamped-length l width (s .x) n shownByte heldByte 8 ∙ n₀)
-              (λ k i. let b : k < length l = omega arith in stamped-at l width (s .x) n shownByte heldByte 8 k b ∙ seen-at q k (at l k) i (layersIn-at base width own r k i))
+              (layersIn-is base width after r (stamped l width (s .x) n shownByte heldByte 8)
+              (stamped-length l width (s .x) n shownByte heldByte 8 ∙ n₀)
+              (λ k i. let b : k < length l = omega arith in stamped-at l width (s .x) n shownByte heldByte 8 k b ∙ seen-at q k (at l k) i
+              (layersIn-at base width own r k i))
               (λ k i. past-row r k i))
         ]
 
@@ -280,13 +303,16 @@ module _ (s : Stand) (vram : List ℕ) (addr : ℕ) (f : ℕ → Bool) (c : Canv
     unfolding layersIn
     unseen-in q = rw (table-ext width own after (λ k i. unseen-at q k))
 
-    in-either : (b : Bool) → s .seen ≡ b → cond b (stampedIf (layersIn base width own) width (s .x) n shownByte heldByte) (layersIn base width own) ≡ layersIn base width after
+    in-either : (b : Bool) → s .seen ≡ b → cond b (stampedIf (layersIn base width own) width (s .x) n shownByte heldByte) (layersIn base width own) ≡
+        layersIn base width after
     in-either true q = seen-in q
     in-either false q = unseen-in q
 
-    pub owns-laid : {row₀ colours row prio marks layers layers′ : List ℕ} {w h t : ℕ} {met : Bool} → prio ≡ bytesOf f → Shows row₀ colours w c row marks met
+    pub owns-laid : {row₀ colours row prio marks layers layers′ : List ℕ} {w h t : ℕ} {met : Bool} → prio ≡ bytesOf f → Shows row₀ colours w c row
+        marks met
         → layers ≡ layersIn base width own → h ≡ byteAt prio (s .prio) → t ≡ byteAt marks (s .mark)
-        → layers′ ≡ cond (s .seen) (stampedIf layers width (s .x) n (byteOf (lineDrawn vram addr (s .start) (s .end) h t width (s .x))) (byteOf (lineHeld vram addr (s .start) (s .end) h))) layers
+        → layers′ ≡ cond (s .seen) (stampedIf layers width (s .x) n (byteOf (lineDrawn vram addr (s .start) (s .end) h t width (s .x)))
+        (byteOf (lineHeld vram addr (s .start) (s .end) h))) layers
         → layers′ ≡ layersIn base width (owned s (codeAt (at vram) addr) f c n own)
     owns-laid pe sh le he te re =
         let hd : _ ≡ byteAt (bytesOf f) (s .prio) = he ∙ ap (λ (l : List ℕ). byteAt l (s .prio)) pe in

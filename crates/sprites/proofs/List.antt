@@ -21,17 +21,21 @@ use Rattle.picture.specs.View.{early}
 use Rattle.picture.specs.Layers.{owned, ownedBy, layersWith, layersIn}
 use Rattle.picture.specs.Picture.{Canvas, laid, tableAt, topOf, tall, onLine, listed, spriteLine, spriteCode, withSprite, withSprites, bare}
 use Rattle.sprites.specs.declared.Marks.{Marks}
-use Rattle.sprites.specs.Sprites.{standOf, Follows, Laid}
+use Rattle.stand.specs.Stand.{standOf}
+use Rattle.sprites.specs.Sprites.{Follows, Laid}
 use Rattle.sprites.proofs.Laws.{Shows}
 
 -- the sprite that the code lays is sprite n
-pub with-sprite-is : (vram reg : List ℕ) (screen : Screen) (line n d : ℕ) (f : ℕ → Bool) (c : Canvas) {s : Stand} {e table addr : ℕ} → table ≡ tableAt (at reg)
+pub with-sprite-is : (vram reg : List ℕ) (screen : Screen) (line n d : ℕ) (f : ℕ → Bool) (c : Canvas) {s : Stand} {e table addr : ℕ} → table ≡
+    tableAt (at reg)
     → e ≡ early (at reg) → s ≡ standOf screen e (at vram (table + 128 + 2 * n)) → d ≡ line - topOf (at vram) (at reg) n
-    → addr ≡ spriteLine (at reg) (at vram (table + 128 + 2 * n + 1)) d → laid s (codeAt (at vram) addr) f c ≡ withSprite (at vram) (at reg) (standOf screen (early (at reg))) line f n c
+    → addr ≡ spriteLine (at reg) (at vram (table + 128 + 2 * n + 1)) d → laid s (codeAt (at vram) addr) f c ≡ withSprite (at vram) (at reg)
+    (standOf screen (early (at reg))) line f n c
 unfolding withSprite spriteCode
 with-sprite-is vram reg screen line n d f c te ee se de ae = rw (se, ae, de, ee, te)
 
-pub owned-is : (vram reg : List ℕ) (screen : Screen) (line n d : ℕ) (f : ℕ → Bool) (c : Canvas) (own : ℕ → ℕ) {s : Stand} {e table addr : ℕ} → table ≡ tableAt (at reg)
+pub owned-is : (vram reg : List ℕ) (screen : Screen) (line n d : ℕ) (f : ℕ → Bool) (c : Canvas) (own : ℕ → ℕ) {s : Stand} {e table addr : ℕ} → table
+    ≡ tableAt (at reg)
     → e ≡ early (at reg) → s ≡ standOf screen e (at vram (table + 128 + 2 * n)) → d ≡ line - topOf (at vram) (at reg) n
     → addr ≡ spriteLine (at reg) (at vram (table + 128 + 2 * n + 1)) d
     → owned s (codeAt (at vram) addr) f c n own ≡ ownedBy (at vram) (at reg) (standOf screen (early (at reg))) line f n c own
@@ -57,18 +61,23 @@ module _ (m g : ℕ → ℕ) (l n : ℕ) (low : n < 64) where
   list-has e o = next ∙ rw (e, o)
 
 -- ---- on the way: what is left of the list, laid on a canvas and its layers of which S says that the code's values show them, gives what the whole list gives
-pub record Going (m g : ℕ → ℕ) (stand : ℕ → Stand) (l : ℕ) (f : ℕ → Bool) (colour : ℕ → ℕ) (n count : ℕ) (S : Canvas → (ℕ → ℕ) → Type 0) : Type 0 where
-  pub canvas : Canvas
-  pub layer : ℕ → ℕ
-  pub shows : S canvas layer
-  pub rest : withSprites m g stand l f (take (8 - count) (listed m g l (64 - n) n)) canvas ≡ withSprites m g stand l f (take 8 (listed m g l 64 0)) (bare colour)
-  pub owners : layersWith m g stand l f (take (8 - count) (listed m g l (64 - n) n)) canvas layer ≡ layersWith m g stand l f (take 8 (listed m g l 64 0)) (bare colour) (λ x. 0)
-  pub many : ltb (8 - count) (length (listed m g l (64 - n) n)) ≡ ltb 8 (length (listed m g l 64 0))
+pub record Going (m g : ℕ → ℕ) (stand : ℕ → Stand) (l : ℕ) (f : ℕ → Bool) (colour : ℕ → ℕ) (n count : ℕ) (S : Canvas → (ℕ → ℕ) → Type 0) : Type 0
+  where
+    pub canvas : Canvas
+    pub layer : ℕ → ℕ
+    pub shows : S canvas layer
+    pub rest : withSprites m g stand l f (take (8 - count) (listed m g l (64 - n) n)) canvas ≡ withSprites m g stand l f (take 8 (listed m g l 64 0))
+        (bare colour)
+    pub owners : layersWith m g stand l f (take (8 - count) (listed m g l (64 - n) n)) canvas layer ≡ layersWith m g stand l f
+        (take 8 (listed m g l 64 0)) (bare colour) (λ x. 0)
+    pub many : ltb (8 - count) (length (listed m g l (64 - n) n)) ≡ ltb 8 (length (listed m g l 64 0))
 
 -- the whole list, laid: S holds of what it gives
-pub record Done (m g : ℕ → ℕ) (stand : ℕ → Stand) (l : ℕ) (f : ℕ → Bool) (colour : ℕ → ℕ) (ninth : Bool) (S : Canvas → (ℕ → ℕ) → Type 0) : Type 0 where
-  pub shows : S (withSprites m g stand l f (take 8 (listed m g l 64 0)) (bare colour)) (layersWith m g stand l f (take 8 (listed m g l 64 0)) (bare colour) (λ x. 0))
-  pub many : ninth ≡ ltb 8 (length (listed m g l 64 0))
+pub record Done (m g : ℕ → ℕ) (stand : ℕ → Stand) (l : ℕ) (f : ℕ → Bool) (colour : ℕ → ℕ) (ninth : Bool) (S : Canvas → (ℕ → ℕ) → Type 0) : Type 0
+  where
+    pub shows : S (withSprites m g stand l f (take 8 (listed m g l 64 0)) (bare colour))
+        (layersWith m g stand l f (take 8 (listed m g l 64 0)) (bare colour) (λ x. 0))
+    pub many : ninth ≡ ltb 8 (length (listed m g l 64 0))
 
 both-by : (S : Canvas → (ℕ → ℕ) → Type 0) {c c′ : Canvas} {o o′ : ℕ → ℕ} → c ≡ c′ → o ≡ o′ → S c o → S c′ o′
 both-by S {c′} {o} p q s = subst (λ (w : ℕ → ℕ). S c′ w) q (subst (λ (k : Canvas). S k o) p s)
@@ -79,10 +88,19 @@ module _ (m g : ℕ → ℕ) (stand : ℕ → Stand) (l : ℕ) (f : ℕ → Bool
 
   pub going-skips : {n count : ℕ} {S : Canvas → (ℕ → ℕ) → Type 0} → listed m g l (64 - n) n ≡ listed m g l (64 - (n + 1)) (n + 1)
       → Going m g stand l f colour n count S → Going m g stand l f colour (n + 1) count S
-  going-skips e o = record { canvas = o .canvas; layer = o .layer; shows = o .shows; rest = rw e at (o .rest); owners = rw e at (o .owners); many = rw e at (o .many) }
+  going-skips e o = record {
+    canvas = o .canvas;
+    layer = o .layer;
+    shows = o .shows;
+    rest = rw e at (o .rest);
+    owners = rw e at (o .owners);
+    many = rw e at (o .many);
+  }
 
-  pub going-on : {n p count count′ : ℕ} {S : Canvas → (ℕ → ℕ) → Type 0} (S′ : Canvas → (ℕ → ℕ) → Type 0) → listed m g l (64 - n) n ≡ p ∷ listed m g l (64 - (p + 1)) (p + 1) → count < 8
-      → count′ ≡ count + 1 → (o : Going m g stand l f colour n count S) → S′ (withSprite m g stand l f p (o .canvas)) (ownedBy m g stand l f p (o .canvas) (o .layer))
+  pub going-on : {n p count count′ : ℕ} {S : Canvas → (ℕ → ℕ) → Type 0} (S′ : Canvas → (ℕ → ℕ) → Type 0) → listed m g l (64 - n) n ≡ p ∷ listed m g l
+      (64 - (p + 1)) (p + 1) → count < 8
+      → count′ ≡ count + 1 → (o : Going m g stand l f colour n count S) → S′ (withSprite m g stand l f p (o .canvas))
+      (ownedBy m g stand l f p (o .canvas) (o .layer))
       → Going m g stand l f colour (p + 1) count′ S′
   unfolding withSprites layersWith
   going-on {n} {p} {count} {count′} S′ e h q o s =
@@ -96,7 +114,8 @@ module _ (m g : ℕ → ℕ) (stand : ℕ → Stand) (l : ℕ) (f : ℕ → Bool
         many = sym (leb·suc-suc (suc (8 - count′)) (length (listed m g l (64 - (p + 1)) (p + 1)))) ∙ (rw (e, k) at (o .many));
       }
 
-  pub going-ends : {n count : ℕ} (S : Canvas → (ℕ → ℕ) → Type 0) → listed m g l (64 - n) n ≡ [] → Going m g stand l f colour n count S → Done m g stand l f colour false S
+  pub going-ends : {n count : ℕ} (S : Canvas → (ℕ → ℕ) → Type 0) → listed m g l (64 - n) n ≡ [] → Going m g stand l f colour n count S → Done m g
+      stand l f colour false S
   unfolding withSprites layersWith
   going-ends {n} {count} S e o =
       let z : 0 ≤ 8 - count = omega arith in
@@ -117,22 +136,30 @@ module _ (m g : ℕ → ℕ) (stand : ℕ → Stand) (l : ℕ) (f : ℕ → Bool
       }
 
 -- ---- the same, where the code has found the next sprite on the line already: sprite n, of which line d is shown
-pub record Facing (m g : ℕ → ℕ) (stand : ℕ → Stand) (l : ℕ) (f : ℕ → Bool) (colour : ℕ → ℕ) (n d count : ℕ) (S : Canvas → (ℕ → ℕ) → Type 0) : Type 0 where
-  pub from : ℕ
-  pub going : Going m g stand l f colour from count S
-  pub follows : Follows m g l from n d
+pub record Facing (m g : ℕ → ℕ) (stand : ℕ → Stand) (l : ℕ) (f : ℕ → Bool) (colour : ℕ → ℕ) (n d count : ℕ) (S : Canvas → (ℕ → ℕ) → Type 0) : Type 0
+  where
+    pub from : ℕ
+    pub going : Going m g stand l f colour from count S
+    pub follows : Follows m g l from n d
 
 module _ (m g : ℕ → ℕ) (stand : ℕ → Stand) (l : ℕ) (f : ℕ → Bool) (colour : ℕ → ℕ) where
-  pub facing-on : {n d n′ d′ count count′ : ℕ} {S : Canvas → (ℕ → ℕ) → Type 0} (S′ : Canvas → (ℕ → ℕ) → Type 0) → n < 64 → count < 8 → count′ ≡ count + 1
+  pub facing-on : {n d n′ d′ count count′ : ℕ} {S : Canvas → (ℕ → ℕ) → Type 0} (S′ : Canvas → (ℕ → ℕ) → Type 0) → n < 64 → count < 8 → count′ ≡ count
+      + 1
       → (o : Facing m g stand l f colour n d count S)
       → S′ (withSprite m g stand l f n (o .going .canvas)) (ownedBy m g stand l f n (o .going .canvas) (o .going .layer))
       → Follows m g l (n + 1) n′ d′ → Facing m g stand l f colour n′ d′ count′ S′
-  facing-on {n} S′ low h q o s e = record { from = n + 1; going = going-on m g stand l f colour S′ (o .follows .next low) h q (o .going) s; follows = e }
+  facing-on {n} S′ low h q o s e = record {
+    from = n + 1;
+    going = going-on m g stand l f colour S′ (o .follows .next low) h q (o .going) s;
+    follows = e;
+  }
 
-  pub facing-ends : {n d count : ℕ} (S : Canvas → (ℕ → ℕ) → Type 0) → 64 ≤ n → Facing m g stand l f colour n d count S → Done m g stand l f colour false S
+  pub facing-ends : {n d count : ℕ} (S : Canvas → (ℕ → ℕ) → Type 0) → 64 ≤ n → Facing m g stand l f colour n d count S → Done m g stand l f colour
+      false S
   facing-ends S h o = going-ends m g stand l f colour S (o .follows .none h) (o .going)
 
-  pub facing-full : {n d count : ℕ} (S : Canvas → (ℕ → ℕ) → Type 0) → n < 64 → count ≡ 8 → Facing m g stand l f colour n d count S → Done m g stand l f colour true S
+  pub facing-full : {n d count : ℕ} (S : Canvas → (ℕ → ℕ) → Type 0) → n < 64 → count ≡ 8 → Facing m g stand l f colour n d count S → Done m g stand l
+      f colour true S
   facing-full S low h o = going-full m g stand l f colour S (o .follows .next low) h (o .going)
 
 pub list-done : (m g : ℕ → ℕ) (l n : ℕ) → 64 ≤ n → listed m g l (64 - n) n ≡ []
@@ -180,13 +207,16 @@ pub record Told (row₀ layers₀ colours : List ℕ) (width : ℕ) (row marks l
   pub owners : layers ≡ layersIn layers₀ width own
 
 module _ (m g : ℕ → ℕ) (stand : ℕ → Stand) (l : ℕ) (f : ℕ → Bool) (colour : ℕ → ℕ) (row₀ layers₀ colours : List ℕ) (width : ℕ) where
-  pub row-starts : {row marks layers : List ℕ} {met : Bool} → row ≡ painted row₀ 0 width (λ x. at colours (colour x)) → layers ≡ layersIn layers₀ width (λ x. 0) → marks ≡ cleared
+  pub row-starts : {row marks layers : List ℕ} {met : Bool} → row ≡ painted row₀ 0 width (λ x. at colours (colour x)) → layers ≡ layersIn layers₀
+      width (λ x. 0) → marks ≡ cleared
       → met ≡ false → Going m g stand l f colour 0 0 (Told row₀ layers₀ colours width row marks layers met)
   unfolding bare cleared
   row-starts {row} {marks} {layers} {met} b o k h =
-      going-starts m g stand l f colour (Told row₀ layers₀ colours width row marks layers met) (record { canvas = record { bytes = b; mask = k; hit = h }; owners = o })
+      going-starts m g stand l f colour (Told row₀ layers₀ colours width row marks layers met)
+      (record { canvas = record { bytes = b; mask = k; hit = h }; owners = o })
 
-  pub finished : {row layers : List ℕ} {r : Marks} → Done m g stand l f colour (r .ninth) (Told row₀ layers₀ colours width row (r .mask .bits) layers (r .hit))
+  pub finished : {row layers : List ℕ} {r : Marks} → Done m g stand l f colour (r .ninth)
+      (Told row₀ layers₀ colours width row (r .mask .bits) layers (r .hit))
       → Laid m g stand l f row₀ colours width colour row r layers₀ layers
   finished d =
       record {

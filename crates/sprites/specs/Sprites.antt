@@ -11,28 +11,10 @@ use Rattle.laws.specs.Paint.{painted}
 use Rattle.laws.specs.Sizes.{vramSize}
 use Rattle.bitmap.specs.Mask.{bytesOf}
 use Rattle.picture.specs.declared.Stand.{Stand}
-use Rattle.picture.specs.declared.Screen.{Screen}
-use Rattle.picture.specs.declared.Screen.the-variants.{VisibleOnly, EffectiveArea, TrueEdges, Home}
-use Rattle.picture.specs.View.{visibleStand, effectiveStand, edgeStand}
 use Rattle.picture.specs.Picture.{listed, topOf, withSprites, bare}
 use Rattle.picture.specs.Layers.{layersWith, layersIn}
 use Rattle.tile.specs.Layer.{stamped}
 use Rattle.sprites.specs.declared.Marks.{Marks}
-
--- where a sprite with X byte h stands on a screen
-abbrev pub standOf : Screen → ℕ → ℕ → Stand
-standOf VisibleOnly e h = visibleStand e h
-standOf EffectiveArea e h = effectiveStand e h
-standOf TrueEdges e h = edgeStand 48 160 e h
-standOf Home e h = edgeStand 0 256 e h
-
--- what the drawing of a sprite that stands at s asks
-pub record Fits (s : Stand) : Type 0 where
-  pub end-low : s .end ≤ 8
-  pub start-low : s .start ≤ 256
-  pub x-low : s .x < 256
-  pub prio-low : s .prio < 512
-  pub mark-low : s .mark < 512
 
 -- The sprites on line l from sprite `from` on begin with sprite n, of which line d is shown there; where n is 64 there are none.
 pub record Follows (m g : ℕ → ℕ) (l from n d : ℕ) : Type 0 where
@@ -50,13 +32,15 @@ stampedIf layers width x n drawn held = cond (leb width (length layers)) (stampe
 
 -- a whole line of sprites, laid on a row of the colours `colour` that is all background's: the row's bytes, whether two pixels met, whether there was a ninth,
 -- and the row's layers
-pub record Finished (m g : ℕ → ℕ) (stand : ℕ → Stand) (l : ℕ) (f : ℕ → Bool) (row₀ colours : List ℕ) (width : ℕ) (colour : ℕ → ℕ) (row : List ℕ) (hit ninth : Bool) (layers₀ layers : List ℕ) : Type 0 where
+pub record Finished (m g : ℕ → ℕ) (stand : ℕ → Stand) (l : ℕ) (f : ℕ → Bool) (row₀ colours : List ℕ) (width : ℕ) (colour : ℕ → ℕ) (row : List ℕ)
+    (hit ninth : Bool) (layers₀ layers : List ℕ) : Type 0 where
   pub bytes : row ≡ painted row₀ 0 width (λ x. at colours (withSprites m g stand l f (take 8 (listed m g l 64 0)) (bare colour) .colour x))
   pub struck : hit ≡ withSprites m g stand l f (take 8 (listed m g l 64 0)) (bare colour) .hit
   pub many : ninth ≡ ltb 8 (length (listed m g l 64 0))
   pub owners : layers ≡ layersIn layers₀ width (layersWith m g stand l f (take 8 (listed m g l 64 0)) (bare colour) (λ x. 0))
 
 -- the same, with the mask that the sprites leave
-pub record Laid (m g : ℕ → ℕ) (stand : ℕ → Stand) (l : ℕ) (f : ℕ → Bool) (row₀ colours : List ℕ) (width : ℕ) (colour : ℕ → ℕ) (row : List ℕ) (r : Marks) (layers₀ layers : List ℕ) : Type 0 where
+pub record Laid (m g : ℕ → ℕ) (stand : ℕ → Stand) (l : ℕ) (f : ℕ → Bool) (row₀ colours : List ℕ) (width : ℕ) (colour : ℕ → ℕ) (row : List ℕ)
+    (r : Marks) (layers₀ layers : List ℕ) : Type 0 where
   pub line : Finished m g stand l f row₀ colours width colour row (r .hit) (r .ninth) layers₀ layers
   pub marks : r .mask .bits ≡ bytesOf (withSprites m g stand l f (take 8 (listed m g l 64 0)) (bare colour) .mask)

@@ -1,8 +1,8 @@
-// The sprites of a line, over its background: which are on it (R5.6, R5.7), where each stands (R5.9, R5.10, R18.2, R20.7), and what their pixels meet (R5.11, R5.12).
+// The sprites of a line, over its background: which are on it (R5.6, R5.7), and what their pixels meet (R5.11, R5.12).
 ghost use mathlib.Core.Path.{_≡_};
 ghost use mathlib.Core.Bool.{Bool, cond, not, _||_};
 ghost use mathlib.Core.List.{List};
-ghost use Prim.Native.Nat.{ℕ, _+_, _-_, _*_, _/_, _%_, _<_, _≤_, min};
+ghost use Prim.Native.Nat.{ℕ, _+_, _*_, _/_, _%_, _<_, _≤_};
 ghost use lib.ListN.{length};
 ghost use lib.Bits.{bitAnd};
 ghost use lib.Dec.{eqb};
@@ -12,15 +12,16 @@ ghost use Rattle.laws.specs.Paint.{painted, overlaid};
 ghost use Rattle.laws.specs.Sizes.{vramSize};
 ghost use Rattle.bitmap.specs.Mask.{bytesOf, cleared};
 ghost use Rattle.picture.specs.Tile.{codeAt};
-ghost use Rattle.picture.specs.View.{early, visibleEnd, visibleSeen, visibleStand, effectiveStand, edgeStand};
+ghost use Rattle.picture.specs.View.{early};
 ghost use Rattle.picture.specs.Picture.{solid, tableAt, tall, spriteLine};
 ghost use Rattle.picture.specs.Layers.{layersIn};
 ghost use Rattle.tile.specs.Line.{lineMarked, lineDrawn, lineHeld, spriteColour};
-ghost use Rattle.sprites.specs.Sprites.{standOf, Fits, Follows, Finished, Laid, Room, stampedIf};
+ghost use Rattle.stand.specs.Stand.{standOf, Fits};
+ghost use Rattle.sprites.specs.Sprites.{Follows, Finished, Laid, Room, stampedIf};
 use bitmap::Bitmap;
+use column::Columns;
 use picture::Screen;
 use picture::Stand;
-use tile::Columns;
 
 // The next sprite of the list that is on a line, and the line of it that is shown there; number 64 where there is none.
 pub struct Next {
@@ -45,130 +46,6 @@ struct Marks {
 pub struct Line {
     pub hit: bool,
     pub ninth: bool,
-}
-
-// ---- where a sprite stands
-
-// The difference, 0 where it would be below.
-fn minus(a: u8, b: u8) -> u8
-    ensures { λ r. ⌜ r ≡ a - b ⌝ }
-{
-    if b <= a { a - b } else { 0 }
-}
-
-// The tile's pixel before which a sprite at column x of the visible area ends.
-fn visible_end(x: u8) -> usize
-    ensures { λ r. ⌜ r ≡ visibleEnd x ⌝ }
-    ensures { λ r. ⌜ r ≤ 8 ⌝ }
-{
-    if 160 < x {
-        return 8;
-    }
-    small::smaller(small::wide(160 - x), 8)
-}
-
-// Whether a sprite with X byte h is seen in the visible area.
-fn visible_seen(h: u8) -> bool
-    ensures { λ r. ⌜ r ≡ visibleSeen h ⌝ }
-{
-    if 40 < h { h < 208 } else { false }
-}
-
-// Where its column 0 is marked: at X, and of an unseen one at X + start.
-fn mark_place(seen: bool, h: u8, start: u8) -> usize
-    ensures { λ r. ⌜ r ≡ cond seen h (h + start) ⌝ }
-    ensures { λ r. ⌜ r < 512 ⌝ }
-{
-    if seen {
-        small::wide(h)
-    } else {
-        small::wide(h) + small::wide(start)
-    }
-}
-
-// Where a sprite with X byte h stands in the visible area, the early clock taking e off.
-fn sprite_line_settings_visible(e: u8, h: u8) -> Stand
-    requires { ⌜ e ≤ 8 ⌝ }
-    ensures { λ r. ⌜ r ≡ visibleStand e h ⌝ }
-    ensures { λ r. ⌜ Fits r ⌝ }
-{
-    let seen = visible_seen(h);
-    let x = minus(minus(h, 48), e);
-    let start = minus(48 + e, h);
-    let end = visible_end(x);
-    let mark = mark_place(seen, h, start);
-    let prio = std::num::wrapping_sub_u8(x, start);
-    Stand {
-        seen: seen,
-        x: small::wide(x),
-        start: small::wide(start),
-        end: end,
-        prio: small::wide(prio),
-        mark: mark,
-    }
-}
-
-// The same in the effective area: X goes around the circle, and all are seen.
-fn sprite_line_settings_effective(e: u8, h: u8) -> Stand
-    requires { ⌜ e ≤ 8 ⌝ }
-    ensures { λ r. ⌜ r ≡ effectiveStand e h ⌝ }
-    ensures { λ r. ⌜ Fits r ⌝ }
-{
-    let x = small::wide(std::num::wrapping_sub_u8(h, e));
-    Stand {
-        seen: true,
-        x: x,
-        start: 0,
-        end: 8,
-        prio: x,
-        mark: small::wide(h),
-    }
-}
-
-// The tile's pixel before which a sprite at column x of a row of `width` columns ends.
-fn edge_end(width: usize, x: usize) -> usize
-    ensures { λ r. ⌜ r ≡ min (width - x) 8 ⌝ }
-    ensures { λ r. ⌜ r ≤ 8 ⌝ }
-{
-    if x < width {
-        small::smaller(width - x, 8)
-    } else {
-        0
-    }
-}
-
-// The same by true columns, on a row of `width` columns whose column 0 is at X byte `left`: what lies off the row neither draws nor marks.
-fn sprite_line_settings_true(left: u8, width: usize, e: u8, h: u8) -> Stand
-    requires { ⌜ (left ≤ 48) × (e ≤ 8) ⌝ }
-    ensures { λ r. ⌜ r ≡ edgeStand left width e h ⌝ }
-    ensures { λ r. ⌜ Fits r ⌝ }
-{
-    let x = minus(minus(h, left), e);
-    let start = minus(left + e, h);
-    let place = small::wide(x);
-    let mark = small::wide(x);
-    Stand {
-        seen: true,
-        x: place,
-        start: small::wide(start),
-        end: edge_end(width, place),
-        prio: place,
-        mark: mark,
-    }
-}
-
-// The same on each screen.
-pub fn settings(screen: Screen, e: u8, h: u8) -> Stand
-    requires { ⌜ e ≤ 8 ⌝ }
-    ensures { λ r. ⌜ r ≡ standOf screen e h ⌝ }
-    ensures { λ r. ⌜ Fits r ⌝ }
-{
-    match screen {
-        Screen::VisibleOnly => sprite_line_settings_visible(e, h),
-        Screen::EffectiveArea => sprite_line_settings_effective(e, h),
-        Screen::TrueEdges => sprite_line_settings_true(48, 160, e, h),
-        Screen::Home => sprite_line_settings_true(0, 256, e, h),
-    }
 }
 
 // ---- what the registers and the table say of a sprite
@@ -392,7 +269,7 @@ fn sprites_line(
             };
         }
         let k = table + 128 + 2 * next.n;
-        let s = settings(screen, e, vram[k]);
+        let s = stand::settings(screen, e, vram[k]);
         let addr = line_at(reg, vram[k + 1], next.d);
         let front = s.prio % 256;
         let p = front / 8;

@@ -24,7 +24,8 @@ module _ (d : VdpState) (vram pixels : List ℕ) where
         let u = ne-eqb (length pixels) 131072 h in
         record { refusal = rw (t, u); bytes = rw (t, u) }
 
-    pub dump-done : {cs pixels′ : List ℕ} → length pixels ≡ 131072 → cs ≡ d .«color_cache» → pixels′ ≡ dumped vram (d .reg) cs pixels → DumpLeaves d vram pixels Accepted pixels′
+    pub dump-done : {cs pixels′ : List ℕ} → length pixels ≡ 131072 → cs ≡ d .«color_cache» → pixels′ ≡ dumped vram (d .reg) cs pixels → DumpLeaves d
+        vram pixels Accepted pixels′
     unfolding dumpRefusal dumpAfter
     dump-done n ec e =
         let t = eq-eqb (length vram) 16384 mem in

@@ -34,7 +34,8 @@ use Rattle.step.specs.declared.VdpInt.the-variants.{NoInterrupt, Interru
 use Rattle.step.specs.declared.DrawnRow.{DrawnRow}
 use Rattle.step.specs.declared.DrawnRow.the-variants.{NoRow, Drawn}
 use Rattle.step.specs.declared.Stepped.{Stepped}
-use Rattle.step.specs.Points.{Reading, risen, rowOn, comingRow, comingPicture, bitsOf, atEnd, endedBy, reportBy, interruptBy, pointsOf, rowLines, frameLines}
+use Rattle.step.specs.Points.{Reading, risen, rowOn, comingRow, comingPicture, bitsOf, atEnd, endedBy, reportBy, interruptBy, pointsOf}
+use Rattle.step.specs.Points.{rowLines, frameLines}
 use Rattle.step.specs.Bytes.{rowWith, frameWith, rowFilled, frameFilled}
 use Rattle.step.specs.Step.{register, lineOf, coloursNow, rowPicture, readingOf, counterUp, cleaned, stepped, refusedStep, stepWith}
 use Rattle.step.specs.Frame.{drawnBytes, rowAfter, frameAfter}
@@ -106,7 +107,8 @@ cacheAfter (Drawn y) d = coloursNow d
 module _ (a : RenderArea) (vram : List ℕ) (d : VdpState) where
   abbrev left : DrawnRow → VdpState
   left r =
-      device (statusAfter r a vram (counterUp d)) (d .reg) (ticked (register d) (d .raster)) (d .addr) (d .«vram_buffer») (d .dest) (d .cram) (d .«cmd_byte1»)
+      device (statusAfter r a vram (counterUp d)) (d .reg) (ticked (register d) (d .raster)) (d .addr) (d .«vram_buffer») (d .dest) (d .cram)
+      (d .«cmd_byte1»)
       (d .«cram_byte1») (dirtyAfter r d) (cacheAfter r d)
 
   -- the status that the points leave, with the row r
@@ -206,7 +208,8 @@ unfolding bit
 end-bit true s = bit-or s 0x80 7
 end-bit false s = sym (or-false (bit s 7))
 
-pub stepped-end : (a : RenderArea) (vram : List ℕ) (d : VdpState) → bit (stepped a vram d .vdp .status) 7 ≡ (bit (d .status) 7 || atEnd (lineOf (counterUp d)))
+pub stepped-end : (a : RenderArea) (vram : List ℕ) (d : VdpState) → bit (stepped a vram d .vdp .status) 7 ≡
+    (bit (d .status) 7 || atEnd (lineOf (counterUp d)))
 stepped-end a vram d =
     let r = rowOn (screenOf a) (lineOf (counterUp d)) in
     ap (λ (s : ℕ). bit s 7) (stepped-status a vram d {r = r} refl)
@@ -217,7 +220,8 @@ stepped-end a vram d =
 pub step-table : (ls : List Line) (a : RenderArea) (vram : List ℕ) (d : VdpState) → stepWith ls a vram d .vdp .raster .table ≡ d .raster .table
 unfolding stepWith
 step-table ls a vram d =
-    under-either (λ (s : Stepped). s .vdp .raster .table ≡ d .raster .table) ls (λ r. refusedStep r d) (stepped a vram d) (λ r. refl) (λ p. stepped-table a vram d)
+    under-either (λ (s : Stepped). s .vdp .raster .table ≡ d .raster .table) ls (λ r. refusedStep r d) (stepped a vram d) (λ r. refl)
+    (λ p. stepped-table a vram d)
 
 -- ---- a row buffer and a frame, over what the points read
 module _ (a : Screen) (vram : List ℕ) (k : Reading) where
@@ -284,7 +288,8 @@ module _ (a : Screen) (vram : List ℕ) (k : Reading) where
     frame-length-by NoRow e h = refl
     frame-length-by (Drawn y) e h = row-length (rowSize a) (rows a) y (comingBytes y) f (row-low a _ y e) (own y) h
 
-    frame-other-by : (z : ℕ) (r : DrawnRow) → comingRow a k ≡ r → r ≢ Drawn z → rowSize a * rows a ≤ length f → rowOf (rowSize a) z (onFrame r) ≡ rowOf (rowSize a) z f
+    frame-other-by : (z : ℕ) (r : DrawnRow) → comingRow a k ≡ r → r ≢ Drawn z → rowSize a * rows a ≤ length f → rowOf (rowSize a) z (onFrame r) ≡
+        rowOf (rowSize a) z f
     unfolding frameWith
     frame-other-by z NoRow e n h = refl
     frame-other-by z (Drawn y) e n h =
@@ -301,7 +306,8 @@ module _ (a : Screen) (vram : List ℕ) (k : Reading) where
     unfolding frameWith
     frame-points-none e = frame-left (λ l. l ≡ f) refl (λ h. rw e)
 
-    pub frame-points-here : (y : ℕ) → length vram ≡ 16384 → length f ≡ frameSize a → comingRow a k ≡ Drawn y → rowOf (rowSize a) y frameLeft ≡ comingBytes y
+    pub frame-points-here : (y : ℕ) → length vram ≡ 16384 → length f ≡ frameSize a → comingRow a k ≡ Drawn y → rowOf (rowSize a) y frameLeft ≡
+        comingBytes y
     unfolding frameWith
     frame-points-here y m h e =
         let low : frameSize a ≤ length f = omega arith in
@@ -338,7 +344,8 @@ module _ (a : RenderArea) (vram : List ℕ) (d : VdpState) (f : List ℕ) where
   unfolding frameAfter
   frame-step-length = frame-points-length (screenOf a) vram (readingOf d) f
 
-  pub frame-step-other : (z : ℕ) → rowOn (screenOf a) (lineOf (counterUp d)) ≢ Drawn z → rowOf (rowSize (screenOf a)) z (frameAfter a vram d f) ≡ rowOf (rowSize (screenOf a)) z f
+  pub frame-step-other : (z : ℕ) → rowOn (screenOf a) (lineOf (counterUp d)) ≢ Drawn z → rowOf (rowSize (screenOf a)) z (frameAfter a vram d f) ≡
+      rowOf (rowSize (screenOf a)) z f
   unfolding frameAfter
   frame-step-other z n = frame-points-other (screenOf a) vram (readingOf d) f z n
 

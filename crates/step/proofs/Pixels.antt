@@ -2,12 +2,12 @@
 -- Assumes nothing.
 use mathlib.Core.Path.{_≡_, refl, sym, ap, _∙_}
 use mathlib.Core.Logic.{_≢_, _⊎_, ⊎-elim}
-use mathlib.Core.Bool.{Bool, true, false, cond, _&&_, not, and-false}
+use mathlib.Core.Bool.{Bool, true, false, cond, and-false}
 use mathlib.Core.List.{List, _++_}
 use Prim.Native.Nat.{ℕ, _+_, _*_, _<_, _≤_}
 use native.Mathlib.Omega.{arith}
-use lib.Dec.{eqb, ltb}
-use lib.ListN.{length, take, drop, List·getD-append}
+use lib.Dec.{ltb}
+use lib.ListN.{length, drop, List·getD-append}
 use lib.Seq.{getD-take}
 use borrow.Author.Tests.{eq-eqb, ne-eqb, lt-ltb, le-ltb, eqb-true, not-false}
 use Rattle.laws.specs.Lists.{at}
@@ -18,16 +18,16 @@ use Rattle.picture.specs.Picture.{Row}
 use Rattle.picture.specs.Area.{screenOf, columns, rows, rowSize, rowBytes}
 use Rattle.picture.proofs.Laws.{length-rowBytes, row-size, pixel-byte}
 use Rattle.raster.specs.declared.Raster.{Raster}
-use Rattle.raster.specs.Raster.{advanced, counted, ticked}
+use Rattle.raster.specs.Raster.{counted, ticked}
 use Rattle.row.specs.Row as rows-drawn
 use Rattle.vdp.specs.declared.VdpState.{VdpState}
 use Rattle.vdp.specs.declared.Refusal.the-variants.{Accepted, VramLength}
 use Rattle.vdp.specs.Refusals.{whole, first}
-use Rattle.vdp.proofs.Tables.{Passed, under-either}
+use Rattle.vdp.proofs.Tables.{under-either}
 use Rattle.pixel.specs.declared.Spot.{Spot}
 use Rattle.pixel.specs.Pixel.{inArea, noSpot, pixelLines, spotOf}
 use Rattle.laws.proofs.Tests.{split}
-use Rattle.step.specs.declared.DrawnRow.the-variants.{NoRow, Drawn}
+use Rattle.step.specs.declared.DrawnRow.the-variants.{Drawn}
 use Rattle.step.specs.declared.Pixel.{Pixel}
 use Rattle.step.specs.declared.Stepped.{Stepped}
 use Rattle.step.specs.Points.{rowOn, rowLines}
@@ -51,7 +51,8 @@ module _ (a : RenderArea) (vram : List ℕ) (d : VdpState) (y x : ℕ) where
       → pixelOf a vram d y x ≡ record { refusal = Accepted; there = true; colour = at (coloursNow d) (rowPicture a vram d y .colour x) }
   pixel-inside m h l = inside a vram y x d m h l
 
-  pub pixel-outside : length vram ≡ vramSize → (rows a ≤ y) ⊎ (columns a ≤ x) → pixelOf a vram d y x ≡ record { refusal = Accepted; there = false; colour = 0 }
+  pub pixel-outside : length vram ≡ vramSize → (rows a ≤ y) ⊎ (columns a ≤ x) → pixelOf a vram d y x ≡ record
+      { refusal = Accepted; there = false; colour = 0 }
   unfolding pixelOf spotOf
   pixel-outside m o =
       rw (eq-eqb (length vram) vramSize m)
@@ -68,12 +69,14 @@ module _ (a : RenderArea) (vram : List ℕ) (d : VdpState) (y x : ℕ) where
 
   -- the bytes of the row, at the pixel
   module _ (b : ℕ) (bl : b < 4) (l : x < columns a) where
-    row-byte : (colours : List ℕ) (p : Row) (rest : List ℕ) → at (rowBytes colours (columns a) p ++ rest) (4 * x + b) ≡ byteOfColour (at colours (p .colour x)) b
+    row-byte : (colours : List ℕ) (p : Row) (rest : List ℕ) → at (rowBytes colours (columns a) p ++ rest) (4 * x + b) ≡ byteOfColour
+        (at colours (p .colour x)) b
     row-byte colours p rest =
         let k : 4 * x + b < length (rowBytes colours (columns a) p) = omega (arith, length-rowBytes colours (columns a) p) in
         List·getD-append (rowBytes colours (columns a) p) rest 0 (4 * x + b) k ∙ pixel-byte colours (columns a) p x b l bl
 
-    pub pixel-drawn : length vram ≡ vramSize → y < rows a → (row₀ row : List ℕ) (bits : ℕ) → rows-drawn.Drawn (screenOf a) (coloursNow d) (rowPicture a vram d y) row₀ row bits
+    pub pixel-drawn : length vram ≡ vramSize → y < rows a → (row₀ row : List ℕ) (bits : ℕ) → rows-drawn.Drawn (screenOf a) (coloursNow d)
+        (rowPicture a vram d y) row₀ row bits
         → byteOfColour (pixelOf a vram d y x .colour) b ≡ at row (4 * x + b)
     pixel-drawn m h row₀ row bits e =
         ap (λ (p : Pixel). byteOfColour (p .colour) b) (pixel-inside m h l)
@@ -92,7 +95,8 @@ module _ (a : RenderArea) (vram : List ℕ) (d : VdpState) (y x : ℕ) where
           → byteOfColour (pixelOf a vram (stepped a vram d .vdp) y x .colour) b ≡ at (rowAfter a vram d buffer) (4 * x + b)
       pixel-left m buffer h =
           let k : 4 * x + b < rowSize a = omega (arith, row-size (screenOf a)) in
-          ap (λ (p : Pixel). byteOfColour (p .colour) b) (inside a vram y x (stepped a vram d .vdp) m (row-low (screenOf a) (lineOf (counterUp d)) y e) l)
+          ap (λ (p : Pixel). byteOfColour (p .colour) b) (inside a vram y x (stepped a vram d .vdp) m
+          (row-low (screenOf a) (lineOf (counterUp d)) y e) l)
           ∙ rw (colours-stay, stepped-reg a vram d, scroll-stays)
           (sym (sym (getD-take (rowSize a) (rowAfter a vram d buffer) (4 * x + b) 0 k)
           ∙ ap (λ (r : List ℕ). at r (4 * x + b)) (row-step-here a vram d buffer y m h e)
@@ -103,7 +107,9 @@ module _ (a : RenderArea) (vram : List ℕ) (d : VdpState) (y x : ℕ) where
     unfolding stepWith
     pixel-after-step buffer buffer′ r s =
         rw (s .answer, s .bytes)
-        (under-either (λ (z : Stepped). z .row ≡ Drawn y → byteOfColour (pixelOf a vram (z .vdp) y x .colour) b ≡ at (rowAfter a vram d buffer) (4 * x + b))
+        (under-either (λ (z : Stepped). z .row ≡ Drawn y → byteOfColour (pixelOf a vram (z .vdp) y x .colour) b ≡ at (rowAfter a vram d buffer)
+        (4 * x + b))
         (rowLines (screenOf a) vram (length buffer)) (λ r. refusedStep r d) (stepped a vram d)
         (λ r q. absurd (let z : _≡_ {A = ℕ} 0 1 = cc in omega arith))
-        (λ p q. pixel-left (sym (stepped-row a vram d refl) ∙ q) (eqb-true (length vram) vramSize (not-false (whole vram) (p .0))) buffer (row-fits (screenOf a) vram (length buffer) p)))
+        (λ p q. pixel-left (sym (stepped-row a vram d refl) ∙ q) (eqb-true (length vram) vramSize (not-false (whole vram) (p .0))) buffer
+        (row-fits (screenOf a) vram (length buffer) p)))

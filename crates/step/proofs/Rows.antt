@@ -16,7 +16,8 @@ use Rattle.step.specs.Points.{rowOn, RowIn}
 use Rattle.step.specs.Bytes.{startOf}
 
 -- a row is drawn: its number is below the area's, and its line is known
-told : (a : Screen) (l y : ℕ) (t : Bool) → (leb (firstLine a) l && ltb l (firstLine a + rows a)) ≡ t → cond t (Drawn (l - firstLine a)) NoRow ≡ Drawn y → (y < rows a) × (l ≡ firstLine a + y)
+told : (a : Screen) (l y : ℕ) (t : Bool) → (leb (firstLine a) l && ltb l (firstLine a + rows a)) ≡ t → cond t (Drawn (l - firstLine a)) NoRow ≡ Drawn
+    y → (y < rows a) × (l ≡ firstLine a + y)
 told a l y true e q =
     let k : l - firstLine a ≡ y = cc in
     let b = both (leb (firstLine a) l) (ltb l (firstLine a + rows a)) e in

@@ -34,8 +34,10 @@ use Rattle.step.specs.declared.DrawnRow.the-variants.{NoRow, Drawn}
 use Rattle.step.specs.declared.Points.{Points}
 use Rattle.step.specs.declared.Stepped.{Stepped}
 use Rattle.step.specs.declared.Lent.{Lent}
-use Rattle.step.specs.Points.{Reading, reading, rowOn, RowIn, comingRow, comingPicture, bitsOf, endedBy, reportBy, interruptBy, pointsOf, refusedPoints, atLeast, exactly, stepLines, rowLines, frameLines, pointsWith}
-use Rattle.step.specs.Bytes.{rowWith, frameWith, startOf, layersBy, rowFilled, layersFilled, layersUnder, PointsLeave, RowPointsLeave, FramePointsLeave, alsoLayers, LayerPointsLeave, RowLayerPointsLeave, FrameLayerPointsLeave}
+use Rattle.step.specs.Points.{Reading, reading, rowOn, RowIn, comingRow, comingPicture, bitsOf, endedBy, reportBy, interruptBy, pointsOf}
+use Rattle.step.specs.Points.{refusedPoints, atLeast, exactly, stepLines, rowLines, frameLines, pointsWith}
+use Rattle.step.specs.Bytes.{rowWith, frameWith, startOf, layersBy, rowFilled, layersFilled, layersUnder, PointsLeave, RowPointsLeave}
+use Rattle.step.specs.Bytes.{FramePointsLeave, alsoLayers, LayerPointsLeave, RowLayerPointsLeave, FrameLayerPointsLeave}
 use Rattle.step.specs.Step.{coloursNow, readingOf, joined, stepped, refusedStep, stepWith, rowStep}
 use Rattle.step.specs.Layers.{layersAfter, RowLayersLeave, FrameLayersLeave}
 use Rattle.step.specs.Lend.{LentOut}
@@ -50,7 +52,8 @@ module _ (a : Screen) (colours : List ℕ) (picture : ℕ → Row) (layer : ℕ 
   drawn-none e = (rw e, (rw e, rw e))
 
   pub drawn-one :
-      (y : ℕ) {b′ layers′ : List ℕ} {bits : ℕ} → row ≡ Drawn y → b′ ≡ rowBytes colours (columns a) (picture y) ++ drop (rowSize a) b → bits ≡ statusBits (picture y)
+      (y : ℕ) {b′ layers′ : List ℕ} {bits : ℕ} → row ≡ Drawn y → b′ ≡ rowBytes colours (columns a) (picture y) ++ drop (rowSize a) b → bits ≡
+      statusBits (picture y)
       → layers′ ≡ layersIn layers (columns a) (layer y)
       → (bits ≡ bitsOf row picture) × ((b′ ≡ rowWith row a colours picture b) × (layers′ ≡ layersBy row a layer layers))
   unfolding bitsOf rowWith layersBy
@@ -93,7 +96,8 @@ short-layers : (least size : ℕ) → size < least → first (layerLine least si
 short-layers least size h = rw (lt-ltb size least h)
 
 -- with room for its layers, a step is as it is without
-pub under-also : {A : Type 0} (least size : ℕ) (ls : List Line) (refuse : Refusal → A) (call : A) → least ≤ size → under (alsoLayers least size ls) refuse call ≡ under ls refuse call
+pub under-also : {A : Type 0} (least size : ℕ) (ls : List Line) (refuse : Refusal → A) (call : A) → least ≤ size → under (alsoLayers least size ls)
+    refuse call ≡ under ls refuse call
 under-also least size [] refuse call h = rw (le-ltb size least h)
 under-also least size (l ∷ ls) refuse call h = ap (λ (x : _). cond (l .holds) (refuse (l .refusal)) x) (under-also least size ls refuse call h)
 
@@ -112,25 +116,32 @@ module _ (a : Screen) (vram : List ℕ) (k : Reading) where
     unfolding pointsWith
     stays r e n q =
         let no : first ls ≢ Accepted = λ z. refuses r n (sym e ∙ z) in (
-          record { answer = q ∙ ap none (sym e) ∙ sym (under-refused ls none (pointsOf a vram k) no); bytes = sym (under-refused ls (λ x. b) filled no) },
+          record {
+            answer = q ∙ ap none (sym e) ∙ sym (under-refused ls none (pointsOf a vram k) no);
+            bytes = sym
+                (under-refused ls (λ x. b) filled no);
+          },
           sym (under-refused ls (λ x. layers) (layersFilled a vram k layers) no),
         )
 
-    done : Passed ls → {p : Points} {b′ layers′ : List ℕ} → p ≡ pointsOf a vram k → b′ ≡ filled → layers′ ≡ layersFilled a vram k layers → Left p b′ layers′
+    done : Passed ls → {p : Points} {b′ layers′ : List ℕ} → p ≡ pointsOf a vram k → b′ ≡ filled → layers′ ≡ layersFilled a vram k layers → Left p b′
+        layers′
     unfolding pointsWith
     done ok e eb eo = (
       record { answer = e ∙ sym (under-passed ls none (pointsOf a vram k) ok); bytes = eb ∙ sym (under-passed ls (λ x. b) filled ok) },
       eo ∙ sym (under-passed ls (λ x. layers) (layersFilled a vram k layers) ok),
     )
 
-    undone : Passed ls → {p : Points} {b′ layers′ : List ℕ} → Left p b′ layers′ → (p ≡ pointsOf a vram k) × ((b′ ≡ filled) × (layers′ ≡ layersFilled a vram k layers))
+    undone : Passed ls → {p : Points} {b′ layers′ : List ℕ} → Left p b′ layers′ → (p ≡ pointsOf a vram k) ×
+        ((b′ ≡ filled) × (layers′ ≡ layersFilled a vram k layers))
     unfolding pointsWith
     undone ok e = (
       e .0 .answer ∙ under-passed ls none (pointsOf a vram k) ok,
       (e .0 .bytes ∙ under-passed ls (λ x. b) filled ok, e .1 ∙ under-passed ls (λ x. layers) (layersFilled a vram k layers) ok),
     )
 
-    pub with-room : {p : Points} {b′ layers′ : List ℕ} → columns a ≤ length layers → Left p b′ layers′ → LayerPointsLeave ls a vram k b filled layers p b′ layers′
+    pub with-room : {p : Points} {b′ layers′ : List ℕ} → columns a ≤ length layers → Left p b′ layers′ → LayerPointsLeave ls a vram k b filled layers
+        p b′ layers′
     unfolding pointsWith
     with-room h e =
         let w = columns a in
@@ -146,7 +157,8 @@ module _ (a : Screen) (vram : List ℕ) (k : Reading) where
 
   -- without room
   layers-stay :
-      (ls : List Line) (b filled layers : List ℕ) (r : Refusal) {p : Points} → first (alsoLayers (columns a) (length layers) ls) ≡ r → refusalNumber r ≢ 0 → p ≡ none r
+      (ls : List Line) (b filled layers : List ℕ) (r : Refusal) {p : Points} → first (alsoLayers (columns a) (length layers) ls) ≡ r → refusalNumber
+      r ≢ 0 → p ≡ none r
       → LayerPointsLeave ls a vram k b filled layers p b layers
   layers-stay ls b filled layers r e n q =
       let h = stays (alsoLayers (columns a) (length layers) ls) b filled layers r e n q in record { points = h .0; owners = h .1 }
@@ -171,17 +183,20 @@ module _ (a : Screen) (vram : List ℕ) (k : Reading) where
     module _ {w : ℕ} (mem : length vram ≡ 16384) (ew : w ≡ rowSize a) where
       pub row-refuses-9 : {p : Points} → length b < w → p ≡ none PixelLength → RowLeft p b layers
       row-refuses-9 h e =
-          stays (rowLines a vram (length b)) b _ layers PixelLength (first-size vram rowSizes mem ∙ short-row (rowSize a) (length b) [] (omega arith)) (λ z. omega arith) e
+          stays (rowLines a vram (length b)) b _ layers PixelLength
+          (first-size vram rowSizes mem ∙ short-row (rowSize a) (length b) [] (omega arith)) (λ z. omega arith) e
 
       pub layers-refuse-9 : {p : Points} → length b < w → p ≡ none PixelLength → RowLayerPointsLeave a vram k b layers p b layers
       layers-refuse-9 h e =
           layers-stay (rowLines a vram (length b)) b _ layers PixelLength
           (first-size vram (rowSizes ++ room) mem ∙ short-row (rowSize a) (length b) room (omega arith)) (λ z. omega arith) e
 
-      pub layers-refuse-16 : {p : Points} → w ≤ length b → length layers < columns a → p ≡ none LayerLength → RowLayerPointsLeave a vram k b layers p b layers
+      pub layers-refuse-16 : {p : Points} → w ≤ length b → length layers < columns a → p ≡ none LayerLength → RowLayerPointsLeave a vram k b layers p
+          b layers
       layers-refuse-16 h s e =
           layers-stay (rowLines a vram (length b)) b _ layers LayerLength
-          (first-size vram (rowSizes ++ room) mem ∙ long-row (rowSize a) (length b) room (omega arith) ∙ short-layers (columns a) (length layers) s) (λ z. omega arith) e
+          (first-size vram (rowSizes ++ room) mem ∙ long-row (rowSize a) (length b) room (omega arith) ∙ short-layers (columns a) (length layers) s)
+          (λ z. omega arith) e
 
       -- R4.1 to R4.5, each by itself
       pub row-accepts :
@@ -189,35 +204,43 @@ module _ (a : Screen) (vram : List ℕ) (k : Reading) where
           → w ≤ length b → up ≡ advanced (at (k .reg)) (k .raster) → row ≡ rowOn a (up .«v_counter»)
           → bits ≡ bitsOf row (pictureOf a (k .reg) (up .«vertical_scroll») vram)
           → b′ ≡ rowWith row a (k .colours) (pictureOf a (k .reg) (up .«vertical_scroll») vram) b
-          → layers′ ≡ layersBy row a (layersOf a (k .reg) (up .«vertical_scroll») vram) layers → last ≡ endedBy (up .«v_counter») (bitOr (k .status) bits)
+          → layers′ ≡ layersBy row a (layersOf a (k .reg) (up .«vertical_scroll») vram) layers → last ≡ endedBy (up .«v_counter»)
+          (bitOr (k .status) bits)
           → i ≡ interruptBy (k .reg) last up → report ≡ reportBy (k .reg) (up .«v_counter») → after ≡ counted (at (k .reg)) up
           → RowLeft (record { refusal = Accepted; interrupt = i; report = report; row = row; status = last; raster = after }) b′ layers′
       unfolding pointsOf
       row-accepts h eu er es eb eo el ei ep ea =
-          done (rowLines a vram (length b)) b _ layers (row-passes a vram (length b) mem (omega arith)) (rw (ei, ep, ea, el, es, er, eu)) (eb ∙ rw (er, eu)) (eo ∙ rw (er, eu))
+          done (rowLines a vram (length b)) b _ layers (row-passes a vram (length b) mem (omega arith)) (rw (ei, ep, ea, el, es, er, eu))
+          (eb ∙ rw (er, eu)) (eo ∙ rw (er, eu))
 
   -- ---- a frame that is not lent, and one whose layers have no room
   module _ (f layers : List ℕ) where
-    pub frame-refuses : {r : Refusal} {p : Points} → (first (frameLines a vram (length f)) ≡ r) × (refusalNumber r ≢ 0) → p ≡ none r → FramePointsLeave a vram k f p f
+    pub frame-refuses : {r : Refusal} {p : Points} → (first (frameLines a vram (length f)) ≡ r) × (refusalNumber r ≢ 0) → p ≡ none r →
+        FramePointsLeave a vram k f p f
     frame-refuses {r} q e = stays (frameLines a vram (length f)) f _ layers r (q .0) (q .1) e .0
 
     pub frame-layers-refuse :
-        {r : Refusal} {p : Points} → (first (frameLines a vram (length f)) ≡ r) × (refusalNumber r ≢ 0) → p ≡ none r → FrameLayerPointsLeave a vram k f layers p f layers
+        {r : Refusal} {p : Points} → (first (frameLines a vram (length f)) ≡ r) × (refusalNumber r ≢ 0) → p ≡ none r → FrameLayerPointsLeave a vram k
+        f layers p f layers
     frame-layers-refuse {r} q e =
         let no : first (frameLines a vram (length f)) ≢ Accepted = λ z. refuses r (q .1) (sym (q .0) ∙ z) in
-        layers-stay (frameLines a vram (length f)) f _ layers r (not-last (columns a) (length layers) (frameLines a vram (length f)) no ∙ q .0) (q .1) e
+        layers-stay (frameLines a vram (length f)) f _ layers r (not-last (columns a) (length layers) (frameLines a vram (length f)) no ∙ q .0)
+        (q .1) e
 
     pub frame-layers-refuse-16 :
-        {p : Points} → length vram ≡ 16384 → length f ≡ frameSize a → length layers < columns a → p ≡ none LayerLength → FrameLayerPointsLeave a vram k f layers p f layers
+        {p : Points} → length vram ≡ 16384 → length f ≡ frameSize a → length layers < columns a → p ≡ none LayerLength → FrameLayerPointsLeave a vram
+        k f layers p f layers
     frame-layers-refuse-16 mem h s e =
         let room = layerLine (columns a) (length layers) in
         layers-stay (frameLines a vram (length f)) f _ layers LayerLength
-        (first-size vram (exactly (frameSize a) (length f) ++ room) mem ∙ exact-frame (frameSize a) (length f) room (omega arith) (omega arith) ∙ short-layers (columns a) (length layers) s)
+        (first-size vram (exactly (frameSize a) (length f) ++ room) mem ∙ exact-frame (frameSize a) (length f) room (omega arith) (omega arith) ∙
+        short-layers (columns a) (length layers) s)
         (λ z. omega arith) e
 
 -- ---- a frame that is not lent
 pub not-lent-is :
-    {a : Screen} {reg : List ℕ} {raster : Raster} {vram : List ℕ} {size : ℕ} {q : Refusal} {r : Lent} → first (frameLines a vram size) ≡ q → refusalNumber q ≢ 0
+    {a : Screen} {reg : List ℕ} {raster : Raster} {vram : List ℕ} {size : ℕ} {q : Refusal} {r : Lent} → first (frameLines a vram size) ≡ q →
+    refusalNumber q ≢ 0
     → (r .good ≡ false) × (r .refusal ≡ q) × (r .start ≡ 0) × (r .end ≡ 0) → LentOut a reg raster vram size r
 not-lent-is {a} {q = q} {r = r} e n f =
     record {
@@ -239,12 +262,14 @@ part-length a r f exact i = mid-len (startOf a r) (startOf a r + rowSize a) f (o
 -- the part put back as a row buffer is left
 placed :
     (a : Screen) (colours : List ℕ) (picture : ℕ → Row) (f : List ℕ) (r : DrawnRow) {ys : List ℕ} → length (partOf a r f) ≡ rowSize a
-    → ys ≡ rowWith r a colours picture (partOf a r f) → putMid (startOf a r) (startOf a r + rowSize a - startOf a r) f ys ≡ frameWith r a colours picture f
+    → ys ≡ rowWith r a colours picture (partOf a r f) → putMid (startOf a r) (startOf a r + rowSize a - startOf a r) f ys ≡ frameWith r a colours
+    picture f
 unfolding rowWith frameWith withRow
 placed a colours picture f NoRow n p = rw p (put-same 0 (0 + rowSize a - 0) f)
 placed a colours picture f (Drawn y) {ys} n p =
     let k : length (partOf a (Drawn y) f) ≤ rowSize a = omega arith in
-    let q : ys ≡ rowBytes colours (columns a) (picture y) = p ∙ rw (drop-of-length-le (partOf a (Drawn y) f) k) (append-nil (rowBytes colours (columns a) (picture y))) in
+    let q : ys ≡ rowBytes colours (columns a) (picture y) = p ∙ rw (drop-of-length-le (partOf a (Drawn y) f) k)
+    (append-nil (rowBytes colours (columns a) (picture y))) in
     let z : postOf (y * rowSize a) (y * rowSize a + rowSize a - y * rowSize a) f ≡ drop (y * rowSize a + rowSize a) f =
     post-is (y * rowSize a) (y * rowSize a + rowSize a) f (omega arith) in
     rw (q, z, mul-comm (rowSize a) y)
@@ -266,19 +291,22 @@ module _ (a : Screen) (vram : List ℕ) (k : Reading) (f layers : List ℕ) (mem
 
   -- the part of it from s to below t, which is the coming row's
   pub frame-accepts :
-      {s t : ℕ} → s ≡ startOf a (comingRow a k) → t ≡ s + rowSize a → {p : Points} {ys layers′ : List ℕ} → RowLeft a vram k (midOf s (t - s) f) layers p ys layers′
+      {s t : ℕ} → s ≡ startOf a (comingRow a k) → t ≡ s + rowSize a → {p : Points} {ys layers′ : List ℕ} → RowLeft a vram k (midOf s (t - s) f)
+      layers p ys layers′
       → FrameLeft p (putMid s (t - s) f ys) layers′
   frame-accepts es et e = rw (et, es) (lent (rw (et, es) at e))
 
 -- ---- the device's step is `joined` of its points, refused or not
-pub joined-with : (ls : List Line) (a : RenderArea) (vram : List ℕ) (d : VdpState) → joined d (pointsWith ls (screenOf a) vram (readingOf d)) ≡ stepWith ls a vram d
+pub joined-with : (ls : List Line) (a : RenderArea) (vram : List ℕ) (d : VdpState) → joined d (pointsWith ls (screenOf a) vram (readingOf d)) ≡
+    stepWith ls a vram d
 unfolding pointsWith stepWith stepped
 joined-with [] a vram d = refl
 joined-with (l ∷ ls) a vram d = split (l .holds) (λ t. rw t) (λ t. rw t (joined-with ls a vram d))
 
 -- what the points read, part by part
 pub reading-of :
-    (d : VdpState) {reg : List ℕ} {raster : Raster} {status : ℕ} {colours : List ℕ} → reg ≡ d .reg → raster ≡ d .raster → status ≡ d .status → colours ≡ coloursNow d
+    (d : VdpState) {reg : List ℕ} {raster : Raster} {status : ℕ} {colours : List ℕ} → reg ≡ d .reg → raster ≡ d .raster → status ≡ d .status →
+    colours ≡ coloursNow d
     → reading reg raster status colours ≡ readingOf d
 reading-of d e f g h = λ i. reading (e i) (f i) (g i) (h i)
 
@@ -296,11 +324,13 @@ module _ (a : RenderArea) (vram : List ℕ) (d : VdpState) {k : Reading} (ek : k
     frame-joined e = record { answer = answered _ (e .answer); bytes = e .bytes ∙ rw ek }
 
     module _ (layers : List ℕ) {layers′ : List ℕ} where
-      pub row-layers-joined : RowLayerPointsLeave (screenOf a) vram k b layers p b′ layers′ → RowLayersLeave (columns (screenOf a)) a vram d b layers s b′ layers′
+      pub row-layers-joined : RowLayerPointsLeave (screenOf a) vram k b layers p b′ layers′ → RowLayersLeave (columns (screenOf a)) a vram d b layers
+          s b′ layers′
       unfolding layersAfter
       row-layers-joined e = record { answer = answered _ (e .points .answer); bytes = e .points .bytes ∙ rw ek; owners = e .owners ∙ rw ek }
 
-      pub frame-layers-joined : FrameLayerPointsLeave (screenOf a) vram k b layers p b′ layers′ → FrameLayersLeave (columns (screenOf a)) a vram d b layers s b′ layers′
+      pub frame-layers-joined : FrameLayerPointsLeave (screenOf a) vram k b layers p b′ layers′ → FrameLayersLeave (columns (screenOf a)) a vram d b
+          layers s b′ layers′
       unfolding layersAfter
       frame-layers-joined e = record { answer = answered _ (e .points .answer); bytes = e .points .bytes ∙ rw ek; owners = e .owners ∙ rw ek }
 
@@ -308,8 +338,12 @@ module _ (a : RenderArea) (vram : List ℕ) (d : VdpState) {k : Reading} (ek : k
 pub aside :
     (a : RenderArea) (vram : List ℕ) (d : VdpState) (b layers : List ℕ) → columns (screenOf a) ≤ length layers
     → (stepWith (alsoLayers (columns (screenOf a)) (length layers) (rowLines (screenOf a) vram (length b))) a vram d ≡ rowStep a vram (length b) d)
-    × (under (alsoLayers (columns (screenOf a)) (length layers) (rowLines (screenOf a) vram (length b))) (λ q. b) (rowFilled (screenOf a) vram (readingOf d) b) ≡ rowAfter a vram d b)
+    × (under (alsoLayers (columns (screenOf a)) (length layers) (rowLines (screenOf a) vram (length b))) (λ q. b)
+    (rowFilled (screenOf a) vram (readingOf d) b) ≡ rowAfter a vram d b)
 unfolding stepWith rowAfter
 aside a vram d b layers h =
-    let ls = rowLines (screenOf a) vram (length b) in
-    (under-also (columns (screenOf a)) (length layers) ls (λ r. refusedStep r d) (stepped a vram d) h, under-also (columns (screenOf a)) (length layers) ls (λ r. b) _ h)
+    let ls = rowLines (screenOf a) vram (length b) in (
+      under-also (columns (screenOf a)) (length layers) ls (λ r. refusedStep r d) (stepped a vram d) h,
+      under-also (columns (screenOf a))
+          (length layers) ls (λ r. b) _ h,
+    )

@@ -56,7 +56,8 @@ abbrev pub layersUnder : List Line → Screen → List ℕ → Reading → List 
 layersUnder lines s vram k layers = under lines (λ r. layers) (layersFilled s vram k layers)
 
 -- What the points under these lines promise of their answer r and of their pixels; `filled` is what an accepted step leaves there.
-pub record PointsLeave (lines : List Line) (s : Screen) (vram : List ℕ) (k : Reading) (pixels filled : List ℕ) (r : Points) (pixels′ : List ℕ) : Type 0 where
+pub record PointsLeave (lines : List Line) (s : Screen) (vram : List ℕ) (k : Reading) (pixels filled : List ℕ) (r : Points) (pixels′ : List ℕ) : Type
+    0 where
   pub answer : r ≡ pointsWith lines s vram k
   pub bytes : pixels′ ≡ under lines (λ q. pixels) filled
 
@@ -72,7 +73,8 @@ abbrev pub alsoLayers : ℕ → ℕ → List Line → List Line
 alsoLayers least size lines = lines ++ (line (ltb size least) LayerLength ∷ [])
 
 -- what the points with layers promise; `lines` are those of the points without
-pub record LayerPointsLeave (lines : List Line) (s : Screen) (vram : List ℕ) (k : Reading) (pixels filled layers : List ℕ) (r : Points) (pixels′ layers′ : List ℕ) : Type 0 where
+pub record LayerPointsLeave (lines : List Line) (s : Screen) (vram : List ℕ) (k : Reading) (pixels filled layers : List ℕ) (r : Points)
+    (pixels′ layers′ : List ℕ) : Type 0 where
   pub points : PointsLeave (alsoLayers (columns s) (length layers) lines) s vram k pixels filled r pixels′
   pub owners : layers′ ≡ layersUnder (alsoLayers (columns s) (length layers) lines) s vram k layers
 

@@ -24,7 +24,8 @@ layersAfter lines a vram d layers = layersUnder lines (screenOf a) vram (reading
 
 -- What a step that asks for `least` layers promises of its answer r, of its pixels and of the layer buffer: `lines` are those of the step without layers,
 -- and `filled` is what an accepted one leaves in the pixels.
-pub record LayersLeave (least : ℕ) (lines : List Line) (a : RenderArea) (vram : List ℕ) (d : VdpState) (pixels filled layers : List ℕ) (r : Stepped) (pixels′ layers′ : List ℕ) : Type 0 where
+pub record LayersLeave (least : ℕ) (lines : List Line) (a : RenderArea) (vram : List ℕ) (d : VdpState) (pixels filled layers : List ℕ) (r : Stepped)
+    (pixels′ layers′ : List ℕ) : Type 0 where
   pub answer : r ≡ stepWith (alsoLayers least (length layers) lines) a vram d
   pub bytes : pixels′ ≡ under (alsoLayers least (length layers) lines) (λ q. pixels) filled
   pub owners : layers′ ≡ layersAfter (alsoLayers least (length layers) lines) a vram d layers

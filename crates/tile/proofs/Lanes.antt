@@ -59,7 +59,12 @@ lanes-is zero w f h e = lt-one h
 lanes-is (suc n) w f h e =
     let p : 2 ^ (8 * suc n) ≡ 2 ^ (8 * n) * 256 = let q : 8 * suc n ≡ 8 * n + 8 = omega arith in ap (λ (k : ℕ). 2 ^ k) q ∙ pow-add 2 (8 * n) 8 in
     let l : w / 256 < 2 ^ (8 * n) = omega arith in
-    omega (arith, sym (lane-zero w) ∙ e 0 (omega arith), lanes-is n (w / 256) (λ k. f (suc k)) l (λ k q. sym (lane-suc w k) ∙ e (suc k) (omega arith)))
+    omega (
+      arith,
+      sym (lane-zero w) ∙ e 0 (omega arith),
+      lanes-is n (w / 256) (λ k. f (suc k)) l
+          (λ k q. sym (lane-suc w k) ∙ e (suc k) (omega arith)),
+    )
 
 digit-le : (b : Bool) → digit b ≤ 1
 digit-le true = omega arith
@@ -82,7 +87,8 @@ pub code-lt : (b0 b1 b2 b3 k : ℕ) → codeOf b0 b1 b2 b3 k < 16
 unfolding codeOf
 code-lt b0 b1 b2 b3 k = omega (arith, digit-le (bit b0 k), digit-le (bit b1 k), digit-le (bit b2 k), digit-le (bit b3 k))
 
-pub lane-code : (b0 b1 b2 b3 w : ℕ) (g : ℕ → ℕ) → w ≡ lanes 8 (λ k. codeOf b0 b1 b2 b3 (7 - g k)) → (i : ℕ) → i < 8 → lane w i ≡ codeOf b0 b1 b2 b3 (7 - g i)
+pub lane-code : (b0 b1 b2 b3 w : ℕ) (g : ℕ → ℕ) → w ≡ lanes 8 (λ k. codeOf b0 b1 b2 b3 (7 - g k)) → (i : ℕ) → i < 8 → lane w i ≡ codeOf b0 b1 b2 b3
+    (7 - g i)
 lane-code b0 b1 b2 b3 w g e i h =
     ap (λ (x : ℕ). lane x i) e
     ∙ lane-lanes 8 (λ k. codeOf b0 b1 b2 b3 (7 - g k)) (λ k. omega (arith, code-lt b0 b1 b2 b3 (7 - g k))) i h

@@ -1,6 +1,6 @@
 -- The layers of a row with a sprite's columns, one column at a time.
 -- Assumes nothing.
-use mathlib.Core.Path.{_≡_, refl, sym, ap, _∙_}
+use mathlib.Core.Path.{_≡_, refl, ap, _∙_}
 use mathlib.Core.Bool.{Bool, true, false, cond, _&&_, and-false}
 use mathlib.Core.List.{List}
 use Prim.Native.Nat.{ℕ, _+_, _-_, _<_, _≤_}
@@ -12,7 +12,6 @@ use lib.Seq.{getD-set-same, getD-set-other}
 use borrow.Author.Tests.{lt-ltb, le-ltb, le-leb, lt-leb}
 use Rattle.laws.specs.Bits.{bit}
 use Rattle.laws.specs.Lists.{at}
-use Rattle.laws.specs.Table.{table}
 use Rattle.laws.proofs.Tables.{length-table, getD-table, is-table}
 use Rattle.picture.specs.Layers.{owner}
 use Rattle.tile.specs.Layer.{stamped}
@@ -72,7 +71,8 @@ module _ (l : List ℕ) (width x n drawn held : ℕ) where
         rw (le-leb x (x + i) a, lt-ltb (x + i - x) (i + 1) b, le-ltb (x + i) width h)
 
     -- the bytes of a list with column i stamped, and of one where it is off the row
-    here : x + i < width → x + i < length l → (m : List ℕ) → m ≡ stamped l width x n drawn held i → owner n (bit drawn i) (bit held i) (at m (x + i)) ≡ stamp (i + 1) (x + i)
+    here : x + i < width → x + i < length l → (m : List ℕ) → m ≡ stamped l width x n drawn held i → owner n (bit drawn i) (bit held i) (at m (x + i))
+        ≡ stamp (i + 1) (x + i)
     here h r m e =
         let q : x + i - x ≡ i = omega arith in
         let o : at m (x + i) ≡ at l (x + i) = ap (λ (z : List ℕ). at z (x + i)) e ∙ stamped-at i (x + i) r ∙ rw old-here in

@@ -2,11 +2,11 @@
 -- Assumes nothing.
 use mathlib.Core.Path.{_≡_, refl, sym, _∙_}
 use mathlib.Core.List.{List}
-use mathlib.Core.Bool.{Bool, true, false, _&&_, not}
+use mathlib.Core.Bool.{Bool, true, false, not}
 use Prim.Native.Nat.{ℕ, _+_, _*_, _/_, _%_, _^_, _<_, _≤_}
 use native.Mathlib.Omega.{arith}
 use lib.Bits.{bitOr, bitAnd, and-mask}
-use lib.Dec.{eqb, ltb}
+use lib.Dec.{eqb}
 use borrow.Author.Tests.{lt-ltb, le-ltb}
 use Rattle.laws.specs.Bits.{bit, digit}
 use Rattle.laws.specs.Lists.{at}
@@ -41,7 +41,8 @@ joined true true true false = refl
 joined true true true true = refl
 
 pub code-is : (b0 b1 b2 b3 k : ℕ)
-    → bitOr (bitOr (bitOr (bitAnd (b3 / 2 ^ k) 1 * 8 % 256) (bitAnd (b2 / 2 ^ k) 1 * 4 % 256)) (bitAnd (b1 / 2 ^ k) 1 * 2 % 256)) (bitAnd (b0 / 2 ^ k) 1 * 1 % 256)
+    → bitOr (bitOr (bitOr (bitAnd (b3 / 2 ^ k) 1 * 8 % 256) (bitAnd (b2 / 2 ^ k) 1 * 4 % 256)) (bitAnd (b1 / 2 ^ k) 1 * 2 % 256))
+    (bitAnd (b0 / 2 ^ k) 1 * 1 % 256)
     ≡ codeOf b0 b1 b2 b3 k
 unfolding codeOf
 code-is b0 b1 b2 b3 k = rw (masked b0 k, masked b1 k, masked b2 k, masked b3 k) (joined (bit b0 k) (bit b1 k) (bit b2 k) (bit b3 k))
@@ -55,7 +56,8 @@ pub marked-past : (vram : List ℕ) (addr start end held k : ℕ) → end ≤ st
 unfolding lineMarked
 marked-past vram addr start end held k h = rw (solid-past start end (codeAt (at vram) addr) k h)
 
-pub drawn-past : (vram : List ℕ) (addr start end held taken width x k : ℕ) → end ≤ start + k → lineDrawn vram addr start end held taken width x k ≡ false
+pub drawn-past : (vram : List ℕ) (addr start end held taken width x k : ℕ) → end ≤ start + k → lineDrawn vram addr start end held taken width x k ≡
+    false
 unfolding lineDrawn
 drawn-past vram addr start end held taken width x k h = rw (marked-past vram addr start end held k h)
 

@@ -56,7 +56,8 @@ unfolding bit
 bit-up-low v s j h =
     let d = s - j - 1 in
     let e : s ≡ suc d + j = omega arith in
-    let q : v * 2 ^ s ≡ v * 2 ^ suc d * 2 ^ j = ap (λ (k : ℕ). v * 2 ^ k) e ∙ ap (λ (k : ℕ). v * k) (pow-add 2 (suc d) j) ∙ sym (mul-assoc v (2 ^ suc d) (2 ^ j)) in
+    let q : v * 2 ^ s ≡ v * 2 ^ suc d * 2 ^ j = ap (λ (k : ℕ). v * 2 ^ k) e ∙ ap (λ (k : ℕ). v * k) (pow-add 2 (suc d) j) ∙ sym
+    (mul-assoc v (2 ^ suc d) (2 ^ j)) in
     ap (λ (x : ℕ). eqb (x / 2 ^ j % 2) 1) q ∙ ap (λ (x : ℕ). eqb (x % 2) 1) (shl-shr (v * 2 ^ suc d) j) ∙ ap (λ (x : ℕ). eqb x 1) (shifted-even v d)
 
 bit-up : (v s j : ℕ) → j < 64 → bit (v * 2 ^ s % 2 ^ 64) j ≡ (leb s j && bit v (j - s))
@@ -105,7 +106,8 @@ three a b d true false e = rw (and-true (unlike a b), and-false (unlike d a)) (o
 three a b d false true e = rw (and-false (unlike a b), and-true (unlike d a)) (back a d)
 three a b d false false e = rw (and-false (unlike a b), and-false (unlike d a)) (none a)
 
-lower : (x s j : ℕ) (u : Bool) → (leb s j && (unlike (bit x (j - s)) (bit x (s + (j - s))) && u)) ≡ (unlike (bit x (j - s)) (bit x j) && (leb s j && u))
+lower : (x s j : ℕ) (u : Bool) → (leb s j && (unlike (bit x (j - s)) (bit x (s + (j - s))) && u)) ≡
+    (unlike (bit x (j - s)) (bit x j) && (leb s j && u))
 lower x s j u =
     elim (decLt j s) [
       | yes l ↦ rw (lt-leb s j l) (sym (and-false (unlike (bit x (j - s)) (bit x j))))
@@ -138,7 +140,8 @@ unfolding exchange
 exchange-lt x s m h =
     let t = bitAnd (bitXor x (x / 2 ^ s)) m in
     let u : bitXor x (x / 2 ^ s) < 2 ^ 64 = xor-lt 64 x (x / 2 ^ s) h (lt-of-le-of-lt (shr-le x s) h) in
-    xor-lt 64 (bitXor x t) (t * 2 ^ s % 2 ^ 64) (xor-lt 64 x t h (lt-of-le-of-lt (and-le-l (bitXor x (x / 2 ^ s)) m) u)) (mod-lt (t * 2 ^ s) (pow-pos 64))
+    xor-lt 64 (bitXor x t) (t * 2 ^ s % 2 ^ 64) (xor-lt 64 x t h (lt-of-le-of-lt (and-le-l (bitXor x (x / 2 ^ s)) m) u))
+    (mod-lt (t * 2 ^ s) (pow-pos 64))
 
 -- ---- tests as numbers, for the sweeps
 digit-false : (b : Bool) → digit b ≡ 0 → b ≡ false
@@ -152,7 +155,12 @@ digit-same false true e = absurd (omega arith)
 digit-same false false e = refl
 
 ltb-digit : (a b : ℕ) → digit (ltb a b) ≡ 1 → a < b
-ltb-digit a b e = elim (decLt a b) [ yes l ↦ l | no nl ↦ let le : b ≤ a = omega arith in absurd (let z : _≡_ {A = ℕ} 0 1 = ap digit (sym (le-ltb a b le)) ∙ e in omega arith) ]
+ltb-digit a b e =
+    elim (decLt a b) [
+      | yes l ↦ l
+      | no nl ↦ let le : b ≤ a = omega arith in absurd
+          (let z : _≡_ {A = ℕ} 0 1 = ap digit (sym (le-ltb a b le)) ∙ e in omega arith)
+    ]
 
 -- ---- the four bytes, their halves apart
 abbrev fours : ℕ → ℕ
@@ -171,7 +179,8 @@ fours-bit x j h l =
         | yes v ↦ rw (lt-ltb j 32 u, lt-leb 28 j v, or-false (bit x j))
         | no nv ↦
             let q : j ≡ 28 + (j - 28) = omega arith in
-            let e = ap (bit 0x0F0F0F0F0F0F0F0F) q ∙ digit-false _ (same 4 (λ i. digit (bit 0x0F0F0F0F0F0F0F0F (28 + i))) (λ i. 0) tt (j - 28) (omega arith)) in
+            let e = ap (bit 0x0F0F0F0F0F0F0F0F) q ∙ digit-false _
+            (same 4 (λ i. digit (bit 0x0F0F0F0F0F0F0F0F (28 + i))) (λ i. 0) tt (j - 28) (omega arith)) in
             rw (e, and-false (bit x j || (leb 28 j && bit x (j - 28))), and-false (bit x (halved j)))
       ]
       | no nu ↦
@@ -190,7 +199,8 @@ source j = moved 14 0x0000CCCC0000CCCC (first j)
 abbrev clash : ℕ → ℕ → ℕ → ℕ
 clash s m j = digit (bit m j && (leb s j && bit m (j - s)))
 
-columns : (x j : ℕ) → x < 2 ^ 32 → j < 64 → bit (exchange (exchange (fours x) 14 0x0000CCCC0000CCCC) 7 0x00AA00AA00AA00AA) j ≡ (bit x (halved (source j)) && ltb (j % 8) 4)
+columns : (x j : ℕ) → x < 2 ^ 32 → j < 64 → bit (exchange (exchange (fours x) 14 0x0000CCCC0000CCCC) 7 0x00AA00AA00AA00AA) j ≡
+    (bit x (halved (source j)) && ltb (j % 8) 4)
 unfolding bit
 columns x j h l =
     let a = digit-false _ (same 64 (clash 7 0x00AA00AA00AA00AA) (λ j. 0) tt j l) in
@@ -240,24 +250,38 @@ code-byte x k h =
     λ r l. ap (λ (b : Bool). digit (bit x (8 * r + k) && b)) (lt-ltb r 4 l) ∙ ap digit (and-true (bit x (8 * r + k)) ∙ sym (bit-lane x r k h)) in
     let z : (r : ℕ) → 4 ≤ r → digit (bit x (8 * r + k) && ltb r 4) ≡ 0 =
     λ r l. ap (λ (b : Bool). digit (bit x (8 * r + k) && b)) (le-ltb r 4 l) ∙ ap digit (and-false (bit x (8 * r + k))) in
-    omega (arith, q 0 (omega arith), q 1 (omega arith), q 2 (omega arith), q 3 (omega arith), z 4 (omega arith), z 5 (omega arith), z 6 (omega arith), z 7 (omega arith))
+    omega (
+      arith,
+      q 0 (omega arith),
+      q 1 (omega arith),
+      q 2 (omega arith),
+      q 3 (omega arith),
+      z 4 (omega arith),
+      z 5 (omega arith),
+      z 6
+          (omega arith),
+      z 7 (omega arith),
+    )
 
 codes-lane : (x k : ℕ) → x < 2 ^ 32 → k < 8 → lane (codes x) k ≡ codeOf (lane x 0) (lane x 1) (lane x 2) (lane x 3) k
 codes-lane x k h hk =
-    byte-is (lane (codes x) k) (λ r. bit x (8 * r + k) && ltb r 4) (lane-lt (codes x) k) (λ r l. sym (bit-lane (codes x) k r l ∙ squares x k r h hk l))
+    byte-is (lane (codes x) k) (λ r. bit x (8 * r + k) && ltb r 4) (lane-lt (codes x) k)
+    (λ r l. sym (bit-lane (codes x) k r l ∙ squares x k r h hk l))
     ∙ code-byte x k hk
 
 fours-lt : (x : ℕ) → x < 2 ^ 32 → fours x < 2 ^ 64
 fours-lt x h = lt-of-le-of-lt (and-le-r (bitOr x (x * 2 ^ 28 % 2 ^ 64)) 0x0F0F0F0F0F0F0F0F) (omega arith)
 
-pub codes-are : (x : ℕ) (f : ℕ → ℕ) → x < 2 ^ 32 → ((k : ℕ) → k < 8 → f k ≡ k) → codes x ≡ lanes 8 (λ k. codeOf (lane x 0) (lane x 1) (lane x 2) (lane x 3) (f k))
+pub codes-are : (x : ℕ) (f : ℕ → ℕ) → x < 2 ^ 32 → ((k : ℕ) → k < 8 → f k ≡ k) → codes x ≡ lanes 8
+    (λ k. codeOf (lane x 0) (lane x 1) (lane x 2) (lane x 3) (f k))
 codes-are x f h e =
     lanes-is 8 (codes x) (λ k. codeOf (lane x 0) (lane x 1) (lane x 2) (lane x 3) (f k))
     (exchange-lt (exchange (fours x) 14 0x0000CCCC0000CCCC) 7 0x00AA00AA00AA00AA (exchange-lt (fours x) 14 0x0000CCCC0000CCCC (fours-lt x h)))
     (λ k l. codes-lane x k h l ∙ ap (codeOf (lane x 0) (lane x 1) (lane x 2) (lane x 3)) (sym (e k l)))
 
 -- ---- the four bytes laid over each other
-pub solid-is : (x : ℕ) → bitOr (bitOr x (x / 2 ^ 16)) (bitOr x (x / 2 ^ 16) / 2 ^ 8) % 256 ≡ bitOr (bitOr (lane x 0) (lane x 2)) (bitOr (lane x 1) (lane x 3))
+pub solid-is : (x : ℕ) → bitOr (bitOr x (x / 2 ^ 16)) (bitOr x (x / 2 ^ 16) / 2 ^ 8) % 256 ≡ bitOr (bitOr (lane x 0) (lane x 2))
+    (bitOr (lane x 1) (lane x 3))
 unfolding lane
 solid-is x =
     or-mod (bitOr x (x / 2 ^ 16)) (bitOr x (x / 2 ^ 16) / 2 ^ 8) 8

@@ -11,7 +11,8 @@ use Rattle.laws.specs.Paint.{put, putIf, painted, overlaid, ofBytes}
 use Rattle.laws.proofs.Paint.{painted-step, put-other, overlaid-step}
 use Rattle.laws.proofs.Bytes.{byte-0, byte-1, byte-2, byte-3}
 
-put-same : (row : List ℕ) (x : ℕ) → ((k : ℕ) → x * 4 ≤ k → at row k < 256) → put row x (ofBytes (at row (x * 4)) (at row (x * 4 + 1)) (at row (x * 4 + 2)) (at row (x * 4 + 3))) ≡ row
+put-same : (row : List ℕ) (x : ℕ) → ((k : ℕ) → x * 4 ≤ k → at row k < 256) → put row x
+    (ofBytes (at row (x * 4)) (at row (x * 4 + 1)) (at row (x * 4 + 2)) (at row (x * 4 + 3))) ≡ row
 unfolding put
 put-same row x h =
     let r = at row (x * 4) in
@@ -22,10 +23,20 @@ put-same row x h =
     let hg = h (x * 4 + 1) (omega arith) in
     let hb = h (x * 4 + 2) (omega arith) in
     let ha = h (x * 4 + 3) (omega arith) in
-    rw (byte-0 r g b a hr hg hb ha, byte-1 r g b a hr hg hb ha, byte-2 r g b a hr hg hb ha, byte-3 r g b a hr hg hb ha, set-getD, set-getD, set-getD, set-getD)
+    rw (
+      byte-0 r g b a hr hg hb ha,
+      byte-1 r g b a hr hg hb ha,
+      byte-2 r g b a hr hg hb ha,
+      byte-3 r g b a hr hg hb ha,
+      set-getD,
+      set-getD,
+      set-getD,
+      set-getD,
+    )
 
 choose-is : (shown : Bool) (row : List ℕ) (x c : ℕ) {old v : ℕ} → ((k : ℕ) → x * 4 ≤ k → at row k < 256)
-    → old ≡ ofBytes (at row (x * 4)) (at row (x * 4 + 1)) (at row (x * 4 + 2)) (at row (x * 4 + 3)) → v ≡ cond shown c old → put row x v ≡ putIf shown row x c
+    → old ≡ ofBytes (at row (x * 4)) (at row (x * 4 + 1)) (at row (x * 4 + 2)) (at row (x * 4 + 3)) → v ≡ cond shown c old → put row x v ≡ putIf
+    shown row x c
 choose-is true row x c h e q = ap (put row x) q
 choose-is false row x c h e q = ap (put row x) (q ∙ e) ∙ put-same row x h
 

@@ -75,7 +75,8 @@ module _ (vram : List ℕ) (addr x : ℕ) (small : (k : ℕ) → at vram k < 256
       ∙ ap (λ (n : ℕ). not (eqb n 0)) (line-code (turned flip (start + i)))
 
 -- ---- a sprite
-pub overlaid-cong : (row : List ℕ) (x n : ℕ) (s t : ℕ → Bool) (f g : ℕ → ℕ) → ((i : ℕ) → i < n → s i ≡ t i) → ((i : ℕ) → i < n → f i ≡ g i) → overlaid row x n s f ≡ overlaid row x n t g
+pub overlaid-cong : (row : List ℕ) (x n : ℕ) (s t : ℕ → Bool) (f g : ℕ → ℕ) → ((i : ℕ) → i < n → s i ≡ t i) → ((i : ℕ) → i < n → f i ≡ g i) →
+    overlaid row x n s f ≡ overlaid row x n t g
 unfolding overlaid
 overlaid-cong row x zero s t f g hs hf = refl
 overlaid-cong row x (suc n) s t f g hs hf =
@@ -97,7 +98,8 @@ module _ (vram : List ℕ) (addr start end held taken width x bits room : ℕ) (
   unfolding lineMarked
   mark-at k h = bit-and bits (255 - held) k ∙ ap₂ _&&_ (e k h) (bit-lacks held k hh h)
 
-  pub draw-at : (k : ℕ) → k < 8 → bit (bitAnd (bitAnd (bitAnd bits (255 - held)) (255 - taken)) room) k ≡ lineDrawn vram addr start end held taken width x k
+  pub draw-at : (k : ℕ) → k < 8 → bit (bitAnd (bitAnd (bitAnd bits (255 - held)) (255 - taken)) room) k ≡ lineDrawn vram addr start end held taken
+      width x k
   unfolding lineDrawn
   draw-at k h =
       bit-and (bitAnd (bitAnd bits (255 - held)) (255 - taken)) room k
@@ -113,7 +115,13 @@ module _ (vram : List ℕ) (addr start end held taken width x bits room : ℕ) (
   pub drawn-are : bitAnd (bitAnd (bitAnd bits (255 - held)) (255 - taken)) room ≡ byteOf (lineDrawn vram addr start end held taken width x)
   drawn-are =
       byte-is _ _
-      (omega (arith, and-le-l (bitAnd (bitAnd bits (255 - held)) (255 - taken)) room, and-le-l (bitAnd bits (255 - held)) (255 - taken), and-le-l bits (255 - held)))
+      (omega (
+        arith,
+        and-le-l (bitAnd (bitAnd bits (255 - held)) (255 - taken)) room,
+        and-le-l (bitAnd bits (255 - held)) (255 - taken),
+        and-le-l
+            bits (255 - held),
+      ))
       (λ j l. sym (draw-at j l))
 
   pub held-are : bitAnd bits held ≡ byteOf (lineHeld vram addr start end held)
@@ -127,12 +135,14 @@ bit-all k h = digit-same _ _ (eqb→eq _ _ (sweep.at 8 (λ j. eqb (digit (bit 25
 pub whole-room : (width x k : ℕ) → x + 8 ≤ width → k < 8 → bit 255 k ≡ ltb (x + k) width
 whole-room width x k h l = let q : x + k < width = omega arith in bit-all k l ∙ sym (lt-ltb (x + k) width q)
 
-pub whole-solid : (vram : List ℕ) (addr bits k : ℕ) → k < 8 → bit bits k ≡ lineSolid vram addr false 0 k → bit bits k ≡ solid 0 8 (codeAt (at vram) addr) k
+pub whole-solid : (vram : List ℕ) (addr bits k : ℕ) → k < 8 → bit bits k ≡ lineSolid vram addr false 0 k → bit bits k ≡ solid 0 8
+    (codeAt (at vram) addr) k
 unfolding solid
 whole-solid vram addr bits k h e = let q : 0 + k < 8 = omega arith in e ∙ rw (lt-ltb (0 + k) 8 q)
 
 -- part of a line: n pixels from pixel start on, and those that the row has
-pub part-solid : (vram : List ℕ) (addr start end n k : ℕ) (f : ℕ → Bool) → start < end → end ≤ 8 → n ≡ end - start → ((i : ℕ) → start + i < 8 → f i ≡ lineSolid vram addr false start i)
+pub part-solid : (vram : List ℕ) (addr start end n k : ℕ) (f : ℕ → Bool) → start < end → end ≤ 8 → n ≡ end - start →
+    ((i : ℕ) → start + i < 8 → f i ≡ lineSolid vram addr false start i)
     → bit (number n f) k ≡ solid start end (codeAt (at vram) addr) k
 unfolding solid
 part-solid vram addr start end n k f l h en e =
@@ -187,7 +197,8 @@ module _ (vram : List ℕ) (addr start end held taken width x : ℕ) (h : end �
 
   pub none-laid : (row : List ℕ) (f : ℕ → ℕ) → row ≡ overlaid row x 8 (lineDrawn vram addr start end held taken width x) f
   unfolding overlaid
-  none-laid row f = overlaid-all row x _ f 0 (omega arith) (λ k z. let q : end ≤ start + k = omega arith in drawn-past vram addr start end held taken width x k q)
+  none-laid row f = overlaid-all row x _ f 0 (omega arith)
+      (λ k z. let q : end ≤ start + k = omega arith in drawn-past vram addr start end held taken width x k q)
 
 -- no bits of no bits
 pub none-left : (k : ℕ) → bitAnd 0 k ≡ 0

@@ -1,11 +1,11 @@
 // One line of a tile, drawn into a row of pixels: as background, and as a sprite.
 ghost use mathlib.Core.Path.{_≡_};
-ghost use mathlib.Core.Bool.{true, cond, _&&_, not};
+ghost use mathlib.Core.Bool.{true, cond};
 ghost use Prim.Native.Nat.{ℕ, _+_, _-_, _*_, _%_, _^_, _<_, _≤_};
 ghost use lib.ListN.{length, set};
-ghost use lib.Bits.{bitAnd, bitOr};
+ghost use lib.Bits.{bitOr};
 ghost use lib.Dec.{ltb};
-ghost use Rattle.laws.specs.Bits.{bit, digit, number, byteOf};
+ghost use Rattle.laws.specs.Bits.{bit, number, byteOf};
 ghost use Rattle.laws.specs.Lists.{at};
 ghost use Rattle.laws.specs.Paint.{put, painted, putIf, overlaid, ofBytes};
 ghost use Rattle.picture.specs.Tile.{codeOf, codeAt, turned};
@@ -14,6 +14,7 @@ ghost use Rattle.picture.specs.Layers.{owner};
 ghost use Rattle.tile.specs.Lanes.{lanes, lane, exchange};
 ghost use Rattle.tile.specs.Layer.{stamped};
 ghost use Rattle.tile.specs.Line.{lineColour, lineSolid, lineMarked, lineDrawn, lineHeld, spriteColour};
+use column::Columns;
 
 // ---- marks
 
@@ -293,13 +294,6 @@ pub fn character_whole(
 
 // ---- a sprite
 
-// What became of a sprite's eight columns, a bit for each: marked, drawn, and held back by priority.
-pub struct Columns {
-    pub marks: u8,
-    pub drawn: u8,
-    pub held: u8,
-}
-
 // The columns of a sprite that a row of `width` pixels has from pixel x on, a bit for each.
 fn in_row(width: usize, x: usize) -> u8
     ensures { λ r. ⌜ r ≡ byteOf (λ k. ltb (x + k) width) ⌝ }
@@ -308,19 +302,6 @@ fn in_row(width: usize, x: usize) -> u8
         return 0;
     }
     cut(255, 0, small::smaller(width - x, 8))
-}
-
-// What becomes of the columns `all` whose code is not 0: `held` are held back, `taken` are marked already, and `room` are in the row.
-fn fates(all: u8, held: u8, taken: u8, room: u8) -> Columns
-    ensures { λ r. ⌜ (r .marks ≡ bitAnd all (255 - held)) × (r .drawn ≡ bitAnd (bitAnd (bitAnd all (255 - held)) (255 - taken)) room) × (r .held ≡ bitAnd all held) ⌝ }
-{
-    let marks = all & (255 - held);
-    let drawn = marks & (255 - taken) & room;
-    Columns {
-        marks: marks,
-        drawn: drawn,
-        held: all & held,
-    }
 }
 
 // The colours in palette 1 that the first n lanes name, from pixel x of the row on, where `drawn` has their bits.
@@ -356,12 +337,12 @@ pub fn sprite_columns(
     ensures { λ r. ⌜ (r .marks ≡ byteOf (lineMarked (now (vram .entry)) addr start end held)) × (r .drawn ≡ byteOf (lineDrawn (now (vram .entry)) addr start end held taken width x)) × (r .held ≡ byteOf (lineHeld (now (vram .entry)) addr start end held)) ⌝ }
 {
     if end <= start {
-        return fates(0, held, taken, 0);
+        return column::fates(0, held, taken, 0);
     }
     let n = end - start;
     let p = four_at(vram, addr);
     let all = cut(reversed(solid_of(p)), start, n);
-    let columns = fates(all, held, taken, in_row(width, x));
+    let columns = column::fates(all, held, taken, in_row(width, x));
     overlay_some(
         row,
         colours,
@@ -438,7 +419,7 @@ fn sprite_whole(
     ensures { λ r. ⌜ (r .marks ≡ byteOf (lineMarked (now (vram .entry)) addr 0 8 held)) × (r .drawn ≡ byteOf (lineDrawn (now (vram .entry)) addr 0 8 held taken width x)) × (r .held ≡ byteOf (lineHeld (now (vram .entry)) addr 0 8 held)) ⌝ }
 {
     let p = four_at(vram, addr);
-    let columns = fates(reversed(solid_of(p)), held, taken, 255);
+    let columns = column::fates(reversed(solid_of(p)), held, taken, 255);
     overlay_by(row, colours, 16, x, codes_of(false, p), columns.drawn);
     columns
 }
@@ -487,27 +468,13 @@ pub fn character_line_sprite_bitmap(vram: &[u8], addr: usize, start: usize, end:
 
 // ---- the layers
 
-// The layer of a column that was `own`, where sprite n's pixel is drawn, or is held back, or neither.
-fn owner_of(n: usize, drawn: bool, held: bool, own: u8) -> u8
-    requires { ⌜ n < 64 ⌝ }
-    ensures { λ r. ⌜ r ≡ owner n drawn held own ⌝ }
-{
-    if drawn {
-        return (64 + n) as u8;
-    }
-    if small::both(held, own == 0) {
-        return 1;
-    }
-    own
-}
-
-// The same at column k, if the row has it.
+// The layer of column k, if the row has it, where sprite n's pixel is drawn, or is held back, or neither.
 fn own_column(layers: &mut [u8], width: usize, k: usize, n: usize, drawn: bool, held: bool)
     requires { ⌜ (width ≤ length (now layers)) × (n < 64) ⌝ }
     ensures { λ r. ⌜ now (layers .exit) ≡ cond (ltb k width) (set (now (layers .entry)) k (owner n drawn held (at (now (layers .entry)) k))) (now (layers .entry)) ⌝ }
 {
     if k < width {
-        layers[k] = owner_of(n, drawn, held, layers[k]);
+        layers[k] = column::owner_of(n, drawn, held, layers[k]);
     }
 }
 

@@ -58,7 +58,8 @@ module _ (vram : List ℕ) (n : ℕ) (codes : List ℕ) where
             record { refusal = rw (t, u, v, h); memory = rw (t, u, v, h) }
 
         pub write-0 :
-            {vram′ : List ℕ} → anyHigh codes ≡ false → vram′ ≡ written vram (32 * n) (tileBytes (λ k. at codes (0 + k))) → WriteLeaves vram n codes Accepted vram′
+            {vram′ : List ℕ} → anyHigh codes ≡ false → vram′ ≡ written vram (32 * n) (tileBytes (λ k. at codes (0 + k))) → WriteLeaves vram n codes
+            Accepted vram′
         unfolding writeTileRefusal tileWritten
         write-0 h e =
             let t = eq-eqb (length vram) 16384 mem in

@@ -18,7 +18,8 @@ use Rattle.tiles.proofs.Planes.{byte-of-tile}
 
 -- a code from its four weights
 pub code-sum :
-    (b0 b1 b2 b3 i : ℕ) {w0 w1 w2 w3 : ℕ} → w0 ≡ 1 * digit (bit b0 i) → w1 ≡ 2 * digit (bit b1 i) → w2 ≡ 4 * digit (bit b2 i) → w3 ≡ 8 * digit (bit b3 i)
+    (b0 b1 b2 b3 i : ℕ) {w0 w1 w2 w3 : ℕ} → w0 ≡ 1 * digit (bit b0 i) → w1 ≡ 2 * digit (bit b1 i) → w2 ≡ 4 * digit (bit b2 i) → w3 ≡ 8 * digit
+    (bit b3 i)
     → w0 + w1 + (w2 + w3) ≡ codeOf b0 b1 b2 b3 i
 unfolding codeOf
 code-sum b0 b1 b2 b3 i e0 e1 e2 e3 = omega arith

@@ -53,7 +53,8 @@ read-taken vram n size e =
     (λ u. let z = ap refusalNumber (simp (t, u) at e) in absurd (omega (arith, z))))
     (λ t. let z = ap refusalNumber (simp t at e) in absurd (omega (arith, z)))
 
-pub write-taken : (vram : List ℕ) (n : ℕ) (codes : List ℕ) → writeTileRefusal vram n codes ≡ Accepted → Taken vram n (length codes) × (anyHigh codes ≡ false)
+pub write-taken : (vram : List ℕ) (n : ℕ) (codes : List ℕ) → writeTileRefusal vram n codes ≡ Accepted → Taken vram n (length codes) ×
+    (anyHigh codes ≡ false)
 unfolding writeTileRefusal
 write-taken vram n codes e =
     split (whole vram)
@@ -75,11 +76,13 @@ unfolding writeTileRefusal
 writes vram n codes g h = rw (eq-eqb (length vram) 16384 (g .mem), le-leb n 511 (g .few), eq-eqb (length codes) 64 (g .many), h)
 
 -- ---- what it left
-pub wrote : (vram : List ℕ) (n : ℕ) (codes : List ℕ) → writeTileRefusal vram n codes ≡ Accepted → tileWritten vram n codes ≡ written vram (32 * n) (tileBytes (at codes))
+pub wrote : (vram : List ℕ) (n : ℕ) (codes : List ℕ) → writeTileRefusal vram n codes ≡ Accepted → tileWritten vram n codes ≡ written vram (32 * n)
+    (tileBytes (at codes))
 unfolding tileWritten
 wrote vram n codes e = rw e
 
-pub read : (vram : List ℕ) (n : ℕ) (buffer : List ℕ) → readTileRefusal vram n (length buffer) ≡ Accepted → tileRead vram n buffer ≡ codesAt (at vram) (32 * n)
+pub read : (vram : List ℕ) (n : ℕ) (buffer : List ℕ) → readTileRefusal vram n (length buffer) ≡ Accepted → tileRead vram n buffer ≡ codesAt (at vram)
+    (32 * n)
 unfolding tileRead
 read vram n buffer e = rw e
 
@@ -92,7 +95,8 @@ base : (b : Bool) → cond b 8192 0 ≡ 32 * cond b 256 0
 base true = refl
 base false = refl
 
-sprite-at : (g : ℕ → ℕ) (tile d n : ℕ) → cond (bit (g 6) 2) 256 0 + cond (tall g) (tile / 2 * 2 + d / 8) tile ≡ n → spriteLine g tile d ≡ 32 * n + 4 * (d % 8)
+sprite-at : (g : ℕ → ℕ) (tile d n : ℕ) → cond (bit (g 6) 2) 256 0 + cond (tall g) (tile / 2 * 2 + d / 8) tile ≡ n → spriteLine g tile d ≡ 32 * n + 4
+    * (d % 8)
 unfolding spriteLine
 sprite-at g tile d n e = omega (arith, e, base (bit (g 6) 2))
 
@@ -114,7 +118,8 @@ module _ (vram : List ℕ) (n : ℕ) (codes : List ℕ) (e : writeTileRefusal vr
   showing x y hx hy =
       ap (λ (l : List ℕ). codeAt (at l) (32 * n + 4 * y) x) (wrote vram n codes e)
       ∙ shown (at (written vram (32 * n) (tileBytes (at codes)))) (32 * n) (at codes)
-      (λ j h. let l : j < length (tileBytes (at codes)) = omega (arith, tile-long (at codes)) in written-at vram (32 * n) (tileBytes (at codes)) fits j l)
+      (λ j h. let l : j < length (tileBytes (at codes)) = omega (arith, tile-long (at codes)) in written-at vram (32 * n) (tileBytes (at codes)) fits
+      j l)
       x y hx hy
       (none-high codes (write-taken vram n codes e .1) (8 * y + x) (omega (arith, g .many)))
 
@@ -139,7 +144,8 @@ module _ (vram : List ℕ) (n : ℕ) (codes : List ℕ) (e : writeTileRefusal vr
             λ lo hi x y q.
             let m = at (tileWritten vram n codes) in
             ap (λ (t : ℕ). codeAt m (32 * t + 4 * turned (bit hi 2) (y % 8)) (turned (bit hi 1) (x % 8))) q
-            ∙ showing (turned (bit hi 1) (x % 8)) (turned (bit hi 2) (y % 8)) (turned-low (bit hi 1) (x % 8) (omega arith)) (turned-low (bit hi 2) (y % 8) (omega arith));
+            ∙ showing (turned (bit hi 1) (x % 8)) (turned (bit hi 2) (y % 8)) (turned-low (bit hi 1) (x % 8) (omega arith))
+            (turned-low (bit hi 2) (y % 8) (omega arith));
         sprite =
             λ r tile d x hx q.
             ap (λ (a : ℕ). codeAt (at (tileWritten vram n codes)) a x) (sprite-at r tile d n q) ∙ showing x (d % 8) hx (omega arith);

@@ -76,7 +76,8 @@ module _ (s out : List ℕ) where
     unfolding written
     bad-counted c b = counted out badLine (omega arith) c b
 
-    module _ (good : isSheet s ≡ true) {k n : ℕ} {out′ : List ℕ} (all : k ≡ tilesIn s) (count : n ≡ 32 * k) (bytes : out′ ≡ written out 0 (sheetBytes k s)) where
+    module _ (good : isSheet s ≡ true) {k n : ℕ} {out′ : List ℕ} (all : k ≡ tilesIn s) (count : n ≡ 32 * k)
+        (bytes : out′ ≡ written out 0 (sheetBytes k s)) where
       whole : out′ ≡ written out 0 (sheetBytes (tilesIn s) s)
       whole = bytes ∙ ap (λ (j : ℕ). written out 0 (sheetBytes j s)) all
 

@@ -46,7 +46,8 @@ pub record Sheet (s : List ℕ) : Type 0 where
   pub size : length s ≡ 64 * tiles
   pub low : (k : ℕ) → k < length s → at s k < 16
 
--- Of the program: `bad` exactly for what is no sheet; of a sheet 32 bytes a tile, and what it writes for tile t is what a write of these codes to any tile stores.
+-- Of the program: `bad` exactly for what is no sheet; of a sheet 32 bytes a tile, and what it writes for tile t is what a write of these codes to any
+-- tile stores.
 pub record Converts (s : List ℕ) : Type 0 where
   pub bad : (converted s ≡ badLine) ↔ (Sheet s → ⊥)
   pub long : (h : Sheet s) → length (converted s) ≡ 32 * h .tiles

@@ -1,7 +1,7 @@
 // Prints what a recording does, call by call, on a fresh device: one of the chart's line table.
 ghost use mathlib.Core.Path.{_≡_};
 ghost use lib.ListN.{length};
-use recording::Device;
+use trace_run::Device;
 use vdp::VdpState;
 
 // Room for the text of any recording. The contract gives only the length: so long an array then costs its caller's check nothing.
@@ -30,6 +30,6 @@ fn main() {
         return;
     }
     let n = taken.len;
-    let k = recording::trace(device, &input[..n], &mut vram, &mut row, &mut text);
+    let k = trace_output::trace(device, &input[..n], &mut vram, &mut row, &mut text);
     program::output(b"trace", &text[..k]);
 }

@@ -107,7 +107,8 @@ module _ (s : VdpState) where
       let b = front-write-behind f 64 m p v in
       record {
         device = either LeftW (a .answer .palette) (λ t. rw (k .palette t .answer) (palette v)) (λ _ n. ap (withFront s) (b .front n));
-        memory = either (λ (w : Written). w .refusal ≢ Accepted → a .vram ≡ m) (a .answer .palette) (λ t _. k .palette t .memory) (λ _ n. b .memory n);
+        memory = either (λ (w : Written). w .refusal ≢ Accepted → a .vram ≡ m) (a .answer .palette) (λ t _. k .palette t .memory)
+            (λ _ n. b .memory n);
       }
 
   pub read-behind : (m : List ℕ) (p : ℕ) → LeftR (portRead s m p)

@@ -20,7 +20,8 @@ use Rattle.vdp.specs.declared.Refusal.{Refusal}
 use Rattle.vdp.specs.declared.Refusal.the-variants.{Accepted, HighRegister, NothingChosen, PaletteRead, NoPaletteByte, OutsideMemory}
 use Rattle.vdp.specs.Front.{emptied, secondByte, commandBy, dataBy, readBy}
 use Rattle.vdp.specs.Device.{frontOf, withFront, unlatched}
-use Rattle.vdp.specs.Refusals.{Line, first, line, isEmpty, isNone, isPalette, sizeOf, whole, isPort, frontWriteLines, frontReadLines, writeLines, readLines}
+use Rattle.vdp.specs.Refusals.{Line, first, line, isEmpty, isNone, isPalette, sizeOf, whole, isPort, frontWriteLines, frontReadLines}
+use Rattle.vdp.specs.Refusals.{writeLines, readLines}
 use Rattle.vdp.specs.Ports.{frontWrite, frontRead, oddPalette, paletteWrite, portWrite, portRead}
 
 -- ---- a write on a front; q is the refusal of the machine's own palette, on a front, and `more` its lines
@@ -78,7 +79,8 @@ odd-exact : (l : Latch) (s : VdpState) (v : ℕ) → oddPalette l s v .refusal �
 odd-exact Empty s v = refl
 odd-exact (Held d) s v = refl
 
-palette-exact : (s : VdpState) (v : ℕ) → paletteWrite s v .refusal ≡ cond (not (eqb (s .addr % 2) 0) && isEmpty (s .«cram_byte1»)) NoPaletteByte Accepted
+palette-exact : (s : VdpState) (v : ℕ) → paletteWrite s v .refusal ≡ cond (not (eqb (s .addr % 2) 0) && isEmpty (s .«cram_byte1»)) NoPaletteByte
+    Accepted
 palette-exact s v = split (eqb (s .addr % 2) 0) (λ e. simp e) (λ e. simp e (odd-exact (s .«cram_byte1») s v))
 
 pub write-exact : (s : VdpState) (m : List ℕ) (p v : ℕ) → portWrite s m p v .answer .refusal ≡ first (writeLines s m p v)

@@ -97,8 +97,16 @@ module _ (n : ℕ) (f : Front) (m : List ℕ) (p : ℕ) (h : AimedFront n f) whe
 
   pub front-read-inside : refusalNumber (first (frontReadLines n f m p)) ≢ 7
   front-read-inside =
-      first-not 7 (λ z. omega arith) (frontReadLines n f m p)
-      (λ _. omega arith, (λ _. omega arith, (λ _. omega arith, (λ _. omega arith, (λ _. omega arith, (λ e. absurd (not-outside (isPort 0xBE p) e), tt))))))
+      first-not 7 (λ z. omega arith) (frontReadLines n f m p) (
+        λ _. omega arith,
+        (
+          λ _. omega arith,
+          (
+            λ _. omega arith,
+            (λ _. omega arith, (λ _. omega arith, (λ e. absurd (not-outside (isPort 0xBE p) e), tt))),
+          ),
+        ),
+      )
 
 -- ---- of the device
 abbrev LeftBy : Written → Type 0

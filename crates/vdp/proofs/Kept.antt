@@ -54,7 +54,12 @@ module _ (n : ℕ) (f : Front) (m : List ℕ) where
   to-chosen Vram v e = either Keeps (ltb (f .addr) 16384) (λ _. left _ refl (simp length-set) refl) (λ _. left _ refl refl refl)
   to-chosen Cram v e =
       either KeptW (ltb (f .addr) n)
-      (λ t. record { registers = refl; memory = refl; palette = λ _. record { answer = refl; memory = refl; chosen = e; inside = ltb-true (f .addr) n t } })
+      (λ t. record {
+        registers = refl;
+        memory = refl;
+        palette = λ _. record
+            { answer = refl; memory = refl; chosen = e; inside = ltb-true (f .addr) n t };
+      })
       (λ _. left _ refl refl refl)
 
   pub write-kept : (p v : ℕ) → Keeps (frontWrite n f m p v)

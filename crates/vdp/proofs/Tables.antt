@@ -2,7 +2,7 @@
 -- Assumes nothing.
 use mathlib.Core.Path.{_≡_, refl, ap}
 use mathlib.Core.Logic.{_≢_}
-use mathlib.Core.Bool.{true, false, cond}
+use mathlib.Core.Bool.{true, false}
 use mathlib.Core.List.{List, [], _∷_}
 use Prim.Native.Nat.{ℕ}
 use Rattle.laws.proofs.Tests.{split, either}
@@ -25,7 +25,8 @@ pub refuses : (r : Refusal) → refusalNumber r ≢ 0 → r ≢ Accepted
 refuses r n e = n (ap refusalNumber e)
 
 -- what holds of each refusal, and of the call where no line holds, holds of what comes
-pub under-either : {A : Type 0} (P : A → Type 0) (ls : List Line) (refuse : Refusal → A) (call : A) → ((r : Refusal) → P (refuse r)) → (Passed ls → P call) → P (under ls refuse call)
+pub under-either : {A : Type 0} (P : A → Type 0) (ls : List Line) (refuse : Refusal → A) (call : A) → ((r : Refusal) → P (refuse r)) →
+    (Passed ls → P call) → P (under ls refuse call)
 under-either P [] refuse call f g = g tt
 under-either P (l ∷ ls) refuse call f g = either P (l .holds) (λ _. f (l .refusal)) (λ t. under-either P ls refuse call f (λ p. g (t, p)))
 

@@ -7,7 +7,7 @@ use Rattle.laws.specs.Sizes.{vramSize}
 use Rattle.vdp.specs.declared.VdpState.{VdpState}
 use Rattle.vdp.specs.Device.{fresh}
 use Rattle.vdp.specs.Refusals.{refusalNumber}
-use Rattle.vdp.specs.Ports.{After, portWrite, portRead}
+use Rattle.vdp.specs.Ports.{portWrite, portRead}
 
 -- A call of a port: a write of a byte, or a read.
 pub data Call : Type 0 where

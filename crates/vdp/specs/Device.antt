@@ -49,7 +49,9 @@ abbrev pub frontOf : VdpState → Front
 frontOf d = front (d .status) (d .reg) (d .addr) (d .«vram_buffer») (d .dest) (d .«cmd_byte1»)
 
 abbrev pub withFront : VdpState → Front → VdpState
-withFront d f = device (f .status) (f .reg) (d .raster) (f .addr) (f .«vram_buffer») (f .dest) (d .cram) (f .«cmd_byte1») (d .«cram_byte1») (d .«cram_dirty») (d .«color_cache»)
+withFront d f =
+    device (f .status) (f .reg) (d .raster) (f .addr) (f .«vram_buffer») (f .dest) (d .cram) (f .«cmd_byte1») (d .«cram_byte1») (d .«cram_dirty»)
+    (d .«color_cache»)
 
 -- R2.2: with its command latch empty
 abbrev pub unlatched : VdpState → VdpState
@@ -57,20 +59,28 @@ unlatched d = withFront d (emptied (frontOf d))
 
 -- ---- the same device with another palette latch, and so on
 abbrev pub withPaletteByte : VdpState → Latch → VdpState
-withPaletteByte d l = device (d .status) (d .reg) (d .raster) (d .addr) (d .«vram_buffer») (d .dest) (d .cram) (d .«cmd_byte1») l (d .«cram_dirty») (d .«color_cache»)
+withPaletteByte d l =
+    device (d .status) (d .reg) (d .raster) (d .addr) (d .«vram_buffer») (d .dest) (d .cram) (d .«cmd_byte1») l (d .«cram_dirty») (d .«color_cache»)
 
 abbrev pub withAddr : VdpState → ℕ → VdpState
-withAddr d a = device (d .status) (d .reg) (d .raster) a (d .«vram_buffer») (d .dest) (d .cram) (d .«cmd_byte1») (d .«cram_byte1») (d .«cram_dirty») (d .«color_cache»)
+withAddr d a =
+    device (d .status) (d .reg) (d .raster) a (d .«vram_buffer») (d .dest) (d .cram) (d .«cmd_byte1») (d .«cram_byte1») (d .«cram_dirty»)
+    (d .«color_cache»)
 
 abbrev pub withStatus : VdpState → ℕ → VdpState
-withStatus d s = device s (d .reg) (d .raster) (d .addr) (d .«vram_buffer») (d .dest) (d .cram) (d .«cmd_byte1») (d .«cram_byte1») (d .«cram_dirty») (d .«color_cache»)
+withStatus d s =
+    device s (d .reg) (d .raster) (d .addr) (d .«vram_buffer») (d .dest) (d .cram) (d .«cmd_byte1») (d .«cram_byte1») (d .«cram_dirty»)
+    (d .«color_cache»)
 
 abbrev pub withRaster : VdpState → Raster → VdpState
-withRaster d x = device (d .status) (d .reg) x (d .addr) (d .«vram_buffer») (d .dest) (d .cram) (d .«cmd_byte1») (d .«cram_byte1») (d .«cram_dirty») (d .«color_cache»)
+withRaster d x =
+    device (d .status) (d .reg) x (d .addr) (d .«vram_buffer») (d .dest) (d .cram) (d .«cmd_byte1») (d .«cram_byte1») (d .«cram_dirty»)
+    (d .«color_cache»)
 
 -- the palette, and whether the cache is behind it; the cache, and that it is not
 abbrev pub withPalette : VdpState → List ℕ → Bool → VdpState
-withPalette d p behind = device (d .status) (d .reg) (d .raster) (d .addr) (d .«vram_buffer») (d .dest) p (d .«cmd_byte1») (d .«cram_byte1») behind (d .«color_cache»)
+withPalette d p behind =
+    device (d .status) (d .reg) (d .raster) (d .addr) (d .«vram_buffer») (d .dest) p (d .«cmd_byte1») (d .«cram_byte1») behind (d .«color_cache»)
 
 abbrev pub withCache : VdpState → List ℕ → VdpState
 withCache d c = device (d .status) (d .reg) (d .raster) (d .addr) (d .«vram_buffer») (d .dest) (d .cram) (d .«cmd_byte1») (d .«cram_byte1») false c

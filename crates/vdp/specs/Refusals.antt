@@ -13,7 +13,9 @@ use Rattle.vdp.specs.declared.WriteDest.the-variants.{None, Vram, Cram}
 use Rattle.vdp.specs.declared.Latch.{Latch}
 use Rattle.vdp.specs.declared.Latch.the-variants.{Empty, Held}
 use Rattle.vdp.specs.declared.Refusal.{Refusal}
-use Rattle.vdp.specs.declared.Refusal.the-variants.{Accepted, UnknownPort, HorizontalCounter, HighRegister, NothingChosen, PaletteRead, NoPaletteByte, OutsideMemory, VramLength, PixelLength, BlockMalformed, UnknownArea, FrameTooLong, UnknownTile, CodesLength, HighCode, LayerLength, ListLength, RecordRoom}
+use Rattle.vdp.specs.declared.Refusal.the-variants.{Accepted, UnknownPort, HorizontalCounter, HighRegister, NothingChosen, PaletteRead}
+use Rattle.vdp.specs.declared.Refusal.the-variants.{NoPaletteByte, OutsideMemory, VramLength, PixelLength, BlockMalformed, UnknownArea}
+use Rattle.vdp.specs.declared.Refusal.the-variants.{FrameTooLong, UnknownTile, CodesLength, HighCode, LayerLength, ListLength, RecordRoom}
 use Rattle.vdp.specs.Front.{emptied}
 use Rattle.vdp.specs.Device.{frontOf, withFront}
 

@@ -1,40 +1,31 @@
+-- `background::cut_of` meets its contract: how far to the left the first tile of a row marks, where scroll cuts s pixels of it.
 use borrow.Author.Needs.{needs}
 use mathlib.Core.Path.{refl}
 use mathlib.Core.Logic.{inl, inr}
 use Rattle.background.proofs.cut_of.Statement.{statement}
 use Rattle.background.proofs.cut_of.Tie as tie
-use Rattle.background.proofs.cut_of.Reads as reads
-use Rattle.background.proofs.cut_of.Lts as lts
 
--- src/lib.rt:56:36
 enum-told : tie.Need-enum-told
 enum-told c = search needs
 
--- src/lib.rt:57:38
 enum-told-2 : tie.Need-enum-told-2
 enum-told-2 c = search needs
 
--- src/lib.rt:58:34
 enum-told-3 : tie.Need-enum-told-3
 enum-told-3 c = search needs
 
--- src/lib.rt:59:25
 enum-told-4 : tie.Need-enum-told-4
 enum-told-4 c = search needs
 
--- src/lib.rt:51:1
 returns : tie.Need-returns
 returns c = (rw (c .enum-told .given .1), inr refl)
 
--- src/lib.rt:51:1
 returns-2 : tie.Need-returns-2
 returns-2 c = (rw (c .enum-told2 .given .1), inl refl)
 
--- src/lib.rt:51:1
 returns-3 : tie.Need-returns-3
 returns-3 c = (rw (c .enum-told3 .given .1), inl refl)
 
--- src/lib.rt:51:1
 returns-4 : tie.Need-returns-4
 returns-4 c = (rw (c .enum-told4 .given .1), inl refl)
 

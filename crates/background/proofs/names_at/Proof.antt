@@ -1,26 +1,20 @@
+-- `background::names_at` meets its contract: where the tile entries start.
 use borrow.Author.Needs.{needs}
 use native.Mathlib.Omega.{arith}
 use lib.Bits.{and-le-r}
 use lib.ListN.{getD}
 use Rattle.background.proofs.names_at.Statement.{statement}
 use Rattle.background.proofs.names_at.Tie as tie
-use Rattle.background.proofs.names_at.Reads as reads
-use Rattle.background.proofs.names_at.Lts as lts
-use Rattle.small.proofs.wide.Reads as wide-reads
 
--- src/lib.rt:20:16
 array-read-wide : tie.Need-array-read-wide
 array-read-wide c = search needs
 
--- src/lib.rt:20:5
 wide-requires : tie.Need-wide-requires
 wide-requires c κs = search needs
 
--- src/lib.rt:20:5
 mul-result : tie.Need-mul-result
 mul-result c = search needs
 
--- src/lib.rt:16:1
 returns : tie.Need-returns
 returns c = (rw (c .wide .ensures .0), omega (arith, and-le-r (getD (c .before .args .t1) 2 0) 0x0E))
 

@@ -1,8 +1,9 @@
+-- `background::render_background_line` meets its contract: the background of a row whose pixel 0 shows the map's pixel (sx, y).
 use borrow.Author.Needs.{needs}
 use mathlib.Core.Path.{_≡_, refl}
 use mathlib.Core.Bool.{true}
 use mathlib.Core.List.{List}
-use mathlib.Core.Logic.{inl, inr, ⊎-elim, _≢_}
+use mathlib.Core.Logic.{inr, ⊎-elim, _≢_}
 use Prim.Native.Nat.{ℕ, _+_, _-_, _%_, _≤_, _<_}
 use native.Mathlib.Nat.{zero-add}
 use native.Mathlib.Omega.{arith}
@@ -19,19 +20,12 @@ use Rattle.background.specs.Background.{shade, backColour, backFront, pr
 use Rattle.background.proofs.Laws.{tile-marks, whole, whole-first}
 use Rattle.background.proofs.render_background_line.Statement.{statement}
 use Rattle.background.proofs.render_background_line.Tie as tie
-use Rattle.background.proofs.render_background_line.Reads as reads
-use Rattle.background.proofs.render_background_line.Lts as lts
-use Rattle.background.proofs.render_tile.Reads as render-tile-reads
-use Rattle.background.proofs.render_whole_tile.Reads as render-whole-tile-reads
-use Rattle.bitmap.proofs.Bitmap.new.Reads as new-reads
-use Rattle.bitmap.proofs.lower.Reads as lower-reads
-use Rattle.bitmap.proofs.upper.Reads as upper-reads
-use Rattle.small.proofs.smaller.Reads as smaller-reads
 
 abbrev Inv-loop : tie.InvT-loop
 Inv-loop row₀ vram colours names sx y width cut first prio₀ x₀ row prio x =
     (x ≤ width)
-    × ((base : List ℕ) → row₀ ≡ painted base 0 x₀ (shade colours (backColour vram names sx y)) → row ≡ painted base 0 x (shade colours (backColour vram names sx y)))
+    × ((base : List ℕ) → row₀ ≡ painted base 0 x₀ (shade colours (backColour vram names sx y)) → row ≡ painted base 0 x
+    (shade colours (backColour vram names sx y)))
     × (prio₀ .bits ≡ bytesOf (prioTo vram names sx y cut x₀) → prio .bits ≡ bytesOf (prioTo vram names sx y cut x))
     × (length row ≡ length row₀)
     × (x < width → (8 ≤ sx % 8 + x) × ((sx + x) % 8 ≡ 0))
@@ -39,147 +33,166 @@ Inv-loop row₀ vram colours names sx y width cut first prio₀ x₀ row prio x 
 abbrev μ-loop : tie.MeasureT-loop
 μ-loop row₀ vram colours names sx y width cut first prio₀ x₀ row prio x = width - x
 
--- src/lib.rt:154:9
 new-requires : tie.Need-new-requires Inv-loop μ-loop
 new-requires c κs = search needs
 
--- src/lib.rt:155:31
 sub-smaller : tie.Need-sub-smaller Inv-loop μ-loop
 sub-smaller c = search needs
 
--- src/lib.rt:155:9
 smaller-requires : tie.Need-smaller-requires Inv-loop μ-loop
 smaller-requires c κs = search needs
 
--- src/lib.rt:156:20
 render-tile-requires : tie.Need-render-tile-requires Inv-loop μ-loop
 render-tile-requires c κs =
-    let a = c .before .before .before .before .before .args in
+    let at-start = c .before .before .before .before .before in
+    let a = at-start .args in
     let m = c .before .smaller .result in
-    let d = c .before .before .before .before .before .pre .1 .2 in
-    let f : a .sx % 8 + m ≤ 8 = omega arith in
-    (search needs, ((omega arith, omega arith, omega arith), (omega arith, ⊎-elim (λ q. omega arith) (λ q. omega arith) d, whole-first (a .sx) (a .cut) m d f)))
+    let d = at-start .pre .1 .2 in
+    let f : a .sx % 8 + m ≤ 8 = omega arith in (
+      search needs,
+      (
+        (omega arith, omega arith, omega arith),
+        (omega arith, ⊎-elim (λ q. omega arith) (λ q. omega arith) d, whole-first (a .sx) (a .cut) m d f),
+      ),
+    )
 
--- src/lib.rt:158:5
 loop-holds : tie.Need-loop-holds Inv-loop μ-loop
 loop-holds c = (omega arith, λ base e. e, λ e. e, refl, λ h. (omega arith, omega arith))
 
--- src/lib.rt:158:11
 add-loop : tie.Need-add-loop Inv-loop μ-loop
 add-loop c = search needs
 
--- src/lib.rt:159:13
 render-whole-tile-requires : tie.Need-render-whole-tile-requires Inv-loop μ-loop
 render-whole-tile-requires c κs =
-    let u = c .before .before .loop .inv .4 (omega arith) in
+    let at-loop = c .before .before in
+    let u = at-loop .loop .inv .4 (omega arith) in
     (search needs, (u .1, omega arith, omega arith))
 
--- src/lib.rt:162:21
 add-high : tie.Need-add-high Inv-loop μ-loop
 add-high c = search needs
 
--- src/lib.rt:163:27
 lower-requires : tie.Need-lower-requires Inv-loop μ-loop
 lower-requires c κs = search needs
 
--- src/lib.rt:163:9
 element-copy-out-prio : tie.Need-element-copy-out-prio Inv-loop μ-loop
 element-copy-out-prio c = search needs
 
--- src/lib.rt:163:9
 element-write-prio : tie.Need-element-write-prio Inv-loop μ-loop
 element-write-prio c = search needs
 
--- src/lib.rt:164:28
 upper-requires : tie.Need-upper-requires Inv-loop μ-loop
 upper-requires c κs = search needs
 
--- src/lib.rt:164:9
 element-copy-out-prio-2 : tie.Need-element-copy-out-prio-2 Inv-loop μ-loop
 element-copy-out-prio-2 c = search needs
 
--- src/lib.rt:164:9
 element-write-prio-2 : tie.Need-element-write-prio-2 Inv-loop μ-loop
 element-write-prio-2 c = search needs
 
--- src/lib.rt:165:9
 add-x : tie.Need-add-x Inv-loop μ-loop
 add-x c = search needs
 
--- src/lib.rt:158:5
 loop-less : tie.Need-loop-less Inv-loop μ-loop
 loop-less c = search needs
 
--- src/lib.rt:158:5
 loop-again : tie.Need-loop-again Inv-loop μ-loop
 loop-again c =
-    let a = c .before .before .before .before .before .before .before .before .before .before .before .before .before .before .before .before .before .before .args in
-    let v = c .before .before .before .before .before .before .before .before .before .loop .inv in
-    let x = c .before .before .before .before .before .before .before .before .before .loop .x in
+    let at-lower = c .before .before .before in
+    let at-render-whole-tile = at-lower .before .before .before in
+    let at-loop = at-render-whole-tile .before .before .before in
+    let at-start = at-loop .before .before .before .before .before .before .before .before .before in
+    let a = at-start .args in
+    let v = at-loop .loop .inv in
+    let x = at-loop .loop .x in
     let l : x < a .width = omega arith in
     let u = v .4 l in
     let z : x ≢ 0 = λ e. omega arith in
     let f : (a .sx + x) % 8 + 8 ≤ 8 = omega (arith, u .1) in
     let r : x + 8 ≤ 256 = omega arith in
-    let w = whole (a .sx) (a .width) (a .cut) x 8 (c .before .before .before .before .before .before .before .before .before .before .before .before .before .before .before .before .before .before .pre .1 .2) (inr (v .4)) l f r in (
+    let w = whole (a .sx) (a .width) (a .cut) x 8 (at-start .pre .1 .2) (inr (v .4)) l f r in (
       omega arith,
-      λ base e. painted-on _ _ _ _ (v .1 base e) (c .before .before .before .before .before .before .render-whole-tile .ensures .0),
+      λ base e. painted-on _ _ _ _ (v .1 base e) (at-render-whole-tile .render-whole-tile .ensures .0),
       λ e.
-          tile-marks (a .vram .now) (a .names) (a .sx) (a .y) (a .cut) x 8 (omega arith) w (λ j. backFront (a .vram .now) (a .names) (a .sx) (a .y) (x + j)) true (λ j h. refl) (v .2 e) (c .before .before .before .before .before .before .render-whole-tile .ensures .1)
-          (rw (ne-eqb x 0 z, c .before .before .before .lower .ensures, c .before .upper .ensures)
-          (mark-is (prioTo (a .vram .now) (a .names) (a .sx) (a .y) (a .cut) x) x (c .before .before .before .before .before .before .render-whole-tile .result) (v .2 e) (let q : Fits w8 (c .before .before .before .before .before .before .render-whole-tile .result) = search needs in q .fits))),
+          tile-marks (a .vram .now) (a .names) (a .sx) (a .y) (a .cut) x 8 (omega arith) w
+          (λ j. backFront (a .vram .now) (a .names) (a .sx) (a .y) (x + j)) true (λ j h. refl) (v .2 e)
+          (at-render-whole-tile .render-whole-tile .ensures .1)
+          (rw (ne-eqb x 0 z, at-lower .lower .ensures, c .before .upper .ensures)
+          (mark-is (prioTo (a .vram .now) (a .names) (a .sx) (a .y) (a .cut) x) x (at-render-whole-tile .render-whole-tile .result) (v .2 e)
+          (let q : Fits w8 (at-render-whole-tile .render-whole-tile .result) = search needs in q .fits))),
       omega arith,
       λ h. (omega (arith, u .0), omega (arith, u .1)),
     )
 
--- src/lib.rt:168:65
 sub-render-tile : tie.Need-sub-render-tile Inv-loop μ-loop
 sub-render-tile c = search needs
 
--- src/lib.rt:168:16
 render-tile-requires-2 : tie.Need-render-tile-requires-2 Inv-loop μ-loop
 render-tile-requires-2 c κs =
-    let a = c .before .before .before .before .before .before .before .before .before .before .before .before .args in
-    let v = c .before .before .before .loop .inv in
-    let x = c .before .before .before .loop .x in
+    let at-loop = c .before .before .before in
+    let at-start = at-loop .before .before .before .before .before .before .before .before .before in
+    let a = at-start .args in
+    let v = at-loop .loop .inv in
+    let x = at-loop .loop .x in
     let l : x < a .width = omega arith in
-    let d = c .before .before .before .before .before .before .before .before .before .before .before .before .pre .1 .2 in
+    let d = at-start .pre .1 .2 in
     let u = v .4 l in
     let f : (a .sx + x) % 8 + (a .width - x) ≤ 8 = omega (arith, u .1) in
-    let r : x + (a .width - x) ≤ 256 = omega arith in
-    (search needs, ((f, omega arith, omega arith), (omega arith, ⊎-elim (λ q. omega arith) (λ q. omega arith) d, whole (a .sx) (a .width) (a .cut) x (a .width - x) d (inr (v .4)) l f r)))
+    let r : x + (a .width - x) ≤ 256 = omega arith in (
+      search needs,
+      (
+        (f, omega arith, omega arith),
+        (
+          omega arith,
+          ⊎-elim (λ q. omega arith) (λ q. omega arith) d,
+          whole (a .sx) (a .width) (a .cut) x
+              (a .width - x) d (inr (v .4)) l f r,
+        ),
+      ),
+    )
 
--- src/lib.rt:139:1
 same-length : tie.Need-same-length Inv-loop μ-loop
 same-length c = search needs
 
--- src/lib.rt:139:1
 returns : tie.Need-returns Inv-loop μ-loop
 unfolding painted cleared prioTo any
 returns c =
-    let a = c .before .before .before .before .before .before .before .before .before .before .before .before .before .before .before .args in
-    let m = c .before .before .before .before .before .before .before .before .before .before .before .smaller .result in
-    let r1 = rw (zero-add m) at (painted-on (a .row .now) 0 m (shade (a .colours .now) (backColour (a .vram .now) (a .names) (a .sx) (a .y))) refl (c .before .before .before .before .before .before .before .before .before .render-tile .ensures .0)) in
-    let p1 = rw (zero-add m) at (c .before .before .before .before .before .before .before .before .before .render-tile .ensures .1 (c .before .before .before .before .before .before .before .before .before .before .before .before .new .ensures)) in
-    let v = c .before .before .before .before .before .before .loop .inv in
-    let x = c .before .before .before .before .before .before .loop .x in
-    let e : x + (a .width - x) ≡ a .width = omega arith in
-    (rw e at (painted-on (a .row .now) x (a .width - x) (shade (a .colours .now) (backColour (a .vram .now) (a .names) (a .sx) (a .y))) (v .1 (a .row .now) r1) (c .before .before .render-tile2 .ensures .0)), rw e at (c .before .before .render-tile2 .ensures .1 (v .2 p1)))
+    let at-render-tile2 = c .before .before in
+    let at-loop = at-render-tile2 .before .before .before .before in
+    let at-render-tile = at-loop .before .before .before in
+    let at-smaller = at-render-tile .before .before in
+    let at-new = at-smaller .before in
+    let at-start = at-new .before .before .before in
+    let a = at-start .args in
+    let m = at-smaller .smaller .result in
+    let r1 = rw (zero-add m) at (painted-on (a .row .now) 0 m (shade (a .colours .now) (backColour (a .vram .now) (a .names) (a .sx) (a .y))) refl
+    (at-render-tile .render-tile .ensures .0)) in
+    let p1 = rw (zero-add m) at (at-render-tile .render-tile .ensures .1 (at-new .new .ensures)) in
+    let v = at-loop .loop .inv in
+    let x = at-loop .loop .x in
+    let e : x + (a .width - x) ≡ a .width = omega arith in (
+      rw e at (painted-on (a .row .now) x (a .width - x) (shade (a .colours .now) (backColour (a .vram .now) (a .names) (a .sx) (a .y)))
+          (v .1 (a .row .now) r1) (at-render-tile2 .render-tile2 .ensures .0)),
+      rw e at (at-render-tile2 .render-tile2 .ensures .1 (v .2 p1)),
+    )
 
--- src/lib.rt:139:1
 same-length-2 : tie.Need-same-length-2 Inv-loop μ-loop
 same-length-2 c = search needs
 
--- src/lib.rt:139:1
 returns-2 : tie.Need-returns-2 Inv-loop μ-loop
 unfolding painted cleared prioTo any
 returns-2 c =
-    let a = c .before .before .before .before .before .before .before .before .before .before .before .args in
-    let m = c .before .before .before .before .before .before .before .smaller .result in
-    let r1 = rw (zero-add m) at (painted-on (a .row .now) 0 m (shade (a .colours .now) (backColour (a .vram .now) (a .names) (a .sx) (a .y))) refl (c .before .before .before .before .before .render-tile .ensures .0)) in
-    let p1 = rw (zero-add m) at (c .before .before .before .before .before .render-tile .ensures .1 (c .before .before .before .before .before .before .before .before .new .ensures)) in
-    let v = c .before .before .loop .inv in
-    let x = c .before .before .loop .x in
+    let at-loop = c .before .before in
+    let at-render-tile = at-loop .before .before .before in
+    let at-smaller = at-render-tile .before .before in
+    let at-new = at-smaller .before in
+    let at-start = at-new .before .before .before in
+    let a = at-start .args in
+    let m = at-smaller .smaller .result in
+    let r1 = rw (zero-add m) at (painted-on (a .row .now) 0 m (shade (a .colours .now) (backColour (a .vram .now) (a .names) (a .sx) (a .y))) refl
+    (at-render-tile .render-tile .ensures .0)) in
+    let p1 = rw (zero-add m) at (at-render-tile .render-tile .ensures .1 (at-new .new .ensures)) in
+    let v = at-loop .loop .inv in
+    let x = at-loop .loop .x in
     let e : x ≡ a .width = omega arith in
     (rw e at (v .1 (a .row .now) r1), rw e at (v .2 p1))
 

@@ -1,3 +1,4 @@
+-- `block::table_byte` meets its contract: byte 219, the table.
 use borrow.Author.Needs.{needs}
 use native.Mathlib.Omega.{arith}
 use mathlib.Core.Path.{sym}
@@ -5,18 +6,13 @@ use Prim.Native.Nat.{_≤_}
 use lib.ListN.{length, List·getD-eq-default}
 use Rattle.block.proofs.table_byte.Statement.{statement}
 use Rattle.block.proofs.table_byte.Tie as tie
-use Rattle.block.proofs.table_byte.Reads as reads
-use Rattle.block.proofs.table_byte.Lts as lts
 
--- src/lib.rt:103:33
 shared-slice-read-result : tie.Need-shared-slice-read-result
 shared-slice-read-result c = search needs
 
--- src/lib.rt:100:1
 returns : tie.Need-returns
 returns c = search needs
 
--- src/lib.rt:100:1
 returns-2 : tie.Need-returns-2
 returns-2 c = let low : length (c .before .args .block .now) ≤ 219 = omega arith in sym (List·getD-eq-default (c .before .args .block .now) 0 low)
 

@@ -1,3 +1,4 @@
+-- `colour::palette_recompute` meets its contract: the 32 colours of a palette, which the cache holds once it is made anew.
 use borrow.Author.Needs.{needs}
 use Prim.Native.Nat.{_≤_, _-_}
 use mathlib.Core.Path.{_≡_, _∙_}
@@ -9,65 +10,52 @@ use Rattle.colour.specs.Colour.{coloursOf}
 use Rattle.colour.proofs.Laws.{length-colours, colours-step}
 use Rattle.colour.proofs.palette_recompute.Statement.{statement}
 use Rattle.colour.proofs.palette_recompute.Tie as tie
-use Rattle.colour.proofs.palette_recompute.Reads as reads
-use Rattle.colour.proofs.palette_recompute.Lts as lts
-use Rattle.colour.proofs.rgb.Reads as rgb-reads
 
 abbrev Inv-loop : tie.InvT-loop
-Inv-loop cram color-cache₀ color₀ color-cache color = (color ≤ 32) × (color-cache ≡ paste (replicate 32 0) 0 (coloursOf cram) color) × (length color-cache ≡ 32)
+Inv-loop cram color-cache₀ color₀ color-cache color =
+    (color ≤ 32) × (color-cache ≡ paste (replicate 32 0) 0 (coloursOf cram) color) × (length color-cache ≡ 32)
 
 abbrev μ-loop : tie.MeasureT-loop
 μ-loop cram color-cache₀ color₀ color-cache color = 32 - color
 
--- src/lib.rt:39:5
 loop-holds : tie.Need-loop-holds Inv-loop μ-loop
 loop-holds c = (omega arith, paste-zero (replicate 32 0) 0 (coloursOf (c .args .t1)), search needs)
 
--- src/lib.rt:40:39
 mul-rgb : tie.Need-mul-rgb Inv-loop μ-loop
 mul-rgb c = search needs
 
--- src/lib.rt:40:34
 array-read-rgb : tie.Need-array-read-rgb Inv-loop μ-loop
 array-read-rgb c = search needs
 
--- src/lib.rt:40:56
 mul-rgb-2 : tie.Need-mul-rgb-2 Inv-loop μ-loop
 mul-rgb-2 c = search needs
 
--- src/lib.rt:40:56
 add-rgb : tie.Need-add-rgb Inv-loop μ-loop
 add-rgb c = search needs
 
--- src/lib.rt:40:51
 array-read-rgb-2 : tie.Need-array-read-rgb-2 Inv-loop μ-loop
 array-read-rgb-2 c = search needs
 
--- src/lib.rt:40:30
 rgb-requires : tie.Need-rgb-requires Inv-loop μ-loop
 rgb-requires c κs = search needs
 
--- src/lib.rt:40:9
 mul-color-cache : tie.Need-mul-color-cache Inv-loop μ-loop
 mul-color-cache c = search needs
 
--- src/lib.rt:40:9
 array-write-color-cache : tie.Need-array-write-color-cache Inv-loop μ-loop
 array-write-color-cache c = search needs
 
--- src/lib.rt:41:9
 add-color : tie.Need-add-color Inv-loop μ-loop
 add-color c = search needs
 
--- src/lib.rt:39:5
 loop-less : tie.Need-loop-less Inv-loop μ-loop
 loop-less c = search needs
 
--- src/lib.rt:39:5
 loop-again : tie.Need-loop-again Inv-loop μ-loop
-loop-again c = (omega arith, colours-step _ _ (omega arith) (c .rgb .ensures) (c .before .before .loop .inv .1), search needs)
+loop-again c =
+    let at-loop = c .before .before in
+    (omega arith, colours-step _ _ (omega arith) (c .rgb .ensures) (at-loop .loop .inv .1), search needs)
 
--- src/lib.rt:34:1
 returns : tie.Need-returns Inv-loop μ-loop
 returns c = let e : c .before .loop .color ≡ 32 = omega arith in c .before .loop .inv .1 ∙ filled 32 _ (length-colours _) e
 

@@ -1,13 +1,10 @@
-use borrow.Author.Needs.{needs}
+-- `colour::spread_high` meets its contract: its high four bits, spread over a byte.
 use Prim.Native.Nat.{_*_, _/_}
 use lib.Bits.{bitAnd, bitOr}
 use Rattle.laws.proofs.Sweep.{same}
 use Rattle.colour.proofs.spread_high.Statement.{statement}
 use Rattle.colour.proofs.spread_high.Tie as tie
-use Rattle.colour.proofs.spread_high.Reads as reads
-use Rattle.colour.proofs.spread_high.Lts as lts
 
--- src/lib.rt:14:1
 returns : tie.Need-returns
 returns c = same 256 (λ x. bitOr (bitAnd (x / 16) 15) (bitAnd x 240)) (λ x. 17 * (x / 16)) tt (c .args .x) (c .fits .x .fits)
 

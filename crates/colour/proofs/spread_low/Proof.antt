@@ -1,13 +1,10 @@
-use borrow.Author.Needs.{needs}
+-- `colour::spread_low` meets its contract: the low four bits of a palette byte, spread over a byte.
 use Prim.Native.Nat.{_*_, _%_}
 use lib.Bits.{bitAnd, bitOr}
 use Rattle.laws.proofs.Sweep.{same}
 use Rattle.colour.proofs.spread_low.Statement.{statement}
 use Rattle.colour.proofs.spread_low.Tie as tie
-use Rattle.colour.proofs.spread_low.Reads as reads
-use Rattle.colour.proofs.spread_low.Lts as lts
 
--- src/lib.rt:7:1
 returns : tie.Need-returns
 returns c = same 256 (λ x. bitOr (bitAnd x 15) (bitAnd (x * 16 % 256) 240)) (λ x. 17 * (x % 16)) tt (c .args .x) (c .fits .x .fits)
 

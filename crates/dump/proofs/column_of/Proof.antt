@@ -1,23 +1,18 @@
+-- `dump::column_of` meets its contract: the column of tiles in which tile chr stands.
 use borrow.Author.Needs.{needs}
 use mathlib.Core.Path.{sym, _∙_}
 use native.Mathlib.Omega.{arith}
 use Rattle.dump.specs.Dump.{tileColumn}
 use Rattle.dump.proofs.column_of.Statement.{statement}
 use Rattle.dump.proofs.column_of.Tie as tie
-use Rattle.dump.proofs.column_of.Reads as reads
-use Rattle.dump.proofs.column_of.Lts as lts
-use Rattle.small.proofs.both.Reads as both-reads
 
--- src/lib.rt:18:8
 both-requires : tie.Need-both-requires
 both-requires c κs = search needs
 
--- src/lib.rt:14:1
 returns : tie.Need-returns
 unfolding tileColumn
 returns c = (rw (sym (c .before .both .ensures) ∙ c .if1 .taken), omega arith)
 
--- src/lib.rt:14:1
 returns-2 : tie.Need-returns-2
 unfolding tileColumn
 returns-2 c = (rw (sym (c .before .both .ensures) ∙ c .if1 .left), omega arith)

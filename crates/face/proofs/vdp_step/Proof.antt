@@ -1,3 +1,4 @@
+-- `face::vdp_step` meets its contract: a step, whose row goes to its place in the frame.
 use borrow.Author.Needs.{needs}
 use mathlib.Core.Path.{refl, sym, _∙_}
 use borrow.Author.Tests.{not-true, not-false}
@@ -8,104 +9,116 @@ use Rattle.step.proofs.Steps.{reading-of}
 use Rattle.face.proofs.Laws.{step-bad, step-unknown, step-kept}
 use Rattle.face.proofs.vdp_step.Statement.{statement}
 use Rattle.face.proofs.vdp_step.Tie as tie
-use Rattle.face.proofs.vdp_step.Reads as reads
-use Rattle.face.proofs.vdp_step.Lts as lts
-use Rattle.block.proofs.raster_in.Reads as raster-in-reads
-use Rattle.block.proofs.registers.Reads as registers-reads
-use Rattle.block.proofs.well_formed.Reads as well-formed-reads
-use Rattle.picture.proofs.area_from.Reads as area-from-reads
-use Rattle.face.proofs.colours_of.Reads as colours-of-reads
-use Rattle.face.proofs.number.Reads as number-reads
-use Rattle.face.proofs.store.Reads as store-reads
-use Rattle.face.proofs.word_of.Reads as word-of-reads
-use Rattle.step.proofs.frame_points.Reads as frame-points-reads
-use Rattle.picture.proofs.screen_of.Reads as screen-of-reads
 
--- src/lib.rt:178:9
 well-formed-requires : tie.Need-well-formed-requires
 well-formed-requires c κs = search needs
 
--- src/lib.rt:179:9
 number-requires : tie.Need-number-requires
 number-requires c κs = search needs
 
--- src/lib.rt:179:9
 same-length : tie.Need-same-length
 same-length c = search needs
 
--- src/lib.rt:179:9
 returns : tie.Need-returns
-returns c = step-bad (c .before .before .before .before .before .before .before .args .state .now) (c .before .before .before .before .before .before .before .args .vram .now) (c .before .before .before .before .before .before .before .args .frame .now) (c .before .before .before .before .before .before .before .args .area) (sym (c .before .before .well-formed .ensures) ∙ not-true _ (c .before .if1 .taken)) (c .number .ensures .0)
+returns c =
+    let at-well-formed = c .before .before in
+    let at-start = at-well-formed .before .before .before .before .before in
+    step-bad (at-start .args .state .now) (at-start .args .vram .now) (at-start .args .frame .now) (at-start .args .area)
+    (sym (at-well-formed .well-formed .ensures) ∙ not-true _ (c .before .if1 .taken)) (c .number .ensures .0)
 
--- src/lib.rt:182:9
 number-requires-2 : tie.Need-number-requires-2
 number-requires-2 c κs = search needs
 
--- src/lib.rt:182:9
 same-length-2 : tie.Need-same-length-2
 same-length-2 c = search needs
 
--- src/lib.rt:182:9
 returns-2 : tie.Need-returns-2
-returns-2 c = step-unknown (c .before .before .before .before .before .before .before .before .args .state .now) (c .before .before .before .before .before .before .before .before .args .vram .now) (c .before .before .before .before .before .before .before .before .args .frame .now) (c .before .before .before .before .before .before .before .before .args .area) (sym (c .before .before .before .well-formed .ensures) ∙ not-false _ (c .before .before .if1 .left)) (c .before .if2 .taken) (c .number2 .ensures .0)
+returns-2 c =
+    let at-if1 = c .before .before in
+    let at-well-formed = at-if1 .before in
+    let at-start = at-well-formed .before .before .before .before .before in
+    step-unknown (at-start .args .state .now) (at-start .args .vram .now) (at-start .args .frame .now) (at-start .args .area)
+    (sym (at-well-formed .well-formed .ensures) ∙ not-false _ (at-if1 .if1 .left)) (c .before .if2 .taken) (c .number2 .ensures .0)
 
--- src/lib.rt:184:19
 colours-of-requires : tie.Need-colours-of-requires
-colours-of-requires c κs = long (c .before .before .before .before .before .before .before .before .args .state .now) (sym (c .before .before .before .well-formed .ensures) ∙ not-false _ (c .before .before .if1 .left))
+colours-of-requires c κs =
+    let at-if1 = c .before .before in
+    let at-well-formed = at-if1 .before in
+    let at-start = at-well-formed .before .before .before .before .before in
+    long (at-start .args .state .now) (sym (at-well-formed .well-formed .ensures) ∙ not-false _ (at-if1 .if1 .left))
 
--- src/lib.rt:186:9
 registers-requires : tie.Need-registers-requires
-registers-requires c κs = long (c .before .before .before .before .before .before .before .before .before .before .args .state .now) (sym (c .before .before .before .before .before .well-formed .ensures) ∙ not-false _ (c .before .before .before .before .if1 .left))
+registers-requires c κs =
+    let at-if1 = c .before .before .before .before in
+    let at-well-formed = at-if1 .before in
+    let at-start = at-well-formed .before .before .before .before .before in
+    long (at-start .args .state .now) (sym (at-well-formed .well-formed .ensures) ∙ not-false _ (at-if1 .if1 .left))
 
--- src/lib.rt:187:9
 raster-in-requires : tie.Need-raster-in-requires
-raster-in-requires c κs = long (c .before .before .before .before .before .before .before .before .before .before .before .before .args .state .now) (sym (c .before .before .before .before .before .before .before .well-formed .ensures) ∙ not-false _ (c .before .before .before .before .before .before .if1 .left))
+raster-in-requires c κs =
+    let at-if1 = c .before .before .before .before .before .before in
+    let at-well-formed = at-if1 .before in
+    let at-start = at-well-formed .before .before .before .before .before in
+    long (at-start .args .state .now) (sym (at-well-formed .well-formed .ensures) ∙ not-false _ (at-if1 .if1 .left))
 
--- src/lib.rt:188:9
 slice-read-frame-points : tie.Need-slice-read-frame-points
-slice-read-frame-points c = omega (arith, long (c .before .before .before .before .before .before .before .before .before .before .before .before .before .before .args .state .now) (sym (c .before .before .before .before .before .before .before .before .before .well-formed .ensures) ∙ not-false _ (c .before .before .before .before .before .before .before .before .if1 .left)))
+slice-read-frame-points c =
+    let at-if1 = c .before .before .before .before .before .before .before .before in
+    let at-well-formed = at-if1 .before in
+    let at-start = at-well-formed .before .before .before .before .before in
+    omega (arith, long (at-start .args .state .now) (sym (at-well-formed .well-formed .ensures) ∙ not-false _ (at-if1 .if1 .left)))
 
--- src/lib.rt:192:9
 area-from-requires : tie.Need-area-from-requires
 area-from-requires c κs = search needs
 
--- src/lib.rt:180:9
 screen-of-requires : tie.Need-screen-of-requires
 screen-of-requires c κs = search needs
 
--- src/lib.rt:185:9
 frame-points-requires : tie.Need-frame-points-requires
 frame-points-requires c κs = search needs
 
--- src/lib.rt:194:5
 store-requires : tie.Need-store-requires
-store-requires c κs = long (c .before .before .before .before .before .before .before .before .before .before .before .before .before .before .before .before .before .before .before .before .before .before .before .args .state .now) (sym (c .before .before .before .before .before .before .before .before .before .before .before .before .before .before .before .before .before .before .well-formed .ensures) ∙ not-false _ (c .before .before .before .before .before .before .before .before .before .before .before .before .before .before .before .before .before .if1 .left))
+store-requires c κs =
+    let at-if1 = c .before .before .before .before .before .before .before .before .before .before .before .before .before .before .before .before
+    .before in
+    let at-well-formed = at-if1 .before in
+    let at-start = at-well-formed .before .before .before .before .before in
+    long (at-start .args .state .now) (sym (at-well-formed .well-formed .ensures) ∙ not-false _ (at-if1 .if1 .left))
 
--- src/lib.rt:195:5
 word-of-requires : tie.Need-word-of-requires
 word-of-requires c κs = search needs
 
--- src/lib.rt:174:1
 same-length-3 : tie.Need-same-length-3
 same-length-3 c = search needs
 
--- src/lib.rt:174:1
 same-length-4 : tie.Need-same-length-4
 same-length-4 c = search needs
 
--- src/lib.rt:174:1
 returns-3 : tie.Need-returns-3
 unfolding stateOf
 returns-3 c =
-    step-kept (c .before .before .before .before .before .before .before .before .before .before .before .before .before .before .before .before .before .before .before .before .before .before .before .before .before .before .before .args .state .now) (c .before .before .before .before .before .before .before .before .before .before .before .before .before .before .before .before .before .before .before .before .before .before .before .before .before .before .before .args .vram .now) (c .before .before .before .before .before .before .before .before .before .before .before .before .before .before .before .before .before .before .before .before .before .before .before .before .before .before .before .args .frame .now) (c .before .before .before .before .before .before .before .before .before .before .before .before .before .before .before .before .before .before .before .before .before .before .before .before .before .before .before .args .area)
-    (λ i. omega (arith, c .before .before .before .before .before .before .before .before .before .before .before .before .before .before .before .before .before .before .before .before .before .before .before .before .before .before .slice-known .given i))
-    (sym (c .before .before .before .before .before .before .before .before .before .before .before .before .before .before .before .before .before .before .before .before .before .before .well-formed .ensures) ∙ not-false _ (c .before .before .before .before .before .before .before .before .before .before .before .before .before .before .before .before .before .before .before .before .before .if1 .left))
-    (c .before .before .before .before .before .before .before .before .before .before .before .before .before .before .before .before .before .before .before .before .if2 .left)
-    (c .before .before .before .before .before .before .before .before .before .before .area-from .ensures) (c .before .before .before .before .before .before .before .before .before .screen-of .ensures)
-    (reading-of (stateOf (c .before .before .before .before .before .before .before .before .before .before .before .before .before .before .before .before .before .before .before .before .before .before .before .before .before .before .before .args .state .now)) (c .before .before .before .before .before .before .before .before .before .before .before .before .before .before .before .before .registers .ensures) (c .before .before .before .before .before .before .before .before .before .before .before .before .before .before .raster-in .ensures) refl (c .before .before .before .before .before .before .before .before .before .before .before .before .before .before .before .before .before .before .colours-of .ensures))
-    (c .before .before .before .store .ensures)
+    let at-store = c .before .before .before in
+    let at-frame-points = at-store .before .before .before .before .before in
+    let at-screen-of = at-frame-points .before in
+    let at-area-from = at-screen-of .before in
+    let at-raster-in = at-area-from .before .before .before .before in
+    let at-registers = at-raster-in .before .before in
+    let at-colours-of = at-registers .before .before in
+    let at-if2 = at-colours-of .before .before in
+    let at-if1 = at-if2 .before in
+    let at-well-formed = at-if1 .before in
+    let at-slice-known = at-well-formed .before .before .before .before in
+    let at-start = at-slice-known .before in
+    step-kept (at-start .args .state .now) (at-start .args .vram .now) (at-start .args .frame .now) (at-start .args .area)
+    (λ i. omega (arith, at-slice-known .slice-known .given i))
+    (sym (at-well-formed .well-formed .ensures) ∙ not-false _ (at-if1 .if1 .left))
+    (at-if2 .if2 .left)
+    (at-area-from .area-from .ensures) (at-screen-of .screen-of .ensures)
+    (reading-of (stateOf (at-start .args .state .now)) (at-registers .registers .ensures) (at-raster-in .raster-in .ensures) refl
+    (at-colours-of .colours-of .ensures))
+    (at-store .store .ensures)
     (c .word-of .ensures)
-    (c .before .before .before .before .before .before .before .before .frame-points .ensures)
+    (at-frame-points .frame-points .ensures)
 
 pub vdp-step-spec : {M : Type 1} → statement M
 vdp-step-spec =

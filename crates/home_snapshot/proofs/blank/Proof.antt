@@ -1,3 +1,4 @@
+-- `home_snapshot::blank` meets its contract: a frame, zeroed: the contract says so, and gives its length, which the caller's check then need not compute.
 -- By a law, since to compute the length of 196,608 zeros takes much memory.
 use mathlib.Core.Path.{refl, sym}
 use Prim.Native.Nat.{ℕ}

@@ -1,3 +1,4 @@
+-- `layers::blank` meets its contract: a visible frame, zeroed: the contract says so, and gives its length, which the caller's check then need not compute.
 -- By a law, since to compute the length of 92,160 zeros takes much memory.
 use mathlib.Core.Path.{refl, sym}
 use Prim.Native.Nat.{ℕ}

@@ -1,3 +1,4 @@
+-- `layers::room` meets its contract: room for a picture.
 -- By a law, since to compute the length of 69,135 zeros takes much memory.
 use mathlib.Core.Path.{sym}
 use Prim.Native.Nat.{ℕ}

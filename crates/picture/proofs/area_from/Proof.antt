@@ -1,18 +1,14 @@
+-- `picture::area_from` meets its contract: the area of a number that is not above 2.
 use borrow.Author.Tests.{eq-eqb, ne-eqb}
 use Rattle.picture.proofs.area_from.Statement.{statement}
 use Rattle.picture.proofs.area_from.Tie as tie
-use Rattle.picture.proofs.area_from.Reads as reads
-use Rattle.picture.proofs.area_from.Lts as lts
 
--- src/lib.rt:13:1
 returns : tie.Need-returns
 returns c = simp (eq-eqb _ _ (c .if1 .taken))
 
--- src/lib.rt:13:1
 returns-2 : tie.Need-returns-2
 returns-2 c = simp (ne-eqb _ _ (c .before .if1 .left), eq-eqb _ _ (c .if2 .taken))
 
--- src/lib.rt:13:1
 returns-3 : tie.Need-returns-3
 returns-3 c = simp (ne-eqb _ _ (c .before .if1 .left), ne-eqb _ _ (c .if2 .left))
 

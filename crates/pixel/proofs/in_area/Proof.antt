@@ -1,43 +1,32 @@
+-- `pixel::in_area` meets its contract: whether row and column lie in the area.
 use borrow.Author.Needs.{needs}
 use Rattle.pixel.proofs.in_area.Statement.{statement}
 use Rattle.pixel.proofs.in_area.Tie as tie
-use Rattle.pixel.proofs.in_area.Reads as reads
-use Rattle.pixel.proofs.in_area.Lts as lts
-use Rattle.small.proofs.both.Reads as both-reads
 
--- src/lib.rt:473:25
 enum-told : tie.Need-enum-told
 enum-told c = search needs
 
--- src/lib.rt:473:13
 both-requires : tie.Need-both-requires
 both-requires c κs = search needs
 
--- src/lib.rt:476:25
 enum-told-2 : tie.Need-enum-told-2
 enum-told-2 c = search needs
 
--- src/lib.rt:476:13
 both-requires-2 : tie.Need-both-requires-2
 both-requires-2 c κs = search needs
 
--- src/lib.rt:479:25
 enum-told-3 : tie.Need-enum-told-3
 enum-told-3 c = search needs
 
--- src/lib.rt:479:13
 both-requires-3 : tie.Need-both-requires-3
 both-requires-3 c κs = search needs
 
--- src/lib.rt:468:1
 returns : tie.Need-returns
 returns c = rw (c .before .enum-told .given .1) (c .both .ensures)
 
--- src/lib.rt:468:1
 returns-2 : tie.Need-returns-2
 returns-2 c = rw (c .before .enum-told2 .given .1) (c .both2 .ensures)
 
--- src/lib.rt:468:1
 returns-3 : tie.Need-returns-3
 returns-3 c = rw (c .before .enum-told3 .given .1) (c .both3 .ensures)
 

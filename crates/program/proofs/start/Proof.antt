@@ -1,10 +1,10 @@
+-- `program::start` meets its contract: the first bytes of buf as the input.
 -- A count within the buffer is what `&buf[..n]` asks. Assumes nothing.
 use native.Mathlib.Omega.{arith}
 use Rattle.io.proofs.Counting.{counts}
 use Rattle.program.proofs.start.Statement.{statement}
 use Rattle.program.proofs.start.Tie as tie
 
--- src/lib.rt:17:1
 returns : tie.Need-returns
 returns c = counts (c .args .len) (c .args .buf .now) (omega arith)
 

@@ -1,15 +1,11 @@
-use borrow.Author.Needs.{needs}
+-- `raster::table_from` meets its contract: the line table of a number.
 use borrow.Author.Tests.{eq-eqb, ne-eqb}
 use Rattle.raster.proofs.table_from.Statement.{statement}
 use Rattle.raster.proofs.table_from.Tie as tie
-use Rattle.raster.proofs.table_from.Reads as reads
-use Rattle.raster.proofs.table_from.Lts as lts
 
--- src/lib.rt:30:1
 returns : tie.Need-returns
 returns c = simp (eq-eqb _ _ (c .if1 .taken))
 
--- src/lib.rt:30:1
 returns-2 : tie.Need-returns-2
 returns-2 c = simp (ne-eqb _ _ (c .if1 .left))
 

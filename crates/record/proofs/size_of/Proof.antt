@@ -1,47 +1,36 @@
+-- `record::size_of` meets its contract: how many bytes a record has.
 use borrow.Author.Needs.{needs}
 use native.Mathlib.Omega.{arith}
 use Rattle.record.proofs.size_of.Statement.{statement}
 use Rattle.record.proofs.size_of.Tie as tie
-use Rattle.record.proofs.size_of.Reads as reads
-use Rattle.record.proofs.size_of.Lts as lts
 
--- src/lib.rt:83:32
 enum-told : tie.Need-enum-told
 enum-told c = search needs
 
--- src/lib.rt:84:28
 enum-told-2 : tie.Need-enum-told-2
 enum-told-2 c = search needs
 
--- src/lib.rt:85:28
 enum-told-3 : tie.Need-enum-told-3
 enum-told-3 c = search needs
 
--- src/lib.rt:86:24
 enum-told-4 : tie.Need-enum-told-4
 enum-told-4 c = search needs
 
--- src/lib.rt:87:24
 enum-told-5 : tie.Need-enum-told-5
 enum-told-5 c = search needs
 
--- src/lib.rt:78:1
 returns : tie.Need-returns
 returns c = search needs
 
--- src/lib.rt:78:1
 returns-2 : tie.Need-returns-2
 returns-2 c = search needs
 
--- src/lib.rt:78:1
 returns-3 : tie.Need-returns-3
 returns-3 c = search needs
 
--- src/lib.rt:78:1
 returns-4 : tie.Need-returns-4
 returns-4 c = (rw (c .enum-told4 .given .1), omega arith)
 
--- src/lib.rt:78:1
 returns-5 : tie.Need-returns-5
 returns-5 c = search needs
 

@@ -1,3 +1,4 @@
+-- `replay::part` meets its contract: what byte i adds to a checksum.
 use borrow.Author.Needs.{needs}
 use mir.Syntax.{w8}
 use mir.Val.{Fits}
@@ -7,25 +8,19 @@ use mathlib.Core.Path.{refl}
 use Rattle.replay.proofs.Laws.{part-low}
 use Rattle.replay.proofs.part.Statement.{statement}
 use Rattle.replay.proofs.part.Tie as tie
-use Rattle.replay.proofs.part.Reads as reads
-use Rattle.replay.proofs.part.Lts as lts
 
--- src/main.rt:37:7
 add-result : tie.Need-add-result
 add-result c = search needs
 
--- src/main.rt:37:6
 cast-result : tie.Need-cast-result
 cast-result c = search needs
 
--- src/main.rt:37:5
 mul-result : tie.Need-mul-result
 mul-result c =
     let f : Fits w8 (c .args .byte) = search needs in
     let h : c .args .i < 1024 = omega arith in
     record { fits = omega (arith, part-low (c .args .i) (c .args .byte) h (f .fits)) }
 
--- src/main.rt:33:1
 returns : tie.Need-returns
 returns c =
     let f : Fits w8 (c .args .byte) = search needs in

@@ -1,3 +1,4 @@
+-- `replay::replay` meets its contract: all records in order, from a fresh device of table 0 in a block of the first version on.
 use borrow.Author.Needs.{needs}
 use native.Mathlib.Omega.{arith}
 use mathlib.Core.Path.{_≡_}
@@ -9,84 +10,90 @@ use Rattle.replay.specs.Replay.{world, run, ran, start}
 use Rattle.replay.proofs.Laws.{begun, run-on, differs, agree}
 use Rattle.replay.proofs.replay.Statement.{statement}
 use Rattle.replay.proofs.replay.Tie as tie
-use Rattle.replay.proofs.replay.Reads as reads
-use Rattle.replay.proofs.replay.Lts as lts
-use Rattle.face.proofs.vdp_new_table.Reads as vdp-new-table-reads
-use Rattle.replay.proofs.call.Reads as call-reads
 
 abbrev Inv-loop : tie.InvT-loop
-Inv-loop list state₀ vram₀ row₀ n i₀ state vram row i = (i ≤ n) × (ran i list (start vram₀ row₀) ≡ run i true (world state vram row)) × (n ≡ length list / 16) × (length state ≡ 219) × (length row ≡ 1024) × (length vram ≡ length vram₀)
+Inv-loop list state₀ vram₀ row₀ n i₀ state vram row i =
+    (i ≤ n) × (ran i list (start vram₀ row₀) ≡ run i true (world state vram row)) × (n ≡ length list / 16) × (length state ≡ 219) ×
+    (length row ≡ 1024) × (length vram ≡ length vram₀)
 
 abbrev μ-loop : tie.MeasureT-loop
 μ-loop list state₀ vram₀ row₀ n i₀ state vram row i = n - i
 
--- src/main.rt:117:5
 vdp-new-table-requires : tie.Need-vdp-new-table-requires Inv-loop μ-loop
 vdp-new-table-requires c κs = search needs
 
--- src/main.rt:120:5
 loop-holds : tie.Need-loop-holds Inv-loop μ-loop
-loop-holds c = (omega arith, begun (c .before .before .before .before .before .before .before .before .args .list .now) (c .before .before .before .before .before .before .before .before .args .vram .now) (c .before .before .before .before .before .before .before .before .args .row .now) (c .before .before .before .before .before .before .before .before .args .state .now) (search needs) (c .before .before .vdp-new-table .ensures), search needs, search needs, search needs, search needs)
+loop-holds c =
+    let at-vdp-new-table = c .before .before in
+    let at-start = at-vdp-new-table .before .before .before .before .before .before in (
+      omega arith,
+      begun (at-start .args .list .now) (at-start .args .vram .now) (at-start .args .row .now) (at-start .args .state .now)
+          (search needs) (at-vdp-new-table .vdp-new-table .ensures),
+      search needs,
+      search needs,
+      search needs,
+      search needs,
+    )
 
--- src/main.rt:121:24
 mul-call : tie.Need-mul-call Inv-loop μ-loop
 mul-call c = search needs
 
--- src/main.rt:121:13
 call-requires : tie.Need-call-requires Inv-loop μ-loop
 call-requires c κs = search needs
 
--- src/main.rt:122:13
 same-length : tie.Need-same-length Inv-loop μ-loop
 same-length c = search needs
 
--- src/main.rt:122:13
 same-length-2 : tie.Need-same-length-2 Inv-loop μ-loop
 same-length-2 c = search needs
 
--- src/main.rt:122:13
 same-length-3 : tie.Need-same-length-3 Inv-loop μ-loop
 same-length-3 c = search needs
 
--- src/main.rt:122:13
 returns : tie.Need-returns Inv-loop μ-loop
 returns c =
-    let a = c .before .before .before .before .before .before .before .before .before .before .before .before .before .before .before .before .before .before .before .before .before .args in
-    let l = c .before .before .before .before .before .before .before .before .before .before .before .before .loop in
+    let at-call = c .before .before .before .before .before .before .before in
+    let at-loop = at-call .before .before .before .before .before in
+    let at-start = at-loop .before .before .before .before .before .before .before .before .before in
+    let a = at-start .args in
+    let l = at-loop .loop in
     let h : l .i < length (a .list .now) / 16 = omega arith in
-    differs (a .list .now) (a .vram .now) (a .row .now) (l .i) h (l .inv .1) (c .before .before .before .before .before .before .before .call .ensures) (not-true _ (c .if1 .taken))
+    differs (a .list .now) (a .vram .now) (a .row .now) (l .i) h (l .inv .1) (at-call .call .ensures) (not-true _ (c .if1 .taken))
 
--- src/main.rt:127:9
 add-i : tie.Need-add-i Inv-loop μ-loop
 add-i c = search needs
 
--- src/main.rt:120:5
 loop-less : tie.Need-loop-less Inv-loop μ-loop
 loop-less c = search needs
 
--- src/main.rt:120:5
 loop-again : tie.Need-loop-again Inv-loop μ-loop
 loop-again c =
-    let a = c .before .before .before .before .before .before .before .before .before .before .before .before .before .before .before .before .before .before .before .before .before .args in
-    let l = c .before .before .before .before .before .before .before .before .before .before .before .before .loop in
-    (omega arith, run-on (a .list .now) (a .vram .now) (a .row .now) (l .i) (l .inv .1) (c .before .before .before .before .before .before .before .call .ensures) (not-false _ (c .if1 .left)), l .inv .2, search needs, search needs, search needs)
+    let at-call = c .before .before .before .before .before .before .before in
+    let at-loop = at-call .before .before .before .before .before in
+    let at-start = at-loop .before .before .before .before .before .before .before .before .before in
+    let a = at-start .args in
+    let l = at-loop .loop in (
+      omega arith,
+      run-on (a .list .now) (a .vram .now) (a .row .now) (l .i) (l .inv .1) (at-call .call .ensures) (not-false _ (c .if1 .left)),
+      l .inv .2,
+      search needs,
+      search needs,
+      search needs,
+    )
 
--- src/main.rt:113:1
 same-length-4 : tie.Need-same-length-4 Inv-loop μ-loop
 same-length-4 c = search needs
 
--- src/main.rt:113:1
 same-length-5 : tie.Need-same-length-5 Inv-loop μ-loop
 same-length-5 c = search needs
 
--- src/main.rt:113:1
 same-length-6 : tie.Need-same-length-6 Inv-loop μ-loop
 same-length-6 c = search needs
 
--- src/main.rt:113:1
 returns-2 : tie.Need-returns-2 Inv-loop μ-loop
 returns-2 c =
-    let a = c .before .before .before .before .before .before .before .before .before .before .args in
+    let at-start = c .before .before .before .before .before .before .before .before .before .before in
+    let a = at-start .args in
     let l = c .before .loop in
     let h : l .i ≡ length (a .list .now) / 16 = omega arith in
     agree (a .list .now) (a .vram .now) (a .row .now) (l .i) h (l .inv .1)

@@ -1,3 +1,4 @@
+-- `replay::sum_of` meets its contract: the checksum of the first n bytes.
 use borrow.Author.Needs.{needs}
 use native.Mathlib.Omega.{arith}
 use mathlib.Core.Path.{_≡_, refl, ap, _∙_}
@@ -6,9 +7,6 @@ use Rattle.replay.specs.Replay.{sumOf}
 use Rattle.replay.proofs.Laws.{sum-step}
 use Rattle.replay.proofs.sum_of.Statement.{statement}
 use Rattle.replay.proofs.sum_of.Tie as tie
-use Rattle.replay.proofs.sum_of.Reads as reads
-use Rattle.replay.proofs.sum_of.Lts as lts
-use Rattle.replay.proofs.part.Reads as part-reads
 
 abbrev Inv-loop : tie.InvT-loop
 Inv-loop bytes n sum₀ i₀ sum i = (i ≤ n) × (sum ≡ sumOf i bytes) × (sum ≤ 261120 * i)
@@ -16,41 +14,37 @@ Inv-loop bytes n sum₀ i₀ sum i = (i ≤ n) × (sum ≡ sumOf i bytes) × (su
 abbrev μ-loop : tie.MeasureT-loop
 μ-loop bytes n sum₀ i₀ sum i = n - i
 
--- src/main.rt:47:5
 loop-holds : tie.Need-loop-holds Inv-loop μ-loop
 unfolding sumOf
 loop-holds c = (omega arith, refl, omega arith)
 
--- src/main.rt:48:24
 shared-slice-read-part : tie.Need-shared-slice-read-part Inv-loop μ-loop
 shared-slice-read-part c = search needs
 
--- src/main.rt:48:16
 part-requires : tie.Need-part-requires Inv-loop μ-loop
 part-requires c κs = search needs
 
--- src/main.rt:48:9
 add-sum : tie.Need-add-sum Inv-loop μ-loop
 add-sum c = search needs
 
--- src/main.rt:49:9
 add-i : tie.Need-add-i Inv-loop μ-loop
 add-i c = search needs
 
--- src/main.rt:47:5
 loop-less : tie.Need-loop-less Inv-loop μ-loop
 loop-less c = search needs
 
--- src/main.rt:47:5
 loop-again : tie.Need-loop-again Inv-loop μ-loop
-loop-again c = (omega arith, sum-step (c .before .before .before .before .before .args .bytes .now) (c .before .before .before .loop .i) (c .before .before .before .loop .inv .1) (c .part .ensures .0), omega arith)
+loop-again c =
+    let at-loop = c .before .before .before in
+    let at-start = at-loop .before .before in
+    (omega arith, sum-step (at-start .args .bytes .now) (at-loop .loop .i) (at-loop .loop .inv .1) (c .part .ensures .0), omega arith)
 
--- src/main.rt:41:1
 returns : tie.Need-returns Inv-loop μ-loop
 returns c =
+    let at-start = c .before .before .before in
     let l = c .before .loop in
-    let e : l .i ≡ c .before .before .before .args .n = omega arith in
-    l .inv .1 ∙ ap (λ (k : ℕ). sumOf k (c .before .before .before .args .bytes .now)) e
+    let e : l .i ≡ at-start .args .n = omega arith in
+    l .inv .1 ∙ ap (λ (k : ℕ). sumOf k (at-start .args .bytes .now)) e
 
 pub sum-of-spec : {M : Type 1} → statement M
 sum-of-spec =

@@ -1,24 +1,18 @@
+-- `row::home_line` meets its contract: the map's line that the columns from 192 on show.
 use borrow.Author.Needs.{needs}
 use mathlib.Core.Path.{sym, _∙_}
 use Rattle.row.proofs.home_line.Statement.{statement}
 use Rattle.row.proofs.home_line.Tie as tie
-use Rattle.row.proofs.home_line.Reads as reads
-use Rattle.row.proofs.home_line.Lts as lts
-use Rattle.small.proofs.is_set.Reads as is-set-reads
 
--- src/lib.rt:155:22
 array-read-is-set : tie.Need-array-read-is-set
 array-read-is-set c = search needs
 
--- src/lib.rt:155:8
 is-set-requires : tie.Need-is-set-requires
 is-set-requires c κs = search needs
 
--- src/lib.rt:152:1
 returns : tie.Need-returns
 returns c = rw (sym (c .before .is-set .ensures) ∙ c .if1 .taken)
 
--- src/lib.rt:152:1
 returns-2 : tie.Need-returns-2
 returns-2 c = rw (sym (c .before .is-set .ensures) ∙ c .if1 .left)
 

@@ -1,15 +1,11 @@
-use borrow.Author.Needs.{needs}
-use borrow.Author.Tests.{eq-eqb, ne-eqb, le-leb, lt-leb, not-true, not-false}
+-- `salvage::in_range` meets its contract: a byte that is at most `high`, else 0.
+use borrow.Author.Tests.{le-leb, lt-leb}
 use Rattle.salvage.proofs.in_range.Statement.{statement}
 use Rattle.salvage.proofs.in_range.Tie as tie
-use Rattle.salvage.proofs.in_range.Reads as reads
-use Rattle.salvage.proofs.in_range.Lts as lts
 
--- src/lib.rt:28:1
 returns : tie.Need-returns
 returns c = rw (le-leb _ _ (c .if1 .taken))
 
--- src/lib.rt:28:1
 returns-2 : tie.Need-returns-2
 returns-2 c = rw (lt-leb _ _ (c .if1 .left))
 

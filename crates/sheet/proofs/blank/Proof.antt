@@ -1,3 +1,4 @@
+-- `sheet::blank` meets its contract: room for the tiles of the longest sheet.
 -- By a law, since to compute the length of so many zeros takes memory.
 use mathlib.Core.Path.{sym}
 use Prim.Native.Nat.{ℕ}

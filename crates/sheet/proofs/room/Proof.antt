@@ -1,3 +1,4 @@
+-- `sheet::room` meets its contract: room for the longest sheet and one byte more: where that is filled, there is too much.
 -- By a law, since to compute the length of so many zeros takes memory.
 use mathlib.Core.Path.{sym}
 use Prim.Native.Nat.{ℕ}

@@ -1,20 +1,16 @@
+-- `small::is_set` meets its contract: bit i of a byte.
 use borrow.Author.Needs.{needs}
 use mathlib.Core.Path.{refl}
 use Rattle.laws.specs.Bits.{bit}
 use Rattle.small.proofs.is_set.Statement.{statement}
 use Rattle.small.proofs.is_set.Tie as tie
-use Rattle.small.proofs.is_set.Reads as reads
-use Rattle.small.proofs.is_set.Lts as lts
 
--- src/lib.rt:35:14
 cast-result : tie.Need-cast-result
 cast-result c = search needs
 
--- src/lib.rt:35:6
 shr-result : tie.Need-shr-result
 shr-result c = search needs
 
--- src/lib.rt:31:1
 returns : tie.Need-returns
 unfolding bit
 returns c = refl

@@ -1,3 +1,4 @@
+-- `snapshot::blank` meets its contract: a visible frame, zeroed: the contract says so, and gives its length.
 -- By a law, since to compute the length of 92,160 zeros takes much memory.
 use mathlib.Core.Path.{refl, sym}
 use Prim.Native.Nat.{ℕ}

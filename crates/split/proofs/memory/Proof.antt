@@ -1,3 +1,4 @@
+-- `split::memory` meets its contract: video memory and a visible frame.
 -- By a law: to compute the length would cost the check memory. Assumes nothing.
 use mathlib.Core.Path.{sym}
 use Prim.Native.Nat.{ℕ}

@@ -1,12 +1,10 @@
+-- `split::pass` meets its contract: a whole pass: 262 steps.
 use mathlib.Core.Path.{_≡_}
 use Prim.Native.Nat.{_-_, _≤_}
 use lib.ListN.{length}
 use borrow.Author.Needs.{needs}
 use Rattle.split.proofs.pass.Statement.{statement}
 use Rattle.split.proofs.pass.Tie as tie
-use Rattle.split.proofs.pass.Reads as reads
-use Rattle.split.proofs.pass.Lts as lts
-use Rattle.split.proofs.turn.Reads as turn-reads
 
 abbrev Inv-loop : tie.InvT-loop
 Inv-loop vram₀ frame₀ next₀ i₀ vram frame next i = (i ≤ 262) × (length vram ≡ length vram₀) × (length frame ≡ length frame₀)
@@ -14,35 +12,27 @@ Inv-loop vram₀ frame₀ next₀ i₀ vram frame next i = (i ≤ 262) × (lengt
 abbrev μ-loop : tie.MeasureT-loop
 μ-loop vram₀ frame₀ next₀ i₀ vram frame next i = 262 - i
 
--- src/main.rt:70:5
 loop-holds : tie.Need-loop-holds Inv-loop μ-loop
 loop-holds c = search needs
 
--- src/main.rt:71:9
 turn-requires : tie.Need-turn-requires Inv-loop μ-loop
 turn-requires c κs = search needs
 
--- src/main.rt:72:9
 add-i : tie.Need-add-i Inv-loop μ-loop
 add-i c = search needs
 
--- src/main.rt:70:5
 loop-less : tie.Need-loop-less Inv-loop μ-loop
 loop-less c = search needs
 
--- src/main.rt:70:5
 loop-again : tie.Need-loop-again Inv-loop μ-loop
 loop-again c = search needs
 
--- src/main.rt:67:1
 same-length : tie.Need-same-length Inv-loop μ-loop
 same-length c = search needs
 
--- src/main.rt:67:1
 same-length-2 : tie.Need-same-length-2 Inv-loop μ-loop
 same-length-2 c = search needs
 
--- src/main.rt:67:1
 returns : tie.Need-returns Inv-loop μ-loop
 returns c = search needs
 

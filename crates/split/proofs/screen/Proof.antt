@@ -1,3 +1,4 @@
+-- `split::screen` meets its contract: the frame of the pass.
 -- By a law: to compute the length would cost the check memory. Assumes nothing.
 use mathlib.Core.Path.{sym}
 use Prim.Native.Nat.{ℕ}

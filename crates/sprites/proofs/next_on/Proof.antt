@@ -1,3 +1,4 @@
+-- `sprites::next_on` meets its contract: the next sprite on the line, of those from sprite `from` on.
 use borrow.Author.Needs.{needs}
 use mathlib.Core.Path.{_≡_, refl, _∙_}
 use Prim.Native.Nat.{ℕ, _-_, _≤_, _<_}
@@ -11,37 +12,33 @@ use Rattle.picture.specs.Picture.{tableAt, tall, listed}
 use Rattle.sprites.proofs.List.{list-ends, list-skips, list-has, list-done, byte-of, on-line, below-top, off-line}
 use Rattle.sprites.proofs.next_on.Statement.{statement}
 use Rattle.sprites.proofs.next_on.Tie as tie
-use Rattle.sprites.proofs.next_on.Reads as reads
-use Rattle.sprites.proofs.next_on.Lts as lts
-use Rattle.sprites.proofs.top_of.Reads as top-of-reads
-use Rattle.std.proofs.num.wrapping_sub_usize.Reads as wrapping-sub-usize-reads
 
 abbrev Inv-loop : tie.InvT-loop
-Inv-loop vram table from line lines n₀ n = (from ≤ n) × (n ≤ 64) × ((g : ℕ → ℕ) → table ≡ tableAt g → lines ≡ cond (tall g) 16 8 → listed (at vram) g line (64 - from) from ≡ listed (at vram) g line (64 - n) n)
+Inv-loop vram table from line lines n₀ n =
+    (from ≤ n) × (n ≤ 64) × ((g : ℕ → ℕ) → table ≡ tableAt g → lines ≡ cond (tall g) 16 8 → listed (at vram) g line (64 - from) from ≡ listed
+    (at vram) g line (64 - n) n)
 
 abbrev μ-loop : tie.MeasureT-loop
 μ-loop vram table from line lines n₀ n = 64 - n
 
--- src/lib.rt:278:5
 loop-holds : tie.Need-loop-holds Inv-loop μ-loop
 loop-holds c = (omega arith, omega arith, λ g te le. refl)
 
--- src/lib.rt:279:22
 add-y : tie.Need-add-y Inv-loop μ-loop
 add-y c = search needs
 
--- src/lib.rt:279:17
 shared-slice-read-y : tie.Need-shared-slice-read-y Inv-loop μ-loop
 shared-slice-read-y c = search needs
 
--- src/lib.rt:281:13
 returns : tie.Need-returns Inv-loop μ-loop
 returns c =
-    let a = c .before .before .before .before .before .args in
-    let v = c .before .before .before .loop .inv .2 in
-    let n = c .before .before .before .loop .n in
+    let at-loop = c .before .before .before in
+    let at-start = at-loop .before .before in
+    let a = at-start .args in
+    let v = at-loop .loop .inv .2 in
+    let n = at-loop .loop .n in
     let m = at (a .vram .now) in
-    let low = c .before .before .before .before .before .pre .3 in
+    let low = at-start .pre .3 in
     let l : n < 64 = omega arith in (
       λ g te le.
           record {
@@ -52,55 +49,59 @@ returns c =
       (omega arith, omega arith, omega arith, λ h. refl),
     )
 
--- src/lib.rt:283:52
 top-of-requires : tie.Need-top-of-requires Inv-loop μ-loop
 top-of-requires c κs = search needs
 
--- src/lib.rt:283:13
 wrapping-sub-usize-requires : tie.Need-wrapping-sub-usize-requires Inv-loop μ-loop
 wrapping-sub-usize-requires c κs = search needs
 
--- src/lib.rt:285:13
 returns-2 : tie.Need-returns-2 Inv-loop μ-loop
 returns-2 c =
-    let a = c .before .before .before .before .before .before .before .before .args in
-    let v = c .before .before .before .before .before .before .loop .inv .2 in
-    let n = c .before .before .before .before .before .before .loop .n in
+    let at-top-of = c .before .before in
+    let at-if1 = at-top-of .before in
+    let at-loop = at-if1 .before .before .before in
+    let at-start = at-loop .before .before in
+    let a = at-start .args in
+    let v = at-loop .loop .inv .2 in
+    let n = at-loop .loop .n in
     let m = at (a .vram .now) in
-    let low = c .before .before .before .before .before .before .before .before .pre .3 in
+    let low = at-start .pre .3 in
     let l : n < 64 = omega arith in
-    let top = c .before .before .top-of .result in
+    let top = at-top-of .top-of .result in
     let d = c .before .wrapping-sub-usize .result in (
       λ g te le.
           record {
             none = λ h. absurd (omega arith);
             next = λ h.
                 v g te le
-                ∙ list-has m g (a .line) n l (byte-of m g (a .line) n te refl (ne-eqb _ _ (c .before .before .before .if1 .left)))
-                (on-line m g (a .line) n te refl top (a .lines) d (c .before .before .top-of .ensures .0) le (c .before .wrapping-sub-usize .ensures) low (c .if2 .taken));
-            below = λ h. below-top m g (a .line) n te refl top (a .lines) d (c .before .before .top-of .ensures .0) le (c .before .wrapping-sub-usize .ensures) low (c .if2 .taken);
+                ∙ list-has m g (a .line) n l (byte-of m g (a .line) n te refl (ne-eqb _ _ (at-if1 .if1 .left)))
+                (on-line m g (a .line) n te refl top (a .lines) d (at-top-of .top-of .ensures .0) le (c .before .wrapping-sub-usize .ensures) low
+                (c .if2 .taken));
+            below = λ h. below-top m g (a .line) n te refl top (a .lines) d (at-top-of .top-of .ensures .0) le
+                (c .before .wrapping-sub-usize .ensures) low (c .if2 .taken);
           },
       (omega arith, omega arith, omega arith, λ h. absurd (omega arith)),
     )
 
--- src/lib.rt:287:9
 add-n : tie.Need-add-n Inv-loop μ-loop
 add-n c = search needs
 
--- src/lib.rt:278:5
 loop-less : tie.Need-loop-less Inv-loop μ-loop
 loop-less c = search needs
 
--- src/lib.rt:278:5
 loop-again : tie.Need-loop-again Inv-loop μ-loop
 loop-again c =
-    let a = c .before .before .before .before .before .before .before .before .args in
-    let v = c .before .before .before .before .before .before .loop .inv .2 in
-    let n = c .before .before .before .before .before .before .loop .n in
+    let at-top-of = c .before .before in
+    let at-if1 = at-top-of .before in
+    let at-loop = at-if1 .before .before .before in
+    let at-start = at-loop .before .before in
+    let a = at-start .args in
+    let v = at-loop .loop .inv .2 in
+    let n = at-loop .loop .n in
     let m = at (a .vram .now) in
-    let low = c .before .before .before .before .before .before .before .before .pre .3 in
+    let low = at-start .pre .3 in
     let l : n < 64 = omega arith in
-    let top = c .before .before .top-of .result in
+    let top = at-top-of .top-of .result in
     let d = c .before .wrapping-sub-usize .result in
     let out : a .lines ≤ d = omega arith in
     let fits : Fits w64 d = search needs in (
@@ -108,18 +109,19 @@ loop-again c =
       omega arith,
       λ g te le.
           v g te le
-          ∙ list-skips m g (a .line) n l (byte-of m g (a .line) n te refl (ne-eqb _ _ (c .before .before .before .if1 .left)))
-          (off-line m g (a .line) n te refl top (a .lines) d (c .before .before .top-of .ensures .0) le (c .before .wrapping-sub-usize .ensures) low out (fits .fits)),
+          ∙ list-skips m g (a .line) n l (byte-of m g (a .line) n te refl (ne-eqb _ _ (at-if1 .if1 .left)))
+          (off-line m g (a .line) n te refl top (a .lines) d (at-top-of .top-of .ensures .0) le (c .before .wrapping-sub-usize .ensures) low out
+          (fits .fits)),
     )
 
--- src/lib.rt:272:1
 returns-3 : tie.Need-returns-3 Inv-loop μ-loop
 returns-3 c =
-    let a = c .before .before .before .args in
+    let at-start = c .before .before .before in
+    let a = at-start .args in
     let v = c .before .loop .inv .2 in
     let n = c .before .loop .n in
     let m = at (a .vram .now) in
-    let low = c .before .before .before .pre .3 in
+    let low = at-start .pre .3 in
     let l : 64 ≤ n = omega arith in (
       λ g te le.
           record { none = λ h. v g te le ∙ list-done m g (a .line) n l; next = λ h. absurd (omega arith); below = λ h. absurd (omega arith) },

@@ -1,30 +1,25 @@
+-- `sprites::render_sprites_line` meets its contract: the sprites of a line, over its background, under the priority mask `prio`.
 use borrow.Author.Needs.{needs}
 use Rattle.sprites.proofs.render_sprites_line.Statement.{statement}
 use Rattle.sprites.proofs.render_sprites_line.Tie as tie
-use Rattle.sprites.proofs.render_sprites_line.Reads as reads
-use Rattle.sprites.proofs.render_sprites_line.Lts as lts
-use Rattle.bitmap.proofs.Bitmap.new.Reads as new-reads
-use Rattle.sprites.proofs.sprites_line.Reads as sprites-line-reads
 
--- src/lib.rt:399:9
 new-requires : tie.Need-new-requires
 new-requires c κs = search needs
 
--- src/lib.rt:400:9
 sprites-line-requires : tie.Need-sprites-line-requires
 sprites-line-requires c κs = search needs
 
--- src/lib.rt:385:1
 same-length : tie.Need-same-length
 same-length c = search needs
 
--- src/lib.rt:385:1
 same-length-2 : tie.Need-same-length-2
 same-length-2 c = search needs
 
--- src/lib.rt:385:1
 returns : tie.Need-returns
-returns c = λ base told f colour pe re le. c .before .before .before .before .sprites-line .ensures base told f colour pe (c .before .before .before .before .before .before .before .new .ensures) re le .line
+returns c =
+    let at-sprites-line = c .before .before .before .before in
+    let at-new = at-sprites-line .before .before .before in
+    λ base told f colour pe re le. at-sprites-line .sprites-line .ensures base told f colour pe (at-new .new .ensures) re le .line
 
 pub render-sprites-line-spec : {M : Type 1} → statement M
 render-sprites-line-spec =

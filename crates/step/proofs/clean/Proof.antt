@@ -1,27 +1,20 @@
+-- `step::clean` meets its contract: the device after a step that drew this row: clean colours, if it drew one.
 use borrow.Author.Needs.{needs}
 use Rattle.step.proofs.clean.Statement.{statement}
 use Rattle.step.proofs.clean.Tie as tie
-use Rattle.step.proofs.clean.Reads as reads
-use Rattle.step.proofs.clean.Lts as lts
-use Rattle.vdp.proofs.VdpState.with_cache.Reads as with-cache-reads
 
--- src/lib.rt:307:28
 enum-told : tie.Need-enum-told
 enum-told c = search needs
 
--- src/lib.rt:308:31
 enum-told-2 : tie.Need-enum-told-2
 enum-told-2 c = search needs
 
--- src/lib.rt:308:31
 with-cache-requires : tie.Need-with-cache-requires
 with-cache-requires c κs = search needs
 
--- src/lib.rt:303:1
 returns : tie.Need-returns
 returns c = rw (c .enum-told .given .1)
 
--- src/lib.rt:303:1
 returns-2 : tie.Need-returns-2
 returns-2 c = rw (c .before .enum-told2 .given .1) (c .with-cache .ensures)
 

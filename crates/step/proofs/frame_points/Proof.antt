@@ -1,3 +1,4 @@
+-- `step::frame_points` meets its contract: the points on a frame.
 use borrow.Author.Needs.{needs}
 use native.Mathlib.Omega.{arith}
 use mathlib.Core.List.{[]}
@@ -6,58 +7,55 @@ use Rattle.step.specs.Points.{reading}
 use Rattle.step.proofs.Steps.{frame-refuses, frame-accepts}
 use Rattle.step.proofs.frame_points.Statement.{statement}
 use Rattle.step.proofs.frame_points.Tie as tie
-use Rattle.step.proofs.frame_points.Reads as reads
-use Rattle.step.proofs.frame_points.Lts as lts
-use Rattle.step.proofs.lend.Reads as lend-reads
-use Rattle.step.proofs.refused.Reads as refused-reads
-use Rattle.step.proofs.row_points_into.Reads as row-points-into-reads
 
--- src/lib.rt:391:9
 lend-requires : tie.Need-lend-requires
 lend-requires c κs = search needs
 
--- src/lib.rt:396:9
 refused-requires : tie.Need-refused-requires
 refused-requires c κs = search needs
 
--- src/lib.rt:396:9
 same-length : tie.Need-same-length
 same-length c = search needs
 
--- src/lib.rt:396:9
 returns : tie.Need-returns
-returns c = frame-refuses (c .before .before .before .before .before .before .before .args .screen) (c .before .before .before .before .before .before .before .args .vram .now) (reading (c .before .before .before .before .before .before .before .args .reg) (c .before .before .before .before .before .before .before .args .raster) (c .before .before .before .before .before .before .before .args .status) (c .before .before .before .before .before .before .before .args .colours .now)) (c .before .before .before .before .before .before .before .args .frame .now) [] (c .before .before .before .lend .ensures .refused (not-true _ (c .before .if1 .taken))) (c .refused .ensures)
+returns c =
+    let at-lend = c .before .before .before in
+    let at-start = at-lend .before .before .before .before in
+    frame-refuses (at-start .args .screen) (at-start .args .vram .now)
+    (reading (at-start .args .reg) (at-start .args .raster) (at-start .args .status) (at-start .args .colours .now)) (at-start .args .frame .now)
+    [] (at-lend .lend .ensures .refused (not-true _ (c .before .if1 .taken))) (c .refused .ensures)
 
--- src/lib.rt:405:9
 sub-row-points-into : tie.Need-sub-row-points-into
 sub-row-points-into c = search needs
 
--- src/lib.rt:405:9
 part-row-points-into-start : tie.Need-part-row-points-into-start
 part-row-points-into-start c = search needs
 
--- src/lib.rt:405:9
 part-row-points-into-end : tie.Need-part-row-points-into-end
-part-row-points-into-end c = let g = not-false _ (c .if1 .left) in omega (arith, c .before .before .lend .ensures .inside .1, c .before .before .lend .ensures .exact g)
+part-row-points-into-end c =
+    let at-lend = c .before .before in
+    let g = not-false _ (c .if1 .left) in omega (arith, at-lend .lend .ensures .inside .1, at-lend .lend .ensures .exact g)
 
--- src/lib.rt:406:9
 slice-aggregate-row-points-into : tie.Need-slice-aggregate-row-points-into
 slice-aggregate-row-points-into c = search needs
 
--- src/lib.rt:399:5
 row-points-into-requires : tie.Need-row-points-into-requires
 row-points-into-requires c κs = search needs
 
--- src/lib.rt:380:1
 same-length-2 : tie.Need-same-length-2
 same-length-2 c = search needs
 
--- src/lib.rt:380:1
 returns-2 : tie.Need-returns-2
 returns-2 c =
-    let g = not-false _ (c .before .before .before .before .before .before .if1 .left) in
-    let l = c .before .before .before .before .before .before .before .before .lend .ensures in
-    frame-accepts (c .before .before .before .before .before .before .before .before .before .before .before .before .args .screen) (c .before .before .before .before .before .before .before .before .before .before .before .before .args .vram .now) (reading (c .before .before .before .before .before .before .before .before .before .before .before .before .args .reg) (c .before .before .before .before .before .before .before .before .before .before .before .before .args .raster) (c .before .before .before .before .before .before .before .before .before .before .before .before .args .status) (c .before .before .before .before .before .before .before .before .before .before .before .before .args .colours .now)) (c .before .before .before .before .before .before .before .before .before .before .before .before .args .frame .now) _ (l .memory g) (l .exact g) (l .place g) (l .part g) (c .before .before .before .row-points-into .ensures) .0
+    let at-row-points-into = c .before .before .before in
+    let at-if1 = at-row-points-into .before .before .before in
+    let at-lend = at-if1 .before .before in
+    let at-start = at-lend .before .before .before .before in
+    let g = not-false _ (at-if1 .if1 .left) in
+    let l = at-lend .lend .ensures in
+    frame-accepts (at-start .args .screen) (at-start .args .vram .now)
+    (reading (at-start .args .reg) (at-start .args .raster) (at-start .args .status) (at-start .args .colours .now)) (at-start .args .frame .now)
+    _ (l .memory g) (l .exact g) (l .place g) (l .part g) (at-row-points-into .row-points-into .ensures) .0
 
 pub frame-points-spec : {M : Type 1} → statement M
 frame-points-spec =

@@ -1,38 +1,34 @@
+-- `step::frame_step` meets its contract: a step on a whole frame.
 use borrow.Author.Needs.{needs}
 use mathlib.Core.Path.{refl}
 use Rattle.step.proofs.Steps.{reading-of, frame-joined}
 use Rattle.step.proofs.frame_step.Statement.{statement}
 use Rattle.step.proofs.frame_step.Tie as tie
-use Rattle.step.proofs.frame_step.Reads as reads
-use Rattle.step.proofs.frame_step.Lts as lts
-use Rattle.step.proofs.join.Reads as join-reads
-use Rattle.step.proofs.colours_of.Reads as colours-of-reads
-use Rattle.step.proofs.frame_points.Reads as frame-points-reads
-use Rattle.picture.proofs.screen_of.Reads as screen-of-reads
 
--- src/lib.rt:350:19
 colours-of-requires : tie.Need-colours-of-requires
 colours-of-requires c κs = search needs
 
--- src/lib.rt:503:79
 screen-of-requires : tie.Need-screen-of-requires
 screen-of-requires c κs = search needs
 
--- src/lib.rt:351:9
 frame-points-requires : tie.Need-frame-points-requires
 frame-points-requires c κs = search needs
 
--- src/lib.rt:352:5
 join-requires : tie.Need-join-requires
 join-requires c κs = search needs
 
--- src/lib.rt:345:1
 same-length : tie.Need-same-length
 same-length c = search needs
 
--- src/lib.rt:345:1
 returns : tie.Need-returns
-returns c = frame-joined (c .before .before .before .before .before .before .before .before .before .before .before .before .args .area) (c .before .before .before .before .before .before .before .before .before .before .before .before .args .vram .now) (c .before .before .before .before .before .before .before .before .before .before .before .before .args .vdp) (reading-of (c .before .before .before .before .before .before .before .before .before .before .before .before .args .vdp) refl refl refl (c .before .before .before .before .before .before .before .colours-of .ensures)) (c .join .ensures) (c .before .before .before .before .before .before .before .before .before .before .before .before .args .frame .now) (rw (c .before .before .before .before .screen-of .ensures) at (c .before .before .before .frame-points .ensures))
+returns c =
+    let at-frame-points = c .before .before .before in
+    let at-screen-of = at-frame-points .before in
+    let at-colours-of = at-screen-of .before .before .before in
+    let at-start = at-colours-of .before .before .before .before .before in
+    frame-joined (at-start .args .area) (at-start .args .vram .now) (at-start .args .vdp)
+    (reading-of (at-start .args .vdp) refl refl refl (at-colours-of .colours-of .ensures)) (c .join .ensures) (at-start .args .frame .now)
+    (rw (at-screen-of .screen-of .ensures) at (at-frame-points .frame-points .ensures))
 
 pub frame-step-spec : {M : Type 1} → statement M
 frame-step-spec =

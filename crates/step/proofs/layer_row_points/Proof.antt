@@ -1,63 +1,73 @@
+-- `step::layer_row_points` meets its contract: the points of a step on a row buffer, with the layers of its row.
 use borrow.Author.Needs.{needs}
 use native.Mathlib.Omega.{arith}
 use Rattle.step.specs.Points.{reading}
 use Rattle.step.proofs.Steps.{layers-refuse-8, layers-refuse-9, layers-refuse-16, with-room}
 use Rattle.step.proofs.layer_row_points.Statement.{statement}
 use Rattle.step.proofs.layer_row_points.Tie as tie
-use Rattle.step.proofs.layer_row_points.Reads as reads
-use Rattle.step.proofs.layer_row_points.Lts as lts
-use Rattle.step.proofs.column_count.Reads as column-count-reads
-use Rattle.step.proofs.refused.Reads as refused-reads
-use Rattle.step.proofs.row_points_into.Reads as row-points-into-reads
-use Rattle.step.proofs.row_size.Reads as row-size-reads
 
--- src/lib.rt:323:9
 refused-requires : tie.Need-refused-requires
 refused-requires c κs = search needs
 
--- src/lib.rt:323:9
 returns : tie.Need-returns
-returns c = layers-refuse-8 (c .before .before .before .before .before .args .screen) (c .before .before .before .before .before .args .vram .now) (reading (c .before .before .before .before .before .args .reg) (c .before .before .before .before .before .args .raster) (c .before .before .before .before .before .args .status) (c .before .before .before .before .before .args .colours .now)) (c .before .before .before .before .before .args .row .now) (c .before .before .before .before .before .args .layers .now) (c .before .if1 .taken) (c .refused .ensures)
+returns c =
+    let at-start = c .before .before .before .before .before in
+    layers-refuse-8 (at-start .args .screen) (at-start .args .vram .now)
+    (reading (at-start .args .reg) (at-start .args .raster) (at-start .args .status) (at-start .args .colours .now)) (at-start .args .row .now)
+    (at-start .args .layers .now) (c .before .if1 .taken) (c .refused .ensures)
 
--- src/lib.rt:325:9
 row-size-requires : tie.Need-row-size-requires
 row-size-requires c κs = search needs
 
--- src/lib.rt:327:9
 refused-requires-2 : tie.Need-refused-requires-2
 refused-requires-2 c κs = search needs
 
--- src/lib.rt:327:9
 returns-2 : tie.Need-returns-2
-returns-2 c = layers-refuse-9 (c .before .before .before .before .before .before .before .args .screen) (c .before .before .before .before .before .before .before .args .vram .now) (reading (c .before .before .before .before .before .before .before .args .reg) (c .before .before .before .before .before .before .before .args .raster) (c .before .before .before .before .before .before .before .args .status) (c .before .before .before .before .before .before .before .args .colours .now)) (c .before .before .before .before .before .before .before .args .row .now) (c .before .before .before .before .before .before .before .args .layers .now) (c .before .before .before .if1 .left) (c .before .before .row-size .ensures) (c .before .if2 .taken) (c .refused2 .ensures)
+returns-2 c =
+    let at-row-size = c .before .before in
+    let at-if1 = at-row-size .before in
+    let at-start = at-if1 .before .before .before .before in
+    layers-refuse-9 (at-start .args .screen) (at-start .args .vram .now)
+    (reading (at-start .args .reg) (at-start .args .raster) (at-start .args .status) (at-start .args .colours .now)) (at-start .args .row .now)
+    (at-start .args .layers .now) (at-if1 .if1 .left) (at-row-size .row-size .ensures) (c .before .if2 .taken) (c .refused2 .ensures)
 
--- src/lib.rt:329:9
 column-count-requires : tie.Need-column-count-requires
 column-count-requires c κs = search needs
 
--- src/lib.rt:331:9
 refused-requires-3 : tie.Need-refused-requires-3
 refused-requires-3 c κs = search needs
 
--- src/lib.rt:331:9
 returns-3 : tie.Need-returns-3
-returns-3 c = layers-refuse-16 (c .before .before .before .before .before .before .before .before .before .args .screen) (c .before .before .before .before .before .before .before .before .before .args .vram .now) (reading (c .before .before .before .before .before .before .before .before .before .args .reg) (c .before .before .before .before .before .before .before .before .before .args .raster) (c .before .before .before .before .before .before .before .before .before .args .status) (c .before .before .before .before .before .before .before .before .before .args .colours .now)) (c .before .before .before .before .before .before .before .before .before .args .row .now) (c .before .before .before .before .before .before .before .before .before .args .layers .now) (c .before .before .before .before .before .if1 .left) (c .before .before .before .before .row-size .ensures) (c .before .before .before .if2 .left) (omega (arith, c .before .before .column-count .ensures, c .before .if3 .taken)) (c .refused3 .ensures)
+returns-3 c =
+    let at-column-count = c .before .before in
+    let at-if2 = at-column-count .before in
+    let at-row-size = at-if2 .before in
+    let at-if1 = at-row-size .before in
+    let at-start = at-if1 .before .before .before .before in
+    layers-refuse-16 (at-start .args .screen) (at-start .args .vram .now)
+    (reading (at-start .args .reg) (at-start .args .raster) (at-start .args .status) (at-start .args .colours .now)) (at-start .args .row .now)
+    (at-start .args .layers .now) (at-if1 .if1 .left) (at-row-size .row-size .ensures) (at-if2 .if2 .left)
+    (omega (arith, at-column-count .column-count .ensures, c .before .if3 .taken)) (c .refused3 .ensures)
 
--- src/lib.rt:333:5
 row-points-into-requires : tie.Need-row-points-into-requires
 row-points-into-requires c κs = search needs
 
--- src/lib.rt:310:1
 same-length : tie.Need-same-length
 same-length c = search needs
 
--- src/lib.rt:310:1
 same-length-2 : tie.Need-same-length-2
 same-length-2 c = search needs
 
--- src/lib.rt:310:1
 returns-4 : tie.Need-returns-4
-returns-4 c = with-room (c .before .before .before .before .before .before .before .before .before .before .before .before .before .before .before .args .screen) (c .before .before .before .before .before .before .before .before .before .before .before .before .before .before .before .args .vram .now) (reading (c .before .before .before .before .before .before .before .before .before .before .before .before .before .before .before .args .reg) (c .before .before .before .before .before .before .before .before .before .before .before .before .before .before .before .args .raster) (c .before .before .before .before .before .before .before .before .before .before .before .before .before .before .before .args .status) (c .before .before .before .before .before .before .before .before .before .before .before .before .before .before .before .args .colours .now)) _ _ _ (c .before .before .before .before .before .before .before .before .before .before .before .before .before .before .before .args .layers .now) (omega (arith, c .before .before .before .before .before .before .before .before .column-count .ensures, c .before .before .before .before .before .before .before .if3 .left)) (c .before .before .before .before .row-points-into .ensures)
+returns-4 c =
+    let at-row-points-into = c .before .before .before .before in
+    let at-if3 = at-row-points-into .before .before .before in
+    let at-column-count = at-if3 .before in
+    let at-start = at-column-count .before .before .before .before .before .before .before in
+    with-room (at-start .args .screen) (at-start .args .vram .now)
+    (reading (at-start .args .reg) (at-start .args .raster) (at-start .args .status) (at-start .args .colours .now)) _ _ _
+    (at-start .args .layers .now) (omega (arith, at-column-count .column-count .ensures, at-if3 .if3 .left))
+    (at-row-points-into .row-points-into .ensures)
 
 pub layer-row-points-spec : {M : Type 1} → statement M
 layer-row-points-spec =

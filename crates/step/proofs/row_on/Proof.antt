@@ -1,3 +1,4 @@
+-- `step::row_on` meets its contract: the row that a line draws on each screen.
 use borrow.Author.Needs.{needs}
 use borrow.Author.Tests.{le-leb}
 use native.Mathlib.Omega.{arith}
@@ -5,61 +6,49 @@ use native.Mathlib.Nat.{sub-zero}
 use Rattle.step.specs.Points.{rowOn}
 use Rattle.step.proofs.row_on.Statement.{statement}
 use Rattle.step.proofs.row_on.Tie as tie
-use Rattle.step.proofs.row_on.Reads as reads
-use Rattle.step.proofs.row_on.Lts as lts
-use Rattle.step.proofs.top_row.Reads as top-row-reads
-use Rattle.step.proofs.visible_row.Reads as visible-row-reads
 
--- src/lib.rt:134:36
 enum-told : tie.Need-enum-told
 enum-told c = search needs
 
--- src/lib.rt:134:36
 visible-row-requires : tie.Need-visible-row-requires
 visible-row-requires c κs = search needs
 
--- src/lib.rt:135:38
 enum-told-2 : tie.Need-enum-told-2
 enum-told-2 c = search needs
 
--- src/lib.rt:135:38
 top-row-requires : tie.Need-top-row-requires
 top-row-requires c κs = search needs
 
--- src/lib.rt:136:34
 enum-told-3 : tie.Need-enum-told-3
 enum-told-3 c = search needs
 
--- src/lib.rt:136:34
 visible-row-requires-2 : tie.Need-visible-row-requires-2
 visible-row-requires-2 c κs = search needs
 
--- src/lib.rt:137:29
 enum-told-4 : tie.Need-enum-told-4
 enum-told-4 c = search needs
 
--- src/lib.rt:137:29
 top-row-requires-2 : tie.Need-top-row-requires-2
 top-row-requires-2 c κs = search needs
 
--- src/lib.rt:130:1
 returns : tie.Need-returns
 returns c = rw (c .before .enum-told .given .1) (c .visible-row .ensures)
 
--- src/lib.rt:130:1
 returns-2 : tie.Need-returns-2
 unfolding rowOn
-returns-2 c = rw (c .before .enum-told2 .given .1, le-leb 0 (c .before .before .before .args .line) (omega arith), sub-zero) (c .top-row .ensures)
+returns-2 c =
+    let at-start = c .before .before .before in
+    rw (c .before .enum-told2 .given .1, le-leb 0 (at-start .args .line) (omega arith), sub-zero) (c .top-row .ensures)
 
--- src/lib.rt:130:1
 returns-3 : tie.Need-returns-3
 unfolding rowOn
 returns-3 c = rw (c .before .enum-told3 .given .1) (c .visible-row2 .ensures)
 
--- src/lib.rt:130:1
 returns-4 : tie.Need-returns-4
 unfolding rowOn
-returns-4 c = rw (c .before .enum-told4 .given .1, le-leb 0 (c .before .before .before .args .line) (omega arith), sub-zero) (c .top-row2 .ensures)
+returns-4 c =
+    let at-start = c .before .before .before in
+    rw (c .before .enum-told4 .given .1, le-leb 0 (at-start .args .line) (omega arith), sub-zero) (c .top-row2 .ensures)
 
 pub row-on-spec : {M : Type 1} → statement M
 row-on-spec =

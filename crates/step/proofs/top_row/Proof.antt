@@ -1,14 +1,11 @@
+-- `step::top_row` meets its contract: the row that a line draws where row 0 is on line 0.
 use borrow.Author.Tests.{lt-ltb, le-ltb}
 use Rattle.step.proofs.top_row.Statement.{statement}
 use Rattle.step.proofs.top_row.Tie as tie
-use Rattle.step.proofs.top_row.Reads as reads
-use Rattle.step.proofs.top_row.Lts as lts
 
--- src/lib.rt:120:9
 returns : tie.Need-returns
 returns c = rw (le-ltb _ _ (c .if1 .taken))
 
--- src/lib.rt:116:1
 returns-2 : tie.Need-returns-2
 returns-2 c = rw (lt-ltb _ _ (c .if1 .left))
 

@@ -1,3 +1,4 @@
+-- `tile::character_line_sprite_bitmap` meets its contract: the columns of the line at addr, from the tile's pixel start to below end.
 use borrow.Author.Needs.{needs}
 use mathlib.Core.Path.{_≡_, refl, _∙_}
 use Prim.Native.Nat.{_+_, _-_, _≤_, _<_}
@@ -10,10 +11,6 @@ use Rattle.picture.specs.Picture.{solid}
 use Rattle.tile.proofs.Marks.{solid-past, solid-of}
 use Rattle.tile.proofs.character_line_sprite_bitmap.Statement.{statement}
 use Rattle.tile.proofs.character_line_sprite_bitmap.Tie as tie
-use Rattle.tile.proofs.character_line_sprite_bitmap.Reads as reads
-use Rattle.tile.proofs.character_line_sprite_bitmap.Lts as lts
-use Rattle.tile.proofs.color_code.Reads as color-code-reads
-use Rattle.tile.proofs.mark.Reads as mark-reads
 
 abbrev Inv-loop : tie.InvT-loop
 Inv-loop vram addr start end p0 p1 p2 p3 bits₀ i₀ bits i = (i ≤ 8) × (i ≤ end - start) × (bits ≡ number i (solid start end (codeAt (at vram) addr)))
@@ -21,84 +18,70 @@ Inv-loop vram addr start end p0 p1 p2 p3 bits₀ i₀ bits i = (i ≤ 8) × (i �
 abbrev μ-loop : tie.MeasureT-loop
 μ-loop vram addr start end p0 p1 p2 p3 bits₀ i₀ bits i = end - i
 
--- src/lib.rt:172:14
 shared-slice-read-p0 : tie.Need-shared-slice-read-p0 Inv-loop μ-loop
 shared-slice-read-p0 c = search needs
 
--- src/lib.rt:173:19
 add-p1 : tie.Need-add-p1 Inv-loop μ-loop
 add-p1 c = search needs
 
--- src/lib.rt:173:14
 shared-slice-read-p1 : tie.Need-shared-slice-read-p1 Inv-loop μ-loop
 shared-slice-read-p1 c = search needs
 
--- src/lib.rt:174:19
 add-p2 : tie.Need-add-p2 Inv-loop μ-loop
 add-p2 c = search needs
 
--- src/lib.rt:174:14
 shared-slice-read-p2 : tie.Need-shared-slice-read-p2 Inv-loop μ-loop
 shared-slice-read-p2 c = search needs
 
--- src/lib.rt:175:19
 add-p3 : tie.Need-add-p3 Inv-loop μ-loop
 add-p3 c = search needs
 
--- src/lib.rt:175:14
 shared-slice-read-p3 : tie.Need-shared-slice-read-p3 Inv-loop μ-loop
 shared-slice-read-p3 c = search needs
 
--- src/lib.rt:178:5
 loop-holds : tie.Need-loop-holds Inv-loop μ-loop
 unfolding number
 loop-holds c = (omega arith, omega arith, refl)
 
--- src/lib.rt:178:11
 add-loop : tie.Need-add-loop Inv-loop μ-loop
 add-loop c = search needs
 
--- src/lib.rt:179:52
 add-color-code : tie.Need-add-color-code Inv-loop μ-loop
 add-color-code c = search needs
 
--- src/lib.rt:179:47
 sub-color-code : tie.Need-sub-color-code Inv-loop μ-loop
 sub-color-code c = search needs
 
--- src/lib.rt:179:13
 color-code-requires : tie.Need-color-code-requires Inv-loop μ-loop
 color-code-requires c κs = search needs
 
--- src/lib.rt:180:9
 mark-requires : tie.Need-mark-requires Inv-loop μ-loop
 mark-requires c κs = search needs
 
--- src/lib.rt:181:9
 add-i : tie.Need-add-i Inv-loop μ-loop
 add-i c = search needs
 
--- src/lib.rt:178:5
 loop-less : tie.Need-loop-less Inv-loop μ-loop
 loop-less c = search needs
 
--- src/lib.rt:178:5
 loop-again : tie.Need-loop-again Inv-loop μ-loop
 unfolding codeAt
 loop-again c =
-    let v = c .before .before .before .loop .inv in
-    let a = c .before .before .before .before .before .before .before .before .before .args in
-    let i = c .before .before .before .loop .i in
+    let at-loop = c .before .before .before in
+    let at-start = at-loop .before .before .before .before .before .before in
+    let v = at-loop .loop .inv in
+    let a = at-start .args in
+    let i = at-loop .loop .i in
     let h : i < 8 = omega arith in
     let l : a .start + i < a .end = omega arith in
     let q : c .before .color-code .result ≡ codeAt (at (a .vram .now)) (a .addr) (a .start + i) = c .before .color-code .ensures .0 in
     (omega arith, omega arith, number-step _ i h (v .2) (solid-of (a .start) (a .end) _ i l q) (c .mark .ensures))
 
--- src/lib.rt:168:1
 returns : tie.Need-returns Inv-loop μ-loop
 returns c =
+    let at-start = c .before .before .before .before .before .before .before in
     let v = c .before .loop .inv in
-    let a = c .before .before .before .before .before .before .before .args in
+    let a = at-start .args in
     let i = c .before .loop .i in
     v .2 ∙ number-all _ i (v .0) (λ k h. solid-past (a .start) (a .end) _ k (omega arith))
 

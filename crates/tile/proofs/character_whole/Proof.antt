@@ -1,7 +1,8 @@
+-- `tile::character_whole` meets its contract: the whole line at addr, drawn from pixel x of the row on.
 use borrow.Author.Needs.{needs}
 use native.Mathlib.Omega.{arith}
 use mathlib.Core.Path.{_≡_, ap, _∙_}
-use Prim.Native.Nat.{_+_, _-_, _/_, _<_}
+use Prim.Native.Nat.{_+_, _-_, _<_}
 use Rattle.laws.specs.Bits.{bit}
 use Rattle.laws.specs.Lists.{at}
 use Rattle.laws.proofs.Bits.{number-ext}
@@ -12,57 +13,50 @@ use Rattle.tile.proofs.Lanes.{lane-code, code-lt}
 use Rattle.tile.proofs.Whole.{all, line-colour, line-solid}
 use Rattle.tile.proofs.character_whole.Statement.{statement}
 use Rattle.tile.proofs.character_whole.Tie as tie
-use Rattle.tile.proofs.character_whole.Reads as reads
-use Rattle.tile.proofs.character_whole.Lts as lts
-use Rattle.tile.proofs.codes_of.Reads as codes-of-reads
-use Rattle.tile.proofs.faced.Reads as faced-reads
-use Rattle.tile.proofs.four_at.Reads as four-at-reads
-use Rattle.tile.proofs.paint_whole_by.Reads as paint-whole-by-reads
-use Rattle.tile.proofs.solid_of.Reads as solid-of-reads
 
--- src/lib.rt:280:9
 four-at-requires : tie.Need-four-at-requires
 four-at-requires c κs = search needs
 
--- src/lib.rt:281:46
 codes-of-requires : tie.Need-codes-of-requires
 codes-of-requires c κs = search needs
 
--- src/lib.rt:281:5
 paint-whole-by-requires : tie.Need-paint-whole-by-requires
 paint-whole-by-requires c κs =
-    let a = c .before .before .before .before .before .before .args in
+    let at-start = c .before .before .before .before .before .before in
+    let a = at-start .args in
     let q = lane-code _ _ _ _ (c .codes-of .result) (turned (a .flip)) (c .codes-of .ensures) in
     (search needs, search needs, search needs, λ k h. rw (q k h) (code-lt _ _ _ _ _))
 
--- src/lib.rt:282:17
 solid-of-requires : tie.Need-solid-of-requires
 solid-of-requires c κs = search needs
 
--- src/lib.rt:282:5
 faced-requires : tie.Need-faced-requires
 faced-requires c κs = search needs
 
--- src/lib.rt:267:1
 same-length : tie.Need-same-length
 same-length c = search needs
 
--- src/lib.rt:267:1
 returns : tie.Need-returns
 returns c =
-    let a = c .before .before .before .before .before .before .before .before .before .before .before .args in
-    let w = c .before .before .before .before .before .codes-of .result in
-    let small : (k : _) → at (a .vram .now) k < 256 = λ k. omega (arith, c .before .before .before .before .before .before .before .before .before .shared-slice-known .given k) in
+    let at-paint-whole-by = c .before .before .before .before in
+    let at-codes-of = at-paint-whole-by .before in
+    let at-four-at = at-codes-of .before .before .before in
+    let at-shared-slice-known = at-four-at .before in
+    let at-start = at-shared-slice-known .before .before in
+    let a = at-start .args in
+    let w = at-codes-of .codes-of .result in
+    let small : (k : _) → at (a .vram .now) k < 256 = λ k. omega (arith, at-shared-slice-known .shared-slice-known .given k) in
     let z : (k : _) → k ≡ 0 + k = λ k. omega arith in (
-      c .before .before .before .before .paint-whole-by .ensures
+      at-paint-whole-by .paint-whole-by .ensures
           ∙ painted-cong _ _ _ _ _ (λ k h.
           ap (λ i. at (a .colours .now) (a .palette + lane w i)) (z k)
-          ∙ line-colour (a .vram .now) (a .addr) _ small (c .before .before .before .before .before .before .before .before .four-at .ensures) (a .flip) (a .colours .now) (a .palette) 0 w (c .before .before .before .before .before .codes-of .ensures) k (omega (arith, z k))),
+          ∙ line-colour (a .vram .now) (a .addr) _ small (at-four-at .four-at .ensures) (a .flip) (a .colours .now) (a .palette) 0 w
+          (at-codes-of .codes-of .ensures) k (omega (arith, z k))),
       c .faced .ensures
           ∙ number-ext 8 _ _ (λ k h.
           ap (λ b. bit b (7 - turned (a .flip) k)) (c .before .solid-of .ensures)
-          ∙ ap (λ i. bit (all (c .before .before .before .before .before .before .before .before .four-at .result)) (7 - turned (a .flip) i)) (z k)
-          ∙ line-solid (a .vram .now) (a .addr) _ small (c .before .before .before .before .before .before .before .before .four-at .ensures) (a .flip) 0 k),
+          ∙ ap (λ i. bit (all (at-four-at .four-at .result)) (7 - turned (a .flip) i)) (z k)
+          ∙ line-solid (a .vram .now) (a .addr) _ small (at-four-at .four-at .ensures) (a .flip) 0 k),
     )
 
 pub character-whole-spec : {M : Type 1} → statement M

@@ -1,3 +1,4 @@
+-- `tile::color_code` meets its contract: the code of a tile's pixel: bit `offset` of its four bytes, byte 0 lowest.
 use borrow.Author.Needs.{needs}
 use mathlib.Core.Path.{_≡_, _∙_}
 use Rattle.picture.specs.Tile.{codeOf}
@@ -5,51 +6,39 @@ use Rattle.picture.proofs.Laws.{code-lt}
 use Rattle.tile.proofs.Marks.{code-is}
 use Rattle.tile.proofs.color_code.Statement.{statement}
 use Rattle.tile.proofs.color_code.Tie as tie
-use Rattle.tile.proofs.color_code.Reads as reads
-use Rattle.tile.proofs.color_code.Lts as lts
-use Rattle.small.proofs.wide.Reads as wide-reads
 
--- src/lib.rt:41:18
 cast-wide : tie.Need-cast-wide
 cast-wide c = search needs
 
--- src/lib.rt:41:12
 shr-wide : tie.Need-shr-wide
 shr-wide c = search needs
 
--- src/lib.rt:42:24
 cast-wide-2 : tie.Need-cast-wide-2
 cast-wide-2 c = search needs
 
--- src/lib.rt:42:18
 shr-wide-2 : tie.Need-shr-wide-2
 shr-wide-2 c = search needs
 
--- src/lib.rt:43:24
 cast-wide-3 : tie.Need-cast-wide-3
 cast-wide-3 c = search needs
 
--- src/lib.rt:43:18
 shr-wide-3 : tie.Need-shr-wide-3
 shr-wide-3 c = search needs
 
--- src/lib.rt:44:24
 cast-wide-4 : tie.Need-cast-wide-4
 cast-wide-4 c = search needs
 
--- src/lib.rt:44:18
 shr-wide-4 : tie.Need-shr-wide-4
 shr-wide-4 c = search needs
 
--- src/lib.rt:40:5
 wide-requires : tie.Need-wide-requires
 wide-requires c κs = search needs
 
--- src/lib.rt:35:1
 returns : tie.Need-returns
 returns c =
     let a = c .before .args in
-    let e : c .wide .result ≡ codeOf (a .b0) (a .b1) (a .b2) (a .b3) (a .offset) = c .wide .ensures .0 ∙ code-is (a .b0) (a .b1) (a .b2) (a .b3) (a .offset) in
+    let e : c .wide .result ≡ codeOf (a .b0) (a .b1) (a .b2) (a .b3) (a .offset) = c .wide .ensures .0 ∙ code-is (a .b0) (a .b1) (a .b2) (a .b3)
+    (a .offset) in
     (e, rw e (code-lt (a .b0) (a .b1) (a .b2) (a .b3) (a .offset)))
 
 pub color-code-spec : {M : Type 1} → statement M

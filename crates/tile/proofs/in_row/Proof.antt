@@ -1,40 +1,33 @@
+-- `tile::in_row` meets its contract: the columns of a sprite that a row of `width` pixels has from pixel x on, a bit for each.
 use borrow.Author.Needs.{needs}
 use native.Mathlib.Omega.{arith}
-use mathlib.Core.Path.{_≡_, sym, ap, _∙_}
+use mathlib.Core.Path.{sym, ap, _∙_}
 use Prim.Native.Nat.{_<_, _≤_, _+_}
 use Rattle.laws.specs.Bits.{bit}
-use Rattle.laws.proofs.Bits.{byte-is, number-lt}
+use Rattle.laws.proofs.Bits.{byte-is}
 use borrow.Author.Tests.{le-ltb}
 use mir.Syntax.{w8}
 use mir.Val.{Fits}
 use Rattle.tile.proofs.Whole.{no-bit, part-room}
 use Rattle.tile.proofs.in_row.Statement.{statement}
 use Rattle.tile.proofs.in_row.Tie as tie
-use Rattle.tile.proofs.in_row.Reads as reads
-use Rattle.tile.proofs.in_row.Lts as lts
-use Rattle.small.proofs.smaller.Reads as smaller-reads
-use Rattle.tile.proofs.cut.Reads as cut-reads
 
--- src/lib.rt:302:9
 returns : tie.Need-returns
 returns c = byte-is 0 _ (omega arith) (λ j h. let q : c .before .args .width ≤ c .before .args .x + j = omega arith in le-ltb _ _ q ∙ sym (no-bit j))
 
--- src/lib.rt:304:32
 sub-smaller : tie.Need-sub-smaller
 sub-smaller c = search needs
 
--- src/lib.rt:304:17
 smaller-requires : tie.Need-smaller-requires
 smaller-requires c κs = search needs
 
--- src/lib.rt:304:5
 cut-requires : tie.Need-cut-requires
 cut-requires c κs = search needs
 
--- src/lib.rt:298:1
 returns-2 : tie.Need-returns-2
 returns-2 c =
-    let a = c .before .before .before .args in
+    let at-start = c .before .before .before in
+    let a = at-start .args in
     let l : a .x < a .width = omega arith in
     let e = c .cut .ensures in
     let small : Fits w8 (c .cut .result) = search needs in

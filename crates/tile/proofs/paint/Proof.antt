@@ -1,7 +1,8 @@
+-- `tile::paint` meets its contract: the colours that the first n lanes name, from pixel x of the row on.
 use borrow.Author.Needs.{needs}
 use native.Mathlib.Omega.{arith}
-use mathlib.Core.Path.{_≡_, refl, sym, ap, _∙_}
-use Prim.Native.Nat.{_+_, _-_, _*_, _/_, _^_, _≤_}
+use mathlib.Core.Path.{_≡_, refl, ap}
+use Prim.Native.Nat.{_-_, _*_, _/_, _^_, _≤_}
 use lib.ListN.{length}
 use Rattle.laws.specs.Lists.{at}
 use Rattle.laws.specs.Paint.{painted}
@@ -10,62 +11,62 @@ use Rattle.tile.specs.Lanes.{lane}
 use Rattle.tile.proofs.Lanes.{past-zero, past-step, past-lane}
 use Rattle.tile.proofs.paint.Statement.{statement}
 use Rattle.tile.proofs.paint.Tie as tie
-use Rattle.tile.proofs.paint.Reads as reads
-use Rattle.tile.proofs.paint.Lts as lts
-use Rattle.tile.proofs.pixel_set_full.Reads as pixel-set-full-reads
 
 abbrev Inv-loop : tie.InvT-loop
-Inv-loop row₀ colours x codes n w₀ i₀ row w i = (i ≤ n) × (row ≡ painted row₀ x i (λ k. at colours (lane codes k))) × (w ≡ codes / 2 ^ (8 * i)) × (length row ≡ length row₀)
+Inv-loop row₀ colours x codes n w₀ i₀ row w i =
+    (i ≤ n) × (row ≡ painted row₀ x i (λ k. at colours (lane codes k))) × (w ≡ codes / 2 ^ (8 * i)) × (length row ≡ length row₀)
 
 abbrev μ-loop : tie.MeasureT-loop
 μ-loop row₀ colours x codes n w₀ i₀ row w i = n - i
 
--- src/lib.rt:190:5
 loop-holds : tie.Need-loop-holds Inv-loop μ-loop
 unfolding painted
 loop-holds c = (omega arith, refl, past-zero _, refl)
 
--- src/lib.rt:192:29
 add-pixel-set-full : tie.Need-add-pixel-set-full Inv-loop μ-loop
 add-pixel-set-full c = search needs
 
--- src/lib.rt:192:36
 mul-pixel-set-full : tie.Need-mul-pixel-set-full Inv-loop μ-loop
 mul-pixel-set-full c = search needs
 
--- src/lib.rt:192:36
 shared-slice-read-pixel-set-full : tie.Need-shared-slice-read-pixel-set-full Inv-loop μ-loop
-shared-slice-read-pixel-set-full c = rw (past-lane (c .before .before .before .before .before .before .args .codes) (c .before .before .before .loop .i) (c .before .before .before .loop .inv .2)) (c .before .before .before .before .before .before .pre .2 (c .before .before .before .loop .i) (omega arith))
+shared-slice-read-pixel-set-full c =
+    let at-loop = c .before .before .before in
+    let at-start = at-loop .before .before .before in
+    rw (past-lane (at-start .args .codes) (at-loop .loop .i) (at-loop .loop .inv .2)) (at-start .pre .2 (at-loop .loop .i) (omega arith))
 
--- src/lib.rt:192:9
 pixel-set-full-requires : tie.Need-pixel-set-full-requires Inv-loop μ-loop
 pixel-set-full-requires c κs = search needs
 
--- src/lib.rt:194:9
 add-i : tie.Need-add-i Inv-loop μ-loop
 add-i c = search needs
 
--- src/lib.rt:190:5
 loop-less : tie.Need-loop-less Inv-loop μ-loop
 loop-less c = search needs
 
--- src/lib.rt:190:5
 loop-again : tie.Need-loop-again Inv-loop μ-loop
 loop-again c =
-    let v = c .before .before .before .before .before .before .loop .inv in
-    let a = c .before .before .before .before .before .before .before .before .before .args in
-    let i = c .before .before .before .before .before .before .loop .i in
-    (omega arith, painted-step _ _ _ _ (v .1) (ap (at (a .colours .now)) (past-lane (a .codes) i (v .2))) (c .before .before .pixel-set-full .ensures), past-step (a .codes) i (v .2), omega arith)
+    let at-pixel-set-full = c .before .before in
+    let at-loop = at-pixel-set-full .before .before .before .before in
+    let at-start = at-loop .before .before .before in
+    let v = at-loop .loop .inv in
+    let a = at-start .args in
+    let i = at-loop .loop .i in (
+      omega arith,
+      painted-step _ _ _ _ (v .1) (ap (at (a .colours .now)) (past-lane (a .codes) i (v .2)))
+          (at-pixel-set-full .pixel-set-full .ensures),
+      past-step (a .codes) i (v .2),
+      omega arith,
+    )
 
--- src/lib.rt:184:1
 same-length : tie.Need-same-length Inv-loop μ-loop
 same-length c = search needs
 
--- src/lib.rt:184:1
 returns : tie.Need-returns Inv-loop μ-loop
 returns c =
+    let at-start = c .before .before .before .before in
     let v = c .before .loop .inv in
-    let e : c .before .loop .i ≡ c .before .before .before .before .args .n = omega arith in
+    let e : c .before .loop .i ≡ at-start .args .n = omega arith in
     rw e at (v .1)
 
 pub paint-spec : {M : Type 1} → statement M

@@ -1,49 +1,41 @@
+-- `tile::paint_whole_by` meets its contract: the eight lanes, by 16 of the colours.
 use borrow.Author.Needs.{needs}
-use native.Mathlib.Omega.{arith}
-use mathlib.Core.Path.{_≡_, refl, sym, ap, _∙_}
+use mathlib.Core.Path.{_∙_}
 use Rattle.laws.proofs.Paint.{painted-cong}
 use Rattle.tile.proofs.Whole.{half-length, half-at}
 use Rattle.tile.proofs.paint_whole_by.Statement.{statement}
 use Rattle.tile.proofs.paint_whole_by.Tie as tie
-use Rattle.tile.proofs.paint_whole_by.Reads as reads
-use Rattle.tile.proofs.paint_whole_by.Lts as lts
-use Rattle.tile.proofs.paint_whole.Reads as paint-whole-reads
 
--- src/lib.rt:245:15
 add-top : tie.Need-add-top
 add-top c = search needs
 
--- src/lib.rt:246:22
 mul-paint-whole : tie.Need-mul-paint-whole
 mul-paint-whole c = search needs
 
--- src/lib.rt:246:22
 sub-paint-whole : tie.Need-sub-paint-whole
 sub-paint-whole c = search needs
 
--- src/lib.rt:246:22
 part-paint-whole-start : tie.Need-part-paint-whole-start
 part-paint-whole-start c = search needs
 
--- src/lib.rt:246:22
 part-paint-whole-end : tie.Need-part-paint-whole-end
 part-paint-whole-end c = search needs
 
--- src/lib.rt:246:5
 paint-whole-requires : tie.Need-paint-whole-requires
 paint-whole-requires c κs =
-    let a = c .before .before .before .before .args in
-    (search needs, search needs, λ k h. rw (half-length (a .colours .now) (a .palette) (c .before .before .before .before .pre .2)) (c .before .before .before .before .pre .3 k h))
+    let at-start = c .before .before .before .before in
+    let a = at-start .args in
+    (search needs, search needs, λ k h. rw (half-length (a .colours .now) (a .palette) (at-start .pre .2)) (at-start .pre .3 k h))
 
--- src/lib.rt:241:1
 same-length : tie.Need-same-length
 same-length c = search needs
 
--- src/lib.rt:241:1
 returns : tie.Need-returns
 returns c =
-    let a = c .before .before .before .before .before .before .before .args in
-    c .before .before .paint-whole .ensures ∙ painted-cong _ _ _ _ _ (λ k h. half-at (a .colours .now) (a .palette) _ (c .before .before .before .before .before .before .before .pre .3 k h))
+    let at-paint-whole = c .before .before in
+    let at-start = at-paint-whole .before .before .before .before .before in
+    let a = at-start .args in
+    at-paint-whole .paint-whole .ensures ∙ painted-cong _ _ _ _ _ (λ k h. half-at (a .colours .now) (a .palette) _ (at-start .pre .3 k h))
 
 pub paint-whole-by-spec : {M : Type 1} → statement M
 paint-whole-by-spec =

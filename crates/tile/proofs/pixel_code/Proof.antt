@@ -1,50 +1,37 @@
+-- `tile::pixel_code` meets its contract: the code of pixel p of the line at addr.
 use borrow.Author.Needs.{needs}
-use mathlib.Core.Path.{_≡_, _∙_}
+use mathlib.Core.Path.{_∙_}
 use Rattle.picture.specs.Tile.{codeAt}
 use Rattle.tile.proofs.pixel_code.Statement.{statement}
 use Rattle.tile.proofs.pixel_code.Tie as tie
-use Rattle.tile.proofs.pixel_code.Reads as reads
-use Rattle.tile.proofs.pixel_code.Lts as lts
-use Rattle.tile.proofs.color_code.Reads as color-code-reads
-use Rattle.tile.proofs.offset_of.Reads as offset-of-reads
 
--- src/lib.rt:63:14
 shared-slice-read-p0 : tie.Need-shared-slice-read-p0
 shared-slice-read-p0 c = search needs
 
--- src/lib.rt:64:19
 add-p1 : tie.Need-add-p1
 add-p1 c = search needs
 
--- src/lib.rt:64:14
 shared-slice-read-p1 : tie.Need-shared-slice-read-p1
 shared-slice-read-p1 c = search needs
 
--- src/lib.rt:65:19
 add-p2 : tie.Need-add-p2
 add-p2 c = search needs
 
--- src/lib.rt:65:14
 shared-slice-read-p2 : tie.Need-shared-slice-read-p2
 shared-slice-read-p2 c = search needs
 
--- src/lib.rt:66:19
 add-p3 : tie.Need-add-p3
 add-p3 c = search needs
 
--- src/lib.rt:66:14
 shared-slice-read-p3 : tie.Need-shared-slice-read-p3
 shared-slice-read-p3 c = search needs
 
--- src/lib.rt:67:32
 offset-of-requires : tie.Need-offset-of-requires
 offset-of-requires c κs = search needs
 
--- src/lib.rt:67:5
 color-code-requires : tie.Need-color-code-requires
 color-code-requires c κs = search needs
 
--- src/lib.rt:58:1
 returns : tie.Need-returns
 unfolding codeAt
 returns c = (c .color-code .ensures .0 ∙ rw (c .before .offset-of .ensures .0), c .color-code .ensures .1)

@@ -1,3 +1,4 @@
+-- `tile::pixel_set_full` meets its contract: the four bytes of a colour, at pixel x of the row.
 use borrow.Author.Needs.{needs}
 use mathlib.Core.Path.{refl}
 use native.Mathlib.Omega.{arith}
@@ -5,62 +6,46 @@ use lib.ListN.{length-set}
 use Rattle.laws.specs.Paint.{put}
 use Rattle.tile.proofs.pixel_set_full.Statement.{statement}
 use Rattle.tile.proofs.pixel_set_full.Tie as tie
-use Rattle.tile.proofs.pixel_set_full.Reads as reads
-use Rattle.tile.proofs.pixel_set_full.Lts as lts
 
--- src/lib.rt:62:13
 mul-k : tie.Need-mul-k
 mul-k c = search needs
 
--- src/lib.rt:63:14
 cast-row : tie.Need-cast-row
 cast-row c = search needs
 
--- src/lib.rt:63:5
 slice-write-row : tie.Need-slice-write-row
 slice-write-row c = search needs
 
--- src/lib.rt:64:18
 cast-row-2 : tie.Need-cast-row-2
 cast-row-2 c = search needs
 
--- src/lib.rt:64:9
 add-row : tie.Need-add-row
 add-row c = search needs
 
--- src/lib.rt:64:5
 slice-write-row-2 : tie.Need-slice-write-row-2
 slice-write-row-2 c = simp length-set (omega arith)
 
--- src/lib.rt:65:18
 cast-row-3 : tie.Need-cast-row-3
 cast-row-3 c = search needs
 
--- src/lib.rt:65:9
 add-row-2 : tie.Need-add-row-2
 add-row-2 c = search needs
 
--- src/lib.rt:65:5
 slice-write-row-3 : tie.Need-slice-write-row-3
 slice-write-row-3 c = simp length-set (omega arith)
 
--- src/lib.rt:66:18
 cast-row-4 : tie.Need-cast-row-4
 cast-row-4 c = search needs
 
--- src/lib.rt:66:9
 add-row-3 : tie.Need-add-row-3
 add-row-3 c = search needs
 
--- src/lib.rt:66:5
 slice-write-row-4 : tie.Need-slice-write-row-4
 slice-write-row-4 c = simp length-set (omega arith)
 
--- src/lib.rt:58:1
 same-length : tie.Need-same-length
 same-length c = search needs
 
--- src/lib.rt:58:1
 returns : tie.Need-returns
 unfolding put
 returns c = refl

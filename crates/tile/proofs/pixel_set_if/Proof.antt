@@ -1,23 +1,22 @@
+-- `tile::pixel_set_if` meets its contract: a pixel is set where it is shown.
 use borrow.Author.Needs.{needs}
 use Rattle.tile.proofs.pixel_set_if.Statement.{statement}
 use Rattle.tile.proofs.pixel_set_if.Tie as tie
-use Rattle.tile.proofs.pixel_set_if.Reads as reads
-use Rattle.tile.proofs.pixel_set_if.Lts as lts
-use Rattle.tile.proofs.pixel_set_full.Reads as pixel-set-full-reads
 
--- src/lib.rt:75:9
 pixel-set-full-requires : tie.Need-pixel-set-full-requires
-pixel-set-full-requires c κs = c .before .before .before .pre (c .before .if1 .taken)
+pixel-set-full-requires c κs =
+    let at-start = c .before .before .before in
+    at-start .pre (c .before .if1 .taken)
 
--- src/lib.rt:70:1
 same-length : tie.Need-same-length
 same-length c = search needs
 
--- src/lib.rt:70:1
 returns : tie.Need-returns
-returns c = simp (c .before .before .before .before .if1 .taken) (c .before .before .pixel-set-full .ensures)
+returns c =
+    let at-pixel-set-full = c .before .before in
+    let at-if1 = at-pixel-set-full .before .before in
+    simp (at-if1 .if1 .taken) (at-pixel-set-full .pixel-set-full .ensures)
 
--- src/lib.rt:70:1
 returns-2 : tie.Need-returns-2
 returns-2 c = search needs
 

@@ -1,15 +1,12 @@
+-- `tile::solid_of` meets its contract: a bit for each pixel of that line, the leftmost's highest, which is set where the code is not 0.
 use borrow.Author.Needs.{needs}
 use Rattle.tile.proofs.Squares.{solid-is}
 use Rattle.tile.proofs.solid_of.Statement.{statement}
 use Rattle.tile.proofs.solid_of.Tie as tie
-use Rattle.tile.proofs.solid_of.Reads as reads
-use Rattle.tile.proofs.solid_of.Lts as lts
 
--- src/lib.rt:147:5
 cast-result : tie.Need-cast-result
 cast-result c = search needs
 
--- src/lib.rt:143:1
 returns : tie.Need-returns
 returns c = solid-is (c .args .x)
 

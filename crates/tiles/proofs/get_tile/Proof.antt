@@ -1,3 +1,4 @@
+-- `tiles::get_tile` meets its contract: the 64 codes of the tile whose bytes start at `from`, into a buffer of that length.
 use borrow.Author.Needs.{needs}
 use Prim.Native.Nat.{_-_, _<_, _≤_}
 use mathlib.Core.Path.{_≡_, _∙_}
@@ -10,9 +11,6 @@ use Rattle.tiles.specs.Tiles.{codesAt}
 use Rattle.tiles.proofs.Loops.{codes-long, code-is}
 use Rattle.tiles.proofs.get_tile.Statement.{statement}
 use Rattle.tiles.proofs.get_tile.Tie as tie
-use Rattle.tiles.proofs.get_tile.Reads as reads
-use Rattle.tiles.proofs.get_tile.Lts as lts
-use Rattle.tiles.proofs.code_of.Reads as code-of-reads
 
 abbrev Inv-loop : tie.InvT-loop
 Inv-loop src from codes₀ k₀ codes k = (k ≤ 64) × (codes ≡ paste codes₀ 0 (codesAt (at src) from) k) × (length codes ≡ 64)
@@ -20,55 +18,53 @@ Inv-loop src from codes₀ k₀ codes k = (k ≤ 64) × (codes ≡ paste codes�
 abbrev μ-loop : tie.MeasureT-loop
 μ-loop src from codes₀ k₀ codes k = 64 - k
 
--- src/lib.rt:66:5
 loop-holds : tie.Need-loop-holds Inv-loop μ-loop
-loop-holds c = (omega arith, paste-zero (c .before .before .args .codes .now) 0 (codesAt (at (c .before .before .args .src .now)) (c .before .before .args .from)), omega arith)
+loop-holds c =
+    let at-start = c .before .before in
+    (omega arith, paste-zero (at-start .args .codes .now) 0 (codesAt (at (at-start .args .src .now)) (at-start .args .from)), omega arith)
 
--- src/lib.rt:67:40
 mul-code-of : tie.Need-mul-code-of Inv-loop μ-loop
 mul-code-of c = search needs
 
--- src/lib.rt:67:33
 add-code-of : tie.Need-add-code-of Inv-loop μ-loop
 add-code-of c = search needs
 
--- src/lib.rt:67:53
 sub-code-of : tie.Need-sub-code-of Inv-loop μ-loop
 sub-code-of c = search needs
 
--- src/lib.rt:67:20
 code-of-requires : tie.Need-code-of-requires Inv-loop μ-loop
 code-of-requires c κs = search needs
 
--- src/lib.rt:67:9
 slice-write-codes : tie.Need-slice-write-codes Inv-loop μ-loop
 slice-write-codes c = search needs
 
--- src/lib.rt:68:9
 add-k : tie.Need-add-k Inv-loop μ-loop
 add-k c = search needs
 
--- src/lib.rt:66:5
 loop-less : tie.Need-loop-less Inv-loop μ-loop
 loop-less c = search needs
 
--- src/lib.rt:66:5
 loop-again : tie.Need-loop-again Inv-loop μ-loop
 loop-again c =
-    let a = c .before .before .before .before .before .args in
-    let l = c .before .before .loop in
+    let at-loop = c .before .before in
+    let at-start = at-loop .before .before .before in
+    let a = at-start .args in
+    let l = at-loop .loop in
     let s = codesAt (at (a .src .now)) (a .from) in
-    let h : l .k < length s = omega (arith, codes-long (at (a .src .now)) (a .from)) in
-    (omega arith, fill-step (a .codes .now) 0 s (l .k) (omega arith) h (omega arith) (code-is (at (a .src .now)) (a .from) (l .k) (omega arith) (c .code-of .ensures)) (l .inv .1), simp length-set (l .inv .2))
+    let h : l .k < length s = omega (arith, codes-long (at (a .src .now)) (a .from)) in (
+      omega arith,
+      fill-step (a .codes .now) 0 s (l .k) (omega arith) h (omega arith)
+          (code-is (at (a .src .now)) (a .from) (l .k) (omega arith) (c .code-of .ensures)) (l .inv .1),
+      simp length-set (l .inv .2),
+    )
 
--- src/lib.rt:61:1
 same-length : tie.Need-same-length Inv-loop μ-loop
 same-length c = search needs
 
--- src/lib.rt:61:1
 returns : tie.Need-returns Inv-loop μ-loop
 returns c =
-    let a = c .before .before .before .before .args in
+    let at-start = c .before .before .before .before in
+    let a = at-start .args in
     let l = c .before .loop in
     let h : length (a .codes .now) ≡ 64 = omega arith in
     let e : l .k ≡ 64 = omega arith in

@@ -1,3 +1,4 @@
+-- `tiles::put_tile` meets its contract: the 32 bytes of the tile whose codes start at `from`, into dst at `to`.
 use borrow.Author.Needs.{needs}
 use Prim.Native.Nat.{_+_, _-_, _<_, _≤_}
 use mathlib.Core.Path.{_≡_, refl, _∙_}
@@ -10,9 +11,6 @@ use Rattle.tiles.specs.Tiles.{tileBytes}
 use Rattle.tiles.proofs.Loops.{tile-long, plane-is}
 use Rattle.tiles.proofs.put_tile.Statement.{statement}
 use Rattle.tiles.proofs.put_tile.Tie as tie
-use Rattle.tiles.proofs.put_tile.Reads as reads
-use Rattle.tiles.proofs.put_tile.Lts as lts
-use Rattle.tiles.proofs.plane_byte.Reads as plane-byte-reads
 
 abbrev Inv-loop : tie.InvT-loop
 Inv-loop dst₀ to codes from j₀ dst j = (j ≤ 32) × (dst ≡ paste dst₀ to (tileBytes (λ k. at codes (from + k))) j) × (length dst ≡ length dst₀)
@@ -20,55 +18,57 @@ Inv-loop dst₀ to codes from j₀ dst j = (j ≤ 32) × (dst ≡ paste dst₀ t
 abbrev μ-loop : tie.MeasureT-loop
 μ-loop dst₀ to codes from j₀ dst j = 32 - j
 
--- src/lib.rt:44:5
 loop-holds : tie.Need-loop-holds Inv-loop μ-loop
-loop-holds c = (omega arith, paste-zero (c .before .before .args .dst .now) (c .before .before .args .to) (tileBytes (λ k. at (c .before .before .args .codes .now) (c .before .before .args .from + k))), refl)
+loop-holds c =
+    let at-start = c .before .before in (
+      omega arith,
+      paste-zero (at-start .args .dst .now) (at-start .args .to)
+          (tileBytes (λ k. at (at-start .args .codes .now) (at-start .args .from + k))),
+      refl,
+    )
 
--- src/lib.rt:45:48
 mul-plane-byte : tie.Need-mul-plane-byte Inv-loop μ-loop
 mul-plane-byte c = search needs
 
--- src/lib.rt:45:41
 add-plane-byte : tie.Need-add-plane-byte Inv-loop μ-loop
 add-plane-byte c = search needs
 
--- src/lib.rt:45:23
 plane-byte-requires : tie.Need-plane-byte-requires Inv-loop μ-loop
 plane-byte-requires c κs = search needs
 
--- src/lib.rt:45:13
 add-dst : tie.Need-add-dst Inv-loop μ-loop
 add-dst c = search needs
 
--- src/lib.rt:45:9
 slice-write-dst : tie.Need-slice-write-dst Inv-loop μ-loop
 slice-write-dst c = search needs
 
--- src/lib.rt:46:9
 add-j : tie.Need-add-j Inv-loop μ-loop
 add-j c = search needs
 
--- src/lib.rt:44:5
 loop-less : tie.Need-loop-less Inv-loop μ-loop
 loop-less c = search needs
 
--- src/lib.rt:44:5
 loop-again : tie.Need-loop-again Inv-loop μ-loop
 loop-again c =
-    let a = c .before .before .before .before .before .args in
-    let l = c .before .before .loop in
+    let at-loop = c .before .before in
+    let at-start = at-loop .before .before .before in
+    let a = at-start .args in
+    let l = at-loop .loop in
     let s = tileBytes (λ k. at (a .codes .now) (a .from + k)) in
-    let h : l .j < length s = omega (arith, tile-long (λ k. at (a .codes .now) (a .from + k))) in
-    (omega arith, fill-step (a .dst .now) (a .to) s (l .j) (omega arith) h refl (plane-is (a .codes .now) (a .from) (l .j) (omega arith) (c .plane-byte .ensures)) (l .inv .1), simp length-set (l .inv .2))
+    let h : l .j < length s = omega (arith, tile-long (λ k. at (a .codes .now) (a .from + k))) in (
+      omega arith,
+      fill-step (a .dst .now) (a .to) s (l .j) (omega arith) h refl
+          (plane-is (a .codes .now) (a .from) (l .j) (omega arith) (c .plane-byte .ensures)) (l .inv .1),
+      simp length-set (l .inv .2),
+    )
 
--- src/lib.rt:39:1
 same-length : tie.Need-same-length Inv-loop μ-loop
 same-length c = search needs
 
--- src/lib.rt:39:1
 returns : tie.Need-returns Inv-loop μ-loop
 returns c =
-    let a = c .before .before .before .before .args in
+    let at-start = c .before .before .before .before in
+    let a = at-start .args in
     let l = c .before .loop in
     let s = tileBytes (λ k. at (a .codes .now) (a .from + k)) in
     let e : l .j ≡ length s = omega (arith, tile-long (λ k. at (a .codes .now) (a .from + k))) in

@@ -1,38 +1,43 @@
+-- `tiles::read_tile` meets its contract: the codes of tile n.
 use borrow.Author.Needs.{needs}
 use Rattle.tiles.proofs.Calls.{read-8, read-13, read-14, read-0}
 use Rattle.tiles.proofs.read_tile.Statement.{statement}
 use Rattle.tiles.proofs.read_tile.Tie as tie
-use Rattle.tiles.proofs.read_tile.Reads as reads
-use Rattle.tiles.proofs.read_tile.Lts as lts
-use Rattle.tiles.proofs.get_tile.Reads as get-tile-reads
 
--- src/lib.rt:110:9
 returns : tie.Need-returns
-returns c = read-8 (c .before .before .before .args .vram .now) (c .before .before .before .args .n) (c .before .before .before .args .codes .now) (c .if1 .taken)
+returns c =
+    let at-start = c .before .before .before in
+    read-8 (at-start .args .vram .now) (at-start .args .n) (at-start .args .codes .now) (c .if1 .taken)
 
--- src/lib.rt:113:9
 returns-2 : tie.Need-returns-2
-returns-2 c = read-13 (c .before .before .before .before .args .vram .now) (c .before .before .before .before .args .n) (c .before .before .before .before .args .codes .now) (c .before .if1 .left) (c .if2 .taken)
+returns-2 c =
+    let at-start = c .before .before .before .before in
+    read-13 (at-start .args .vram .now) (at-start .args .n) (at-start .args .codes .now) (c .before .if1 .left) (c .if2 .taken)
 
--- src/lib.rt:116:9
 returns-3 : tie.Need-returns-3
-returns-3 c = read-14 (c .before .before .before .before .before .args .vram .now) (c .before .before .before .before .before .args .n) (c .before .before .before .before .before .args .codes .now) (c .before .before .if1 .left) (c .before .if2 .left) (c .if3 .taken)
+returns-3 c =
+    let at-if1 = c .before .before in
+    let at-start = at-if1 .before .before .before in
+    read-14 (at-start .args .vram .now) (at-start .args .n) (at-start .args .codes .now) (at-if1 .if1 .left) (c .before .if2 .left) (c .if3 .taken)
 
--- src/lib.rt:118:20
 mul-get-tile : tie.Need-mul-get-tile
 mul-get-tile c = search needs
 
--- src/lib.rt:118:5
 get-tile-requires : tie.Need-get-tile-requires
 get-tile-requires c κs = search needs
 
--- src/lib.rt:106:1
 same-length : tie.Need-same-length
 same-length c = search needs
 
--- src/lib.rt:106:1
 returns-4 : tie.Need-returns-4
-returns-4 c = read-0 (c .before .before .before .before .before .before .before .before .before .args .vram .now) (c .before .before .before .before .before .before .before .before .before .args .n) (c .before .before .before .before .before .before .before .before .before .args .codes .now) (c .before .before .before .before .before .before .if1 .left) (c .before .before .before .before .before .if2 .left) (c .before .before .before .before .if3 .left) (c .before .before .get-tile .ensures)
+returns-4 c =
+    let at-get-tile = c .before .before in
+    let at-if3 = at-get-tile .before .before in
+    let at-if2 = at-if3 .before in
+    let at-if1 = at-if2 .before in
+    let at-start = at-if1 .before .before .before in
+    read-0 (at-start .args .vram .now) (at-start .args .n) (at-start .args .codes .now) (at-if1 .if1 .left) (at-if2 .if2 .left) (at-if3 .if3 .left)
+    (at-get-tile .get-tile .ensures)
 
 pub read-tile-spec : {M : Type 1} → statement M
 read-tile-spec =

@@ -1,3 +1,4 @@
+-- `trace::room` meets its contract: room for the text of any recording.
 -- By a law, since to compute the length of 327,700 zeros takes much memory.
 use mathlib.Core.Path.{sym}
 use Prim.Native.Nat.{ℕ}

@@ -7,7 +7,6 @@ use Rattle.bitmap.specs.Mask.{cleared, bytesOf}
 use Rattle.bitmap.proofs.Bitmap.new.Statement.{statement}
 use Rattle.bitmap.proofs.Bitmap.new.Tie as tie
 
--- src/lib.rt:16:5
 returns : tie.Need-returns
 unfolding cleared bytesOf table tableFrom byteOf number
 returns c = refl

@@ -1,3 +1,4 @@
+-- `home::HomeState::out` meets its contract: a port write: the palette is the device's own, and all else is its front's.
 use borrow.Author.Needs.{needs}
 use Prim.Native.Nat.{ℕ}
 use mathlib.Core.Path.{_≡_, ap}
@@ -11,11 +12,6 @@ use Rattle.home.specs.Home.{withFront}
 use Rattle.home.specs.Ports.{answered, paletteWrite, writtenBy, portWrite}
 use Rattle.home.proofs.HomeState.out.Statement.{statement}
 use Rattle.home.proofs.HomeState.out.Tie as tie
-use Rattle.home.proofs.HomeState.out.Reads as reads
-use Rattle.home.proofs.HomeState.out.Lts as lts
-use Rattle.home.proofs.HomeState.with_front.Reads as with-front-reads
-use Rattle.home.proofs.HomeState.write_palette.Reads as write-palette-reads
-use Rattle.vdp.proofs.Front.write.Reads as write-reads
 
 -- the front's answer, on the device: for the palette, and not
 module _ (h : HomeState) (m : List ℕ) (p v : ℕ) {r : FrontWritten} (w : r ≡ frontWrite 32 (h .front) m p v .answer) where
@@ -33,42 +29,43 @@ module _ (h : HomeState) (m : List ℕ) (p v : ℕ) {r : FrontWritten} (w : r �
   to-front : r .palette ≡ false → answered (r .refusal) (withFront h (r .front)) ≡ portWrite h m p v .answer
   to-front t = rw t at told
 
--- src/lib.rt:167:13
 write-requires : tie.Need-write-requires
 write-requires c κs = search needs
 
--- src/lib.rt:169:13
 with-front-requires : tie.Need-with-front-requires
 with-front-requires c κs = search needs
 
--- src/lib.rt:171:13
 write-palette-requires : tie.Need-write-palette-requires
-write-palette-requires c κs = rw (c .before .with-front .ensures) (inside 32 _ _ _ _ _ (c .before .before .before .before .before .write .ensures .answer) (c .if1 .taken))
+write-palette-requires c κs =
+    let at-write = c .before .before .before .before .before in
+    rw (c .before .with-front .ensures) (inside 32 _ _ _ _ _ (at-write .write .ensures .answer) (c .if1 .taken))
 
--- src/lib.rt:171:13
 same-length : tie.Need-same-length
 same-length c = search needs
 
--- src/lib.rt:171:13
 returns : tie.Need-returns
 returns c =
-    let w = c .before .before .before .before .before .before .write .ensures in
+    let at-with-front = c .before .before in
+    let at-write = at-with-front .before .before .before .before in
+    let at-start = at-write .before .before .before .before in
+    let w = at-write .write .ensures in
     record {
-      answer = rw (c .write-palette .ensures, c .before .before .with-front .ensures) (to-palette (c .before .before .before .before .before .before .before .before .before .before .args .self) _ _ _ (w .answer) (c .before .if1 .taken));
-      memory = memory (c .before .before .before .before .before .before .before .before .before .before .args .self) _ _ _ (w .answer) (w .memory);
+      answer = rw (c .write-palette .ensures, at-with-front .with-front .ensures)
+          (to-palette (at-start .args .self) _ _ _ (w .answer) (c .before .if1 .taken));
+      memory = memory (at-start .args .self) _ _ _ (w .answer) (w .memory);
     }
 
--- src/lib.rt:163:5
 same-length-2 : tie.Need-same-length-2
 same-length-2 c = search needs
 
--- src/lib.rt:163:5
 returns-2 : tie.Need-returns-2
 returns-2 c =
-    let w = c .before .before .before .before .before .write .ensures in
+    let at-write = c .before .before .before .before .before in
+    let at-start = at-write .before .before .before .before in
+    let w = at-write .write .ensures in
     record {
-      answer = rw (c .before .with-front .ensures) (to-front (c .before .before .before .before .before .before .before .before .before .args .self) _ _ _ (w .answer) (c .if1 .left));
-      memory = memory (c .before .before .before .before .before .before .before .before .before .args .self) _ _ _ (w .answer) (w .memory);
+      answer = rw (c .before .with-front .ensures) (to-front (at-start .args .self) _ _ _ (w .answer) (c .if1 .left));
+      memory = memory (at-start .args .self) _ _ _ (w .answer) (w .memory);
     }
 
 pub out-spec : {M : Type 1} → statement M

@@ -1,51 +1,43 @@
+-- `vdp::Front::read` meets its contract: a port read on a machine whose line counter stands at `counter`, tested in the order of R2.4.
 use borrow.Author.Needs.{needs}
 use borrow.Author.Tests.{eq-eqb, ne-eqb}
 use Rattle.vdp.specs.Ports.{frontRead}
 use Rattle.vdp.proofs.Front.read.Statement.{statement}
 use Rattle.vdp.proofs.Front.read.Tie as tie
-use Rattle.vdp.proofs.Front.read.Reads as reads
-use Rattle.vdp.proofs.Front.read.Lts as lts
-use Rattle.vdp.proofs.Front.read_ram.Reads as read-ram-reads
-use Rattle.vdp.proofs.Front.read_status.Reads as read-status-reads
 
--- src/lib.rt:333:26
 cast-if1 : tie.Need-cast-if1
 cast-if1 c = search needs
 
--- src/lib.rt:334:13
 returns : tie.Need-returns
 unfolding frontRead
 returns c = simp (ne-eqb _ _ (c .if1 .taken))
 
--- src/lib.rt:351:24
 read-status-requires : tie.Need-read-status-requires
 read-status-requires c κs = search needs
 
--- src/lib.rt:352:25
 read-ram-requires : tie.Need-read-ram-requires
 read-ram-requires c κs = search needs
 
--- src/lib.rt:330:5
 returns-2 : tie.Need-returns-2
 unfolding frontRead
 returns-2 c = simp (eq-eqb _ _ (c .before .if1 .left), c .match .keys1)
 
--- src/lib.rt:330:5
 returns-3 : tie.Need-returns-3
 unfolding frontRead
 returns-3 c = simp (eq-eqb _ _ (c .before .if1 .left), c .match .keys2)
 
--- src/lib.rt:330:5
 returns-4 : tie.Need-returns-4
 unfolding frontRead
-returns-4 c = simp (eq-eqb _ _ (c .before .before .if1 .left), c .before .match .keys3, c .read-status .ensures)
+returns-4 c =
+    let at-if1 = c .before .before in
+    simp (eq-eqb _ _ (at-if1 .if1 .left), c .before .match .keys3, c .read-status .ensures)
 
--- src/lib.rt:330:5
 returns-5 : tie.Need-returns-5
 unfolding frontRead
-returns-5 c = simp (eq-eqb _ _ (c .before .before .if1 .left), c .before .match .keys4, c .read-ram .ensures)
+returns-5 c =
+    let at-if1 = c .before .before in
+    simp (eq-eqb _ _ (at-if1 .if1 .left), c .before .match .keys4, c .read-ram .ensures)
 
--- src/lib.rt:330:5
 returns-6 : tie.Need-returns-6
 unfolding frontRead
 returns-6 c =

@@ -1,58 +1,51 @@
+-- `vdp::Front::write` meets its contract: a port write on a machine with this many bytes of palette, tested in the order of R2.4.
 use borrow.Author.Needs.{needs}
 use borrow.Author.Tests.{eq-eqb, ne-eqb}
 use Rattle.vdp.specs.Ports.{frontWrite}
 use Rattle.vdp.proofs.Front.write.Statement.{statement}
 use Rattle.vdp.proofs.Front.write.Tie as tie
-use Rattle.vdp.proofs.Front.write.Reads as reads
-use Rattle.vdp.proofs.Front.write.Lts as lts
-use Rattle.vdp.proofs.Front.write_cmd.Reads as write-cmd-reads
-use Rattle.vdp.proofs.Front.write_ram.Reads as write-ram-reads
 
--- src/lib.rt:311:26
 cast-if1 : tie.Need-cast-if1
 cast-if1 c = search needs
 
--- src/lib.rt:312:13
 returns : tie.Need-returns
 unfolding frontWrite
 returns c =
     let n = ne-eqb _ _ (c .if1 .taken) in
     record { answer = simp n; memory = simp n }
 
--- src/lib.rt:319:24
 write-cmd-requires : tie.Need-write-cmd-requires
 write-cmd-requires c κs = search needs
 
--- src/lib.rt:320:25
 write-ram-requires : tie.Need-write-ram-requires
 write-ram-requires c κs = search needs
 
--- src/lib.rt:307:5
 same-length : tie.Need-same-length
 same-length c = search needs
 
--- src/lib.rt:307:5
 returns-2 : tie.Need-returns-2
 unfolding frontWrite
 returns-2 c =
-    let n = eq-eqb _ _ (c .before .before .before .if1 .left) in
-    let k = c .before .before .match .keys1 in
+    let at-match = c .before .before in
+    let at-if1 = at-match .before in
+    let n = eq-eqb _ _ (at-if1 .if1 .left) in
+    let k = at-match .match .keys1 in
     record { answer = simp (c .write-cmd .ensures, n, k); memory = simp (n, k) }
 
--- src/lib.rt:307:5
 same-length-2 : tie.Need-same-length-2
 same-length-2 c = search needs
 
--- src/lib.rt:307:5
 returns-3 : tie.Need-returns-3
 unfolding frontWrite
 returns-3 c =
-    let n = eq-eqb _ _ (c .before .before .before .before .before .if1 .left) in
-    let k = c .before .before .before .before .match .keys2 in
-    let w = c .before .before .write-ram .ensures in
+    let at-write-ram = c .before .before in
+    let at-match = at-write-ram .before .before in
+    let at-if1 = at-match .before in
+    let n = eq-eqb _ _ (at-if1 .if1 .left) in
+    let k = at-match .match .keys2 in
+    let w = at-write-ram .write-ram .ensures in
     record { answer = simp (w .0, n, k); memory = simp (w .1, n, k) }
 
--- src/lib.rt:307:5
 returns-4 : tie.Need-returns-4
 unfolding frontWrite
 returns-4 c =

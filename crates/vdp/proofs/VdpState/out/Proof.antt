@@ -1,3 +1,4 @@
+-- `vdp::VdpState::out` meets its contract: a port write: the palette is the device's own, and all else is its front's.
 use borrow.Author.Needs.{needs}
 use Prim.Native.Nat.{ℕ}
 use mathlib.Core.Path.{_≡_, ap, _∙_}
@@ -11,12 +12,6 @@ use Rattle.vdp.specs.Ports.{frontWrite, answered, paletteWrite, writtenB
 use Rattle.vdp.proofs.Kept.{inside}
 use Rattle.vdp.proofs.VdpState.out.Statement.{statement}
 use Rattle.vdp.proofs.VdpState.out.Tie as tie
-use Rattle.vdp.proofs.VdpState.out.Reads as reads
-use Rattle.vdp.proofs.VdpState.out.Lts as lts
-use Rattle.vdp.proofs.Front.write.Reads as write-reads
-use Rattle.vdp.proofs.VdpState.front.Reads as front-reads
-use Rattle.vdp.proofs.VdpState.with_front.Reads as with-front-reads
-use Rattle.vdp.proofs.VdpState.write_palette.Reads as write-palette-reads
 
 -- the front's answer, on the device: for the palette, and not
 module _ (s : VdpState) (m : List ℕ) (p v : ℕ) {f : Front} {r : FrontWritten} (e : f ≡ frontOf s) (w : r ≡ frontWrite 64 f m p v .answer) where
@@ -34,46 +29,48 @@ module _ (s : VdpState) (m : List ℕ) (p v : ℕ) {f : Front} {r : FrontWritten
   to-front : r .palette ≡ false → answered (r .refusal) (withFront s (r .front)) ≡ portWrite s m p v .answer
   to-front t = rw t at told
 
--- src/lib.rt:582:13
 front-requires : tie.Need-front-requires
 front-requires c κs = search needs
 
--- src/lib.rt:583:13
 write-requires : tie.Need-write-requires
 write-requires c κs = search needs
 
--- src/lib.rt:585:13
 with-front-requires : tie.Need-with-front-requires
 with-front-requires c κs = search needs
 
--- src/lib.rt:587:13
 write-palette-requires : tie.Need-write-palette-requires
-write-palette-requires c κs = rw (c .before .with-front .ensures) (inside 64 _ _ _ _ _ (c .before .before .before .before .before .write .ensures .answer) (c .if1 .taken))
+write-palette-requires c κs =
+    let at-write = c .before .before .before .before .before in
+    rw (c .before .with-front .ensures) (inside 64 _ _ _ _ _ (at-write .write .ensures .answer) (c .if1 .taken))
 
--- src/lib.rt:587:13
 same-length : tie.Need-same-length
 same-length c = search needs
 
--- src/lib.rt:587:13
 returns : tie.Need-returns
 returns c =
-    let w = c .before .before .before .before .before .before .write .ensures in
+    let at-with-front = c .before .before in
+    let at-write = at-with-front .before .before .before .before in
+    let at-front = at-write .before .before in
+    let at-start = at-front .before .before in
+    let w = at-write .write .ensures in
     record {
-      answer = rw (c .write-palette .ensures, c .before .before .with-front .ensures) (to-palette (c .before .before .before .before .before .before .before .before .before .before .args .self) _ _ _ (c .before .before .before .before .before .before .before .before .front .ensures) (w .answer) (c .before .if1 .taken));
-      memory = memory (c .before .before .before .before .before .before .before .before .before .before .args .self) _ _ _ (c .before .before .before .before .before .before .before .before .front .ensures) (w .answer) (w .memory);
+      answer = rw (c .write-palette .ensures, at-with-front .with-front .ensures)
+          (to-palette (at-start .args .self) _ _ _ (at-front .front .ensures) (w .answer) (c .before .if1 .taken));
+      memory = memory (at-start .args .self) _ _ _ (at-front .front .ensures) (w .answer) (w .memory);
     }
 
--- src/lib.rt:579:5
 same-length-2 : tie.Need-same-length-2
 same-length-2 c = search needs
 
--- src/lib.rt:579:5
 returns-2 : tie.Need-returns-2
 returns-2 c =
-    let w = c .before .before .before .before .before .write .ensures in
+    let at-write = c .before .before .before .before .before in
+    let at-front = at-write .before .before in
+    let at-start = at-front .before .before in
+    let w = at-write .write .ensures in
     record {
-      answer = rw (c .before .with-front .ensures) (to-front (c .before .before .before .before .before .before .before .before .before .args .self) _ _ _ (c .before .before .before .before .before .before .before .front .ensures) (w .answer) (c .if1 .left));
-      memory = memory (c .before .before .before .before .before .before .before .before .before .args .self) _ _ _ (c .before .before .before .before .before .before .before .front .ensures) (w .answer) (w .memory);
+      answer = rw (c .before .with-front .ensures) (to-front (at-start .args .self) _ _ _ (at-front .front .ensures) (w .answer) (c .if1 .left));
+      memory = memory (at-start .args .self) _ _ _ (at-front .front .ensures) (w .answer) (w .memory);
     }
 
 pub out-spec : {M : Type 1} → statement M

@@ -1,0 +1,2 @@
+-- What the contracts of `stand` cite.
+pub mod Stand

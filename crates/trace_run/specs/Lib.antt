@@ -1,0 +1,3 @@
+-- What the contracts of `trace_run` cite.
+pub mod Device
+pub mod Run

@@ -1,0 +1,2 @@
+-- Numbers and lines, as the code writes them.
+pub mod Lines

@@ -1,0 +1,93 @@
+-- Numbers and lines, as the code writes them.
+-- Assumes nothing.
+use mathlib.Core.Path.{_≡_, refl, sym, ap, _∙_}
+use mathlib.Core.List.{List, [], _∷_, _++_, append-assoc}
+use Prim.Native.Nat.{ℕ, _+_, _/_, _<_, _≤_}
+use native.Mathlib.Omega.{arith}
+use borrow.Author.Tests.{lt-ltb, le-ltb}
+use lib.Dec.{ltb, lit≤}
+use lib.ListN.{length, length-append}
+use Rattle.laws.specs.Lists.{written}
+use Rattle.laws.proofs.Lists.{written-on, written-nil}
+use Rattle.laws.proofs.Tests.{either}
+use Rattle.vdp.specs.declared.Refusal.{Refusal}
+use Rattle.vdp.specs.Refusals.{refusalNumber}
+use Rattle.trace_text.specs.declared.Answer.{Answer}
+use Rattle.trace_text.specs.declared.Answer.the-variants.{Wrote, Nothing}
+use Rattle.trace_text.specs.Text.{digitOf, decimal, numbered, lineOf}
+
+-- the digits, by the tests that lead to them
+pub one : (n : ℕ) → n < 10 → decimal n ≡ digitOf n ∷ []
+unfolding decimal
+one n h = rw (lt-ltb n 10 h)
+
+pub two : (n : ℕ) → 10 ≤ n → n < 100 → decimal n ≡ digitOf (n / 10) ∷ digitOf n ∷ []
+unfolding decimal
+two n g h = rw (le-ltb n 10 g, lt-ltb n 100 h)
+
+pub three : (n : ℕ) → 100 ≤ n → n < 1000 → decimal n ≡ digitOf (n / 100) ∷ digitOf (n / 10) ∷ digitOf n ∷ []
+unfolding decimal
+three n g h = rw (le-ltb n 10 (omega arith), le-ltb n 100 g, lt-ltb n 1000 h)
+
+pub four : (n : ℕ) → 1000 ≤ n → n < 10000 → decimal n ≡ digitOf (n / 1000) ∷ digitOf (n / 100) ∷ digitOf (n / 10) ∷ digitOf n ∷ []
+unfolding decimal
+four n g h = rw (le-ltb n 10 (omega arith), le-ltb n 100 (omega arith), le-ltb n 1000 g, lt-ltb n 10000 h)
+
+pub five : (n : ℕ) → 10000 ≤ n → decimal n ≡ digitOf (n / 10000) ∷ digitOf (n / 1000) ∷ digitOf (n / 100) ∷ digitOf (n / 10) ∷ digitOf n ∷ []
+unfolding decimal
+five n g = rw (le-ltb n 10 (omega arith), le-ltb n 100 (omega arith), le-ltb n 1000 (omega arith), le-ltb n 10000 g)
+
+pub digits-put :
+    (o : List ℕ) (at n : ℕ) {x o′ : List ℕ} {r : ℕ} → decimal n ≡ x → length x ≤ 5 → r ≡ at + length x → o′ ≡ written o at x
+    → ((r ≡ at + length (decimal n)) × (length (decimal n) ≤ 5)) × (o′ ≡ written o at (decimal n))
+digits-put o at n e h er eo = ((rw e er, rw e h), rw e eo)
+
+pub decimal-short : (n : ℕ) → length (decimal n) ≤ 5
+unfolding decimal
+decimal-short n =
+    let P : List ℕ → Type 0 = λ l. length l ≤ 5 in
+    either P (ltb n 10) (λ _. lit≤ tt)
+    (λ _. either P (ltb n 100) (λ _. lit≤ tt)
+    (λ _. either P (ltb n 1000) (λ _. lit≤ tt) (λ _. either P (ltb n 10000) (λ _. lit≤ tt) (λ _. lit≤ tt))))
+
+-- what was written, said in another way
+pub put-as :
+    (o : List ℕ) (at : ℕ) {x y o′ : List ℕ} {r : ℕ} → x ≡ y → (r ≡ at + length x) × (o′ ≡ written o at x)
+    → (r ≡ at + length y) × (o′ ≡ written o at y)
+put-as o at e h = (h .0 ∙ ap (λ (l : List ℕ). at + length l) e, h .1 ∙ ap (written o at) e)
+
+-- the line of an answer, by its cases: what was written is that line
+pub wrote-line : (f : Refusal) {n : ℕ} → n ≡ refusalNumber f → numbered (0x77 ∷ 0x20 ∷ []) n ≡ lineOf (Wrote f)
+unfolding lineOf
+wrote-line f e = ap (numbered (0x77 ∷ 0x20 ∷ [])) e
+
+pub line-done :
+    (o : List ℕ) (at : ℕ) {a b : Answer} {x o′ : List ℕ} {r : ℕ} → a ≡ b → x ≡ lineOf b → (r ≡ at + length x) × (o′ ≡ written o at x)
+    → (r ≡ at + length (lineOf a)) × (o′ ≡ written o at (lineOf a))
+line-done o at e f h = put-as o at (f ∙ ap lineOf (sym e)) h
+
+pub no-line : (o : List ℕ) (at : ℕ) {a : Answer} → a ≡ Nothing → (at ≡ at + length (lineOf a)) × (o ≡ written o at (lineOf a))
+unfolding lineOf
+no-line o at e = line-done o at {x = []} e refl (omega arith, sym (written-nil o at))
+
+-- a text from the start of o on, and one more piece of it
+pub grow :
+    (o l m : List ℕ) {n n′ : ℕ} {o′ o″ : List ℕ} → length l ≤ length o → n ≡ length l → o′ ≡ written o 0 l
+    → (n′ ≡ n + length m) × (o″ ≡ written o′ n m) → (n′ ≡ length (l ++ m)) × (o″ ≡ written o 0 (l ++ m))
+grow o l m {n} {n′} {o′} {o″} room en eo p =
+    let b : n ≡ 0 + length l = omega arith in (
+      p .0 ∙ ap (λ (k : ℕ). k + length m) en ∙ sym (length-append l m),
+      p .1 ∙ ap (λ (y : List ℕ). written y n m) eo ∙ written-on o 0 l m b (omega arith),
+    )
+
+-- three texts, side by side
+pub three-writes :
+    (o : List ℕ) (at : ℕ) (x y z : List ℕ) {o1 o2 o3 : List ℕ} {a1 a2 r : ℕ} → at + length x + length y + length z ≤ length o
+    → o1 ≡ written o at x → a1 ≡ at + length x → o2 ≡ written o1 a1 y → a2 ≡ a1 + length y → o3 ≡ written o2 a2 z → r ≡ a2 + length z
+    → (r ≡ at + length (x ++ (y ++ z))) × (o3 ≡ written o at (x ++ (y ++ z)))
+three-writes o at x y z {o1} {o2} {o3} {a1} {a2} {r} h e1 f1 e2 f2 e3 f3 =
+    let p : o2 ≡ written o at (x ++ y) = e2 ∙ ap (λ (t : List ℕ). written t a1 y) e1 ∙ written-on o at x y f1 (omega arith) in
+    let k : length (x ++ y) ≡ length x + length y = length-append x y in
+    let g : a2 ≡ at + length (x ++ y) = omega arith in
+    let q : o3 ≡ written o at ((x ++ y) ++ z) = e3 ∙ ap (λ (t : List ℕ). written t a2 z) p ∙ written-on o at (x ++ y) z g (omega arith) in
+    (simp length-append (omega arith), q ∙ ap (written o at) (append-assoc x y z))

@@ -1,0 +1,2 @@
+-- What the contracts of `trace_text` cite.
+pub mod Text

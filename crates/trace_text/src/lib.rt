@@ -1,0 +1,156 @@
+// Numbers and lines as text (R7.10, R7.11).
+ghost use mathlib.Core.Path.{_≡_};
+ghost use Prim.Native.Nat.{_+_, _≤_, _<_};
+ghost use lib.ListN.{length};
+ghost use Rattle.laws.specs.Lists.{written};
+ghost use Rattle.vdp.specs.Refusals.{refusalNumber};
+ghost use Rattle.step.specs.Step.{interruptNumber, reportNumber};
+ghost use Rattle.trace_text.specs.Text.{digitOf, decimal, hexDigit, numbered, lineOf};
+use record::put_all;
+use step::DisplayRefresh;
+use step::VdpInt;
+use vdp::Refusal;
+
+// What a call answers, and its line says.
+pub enum Answer {
+    Wrote(Refusal),
+    Gave(Refusal, u8),
+    Stepped(Refusal, u8, VdpInt, DisplayRefresh),
+    Nothing,
+}
+
+// A digit, in capitals.
+fn hex_digit(d: u8) -> u8
+    requires { ⌜ d < 16 ⌝ }
+    ensures { λ r. ⌜ r ≡ hexDigit d ⌝ }
+{
+    if d < 10 { 48 + d } else { 55 + d }
+}
+
+// The last digit of a number.
+fn digit(n: usize) -> u8
+    ensures { λ r. ⌜ r ≡ digitOf n ⌝ }
+{
+    48 + (n % 10) as u8
+}
+
+// A number of at most five digits.
+fn put_decimal(out: &mut [u8], at: usize, n: usize) -> usize
+    requires { ⌜ at + 5 ≤ length (now out) ⌝ }
+    ensures { λ r. ⌜ (r ≡ at + length (decimal n)) × (length (decimal n) ≤ 5) ⌝ }
+    ensures { λ _. ⌜ now (out .exit) ≡ written (now (out .entry)) at (decimal n) ⌝ }
+{
+    if n < 10 {
+        return put_all(out, at, &[digit(n)]);
+    }
+    if n < 100 {
+        return put_all(out, at, &[digit(n / 10), digit(n)]);
+    }
+    if n < 1000 {
+        return put_all(out, at, &[digit(n / 100), digit(n / 10), digit(n)]);
+    }
+    if n < 10000 {
+        return put_all(
+            out,
+            at,
+            &[digit(n / 1000), digit(n / 100), digit(n / 10), digit(n)],
+        );
+    }
+    put_all(
+        out,
+        at,
+        &[
+            digit(n / 10000),
+            digit(n / 1000),
+            digit(n / 100),
+            digit(n / 10),
+            digit(n),
+        ],
+    )
+}
+
+// The number of a refusal, of an interrupt and of a display report, to be printed: the last two have one digit.
+fn number(refusal: Refusal) -> usize
+    ensures { λ n. ⌜ n ≡ refusalNumber refusal ⌝ }
+{
+    vdp::refusal_number(refusal) as usize
+}
+
+fn interrupt_number(interrupt: VdpInt) -> usize
+    ensures { λ n. ⌜ (n ≡ interruptNumber interrupt) × (n < 10) ⌝ }
+{
+    step::interrupt_number(interrupt) as usize
+}
+
+fn report_number(report: DisplayRefresh) -> usize
+    ensures { λ n. ⌜ (n ≡ reportNumber report) × (n < 10) ⌝ }
+{
+    step::report_number(report) as usize
+}
+
+// A word with a space after it, a number, and the end of the line.
+pub fn put_numbered(out: &mut [u8], at: usize, word: &[u8], n: usize) -> usize
+    requires { ⌜ at + length (now word) + 6 ≤ length (now out) ⌝ }
+    ensures { λ r. ⌜ r ≡ at + length (numbered (now (word .entry)) n) ⌝ }
+    ensures { λ _. ⌜ now (out .exit) ≡ written (now (out .entry)) at (numbered (now (word .entry)) n) ⌝ }
+{
+    let a = put_all(out, at, word);
+    let b = put_decimal(out, a, n);
+    put_all(out, b, b"\n")
+}
+
+// The line of a read.
+fn put_read(out: &mut [u8], at: usize, refusal: Refusal, byte: u8) -> usize
+    requires { ⌜ at + 15 ≤ length (now out) ⌝ }
+    ensures { λ r. ⌜ r ≡ at + length (lineOf (Answer.Gave refusal byte)) ⌝ }
+    ensures { λ _. ⌜ now (out .exit) ≡ written (now (out .entry)) at (lineOf (Answer.Gave refusal byte)) ⌝ }
+{
+    let a = put_all(out, at, b"r ");
+    let b = put_decimal(out, a, number(refusal));
+    let high = hex_digit(byte / 16);
+    let low = hex_digit(byte % 16);
+    put_all(out, b, &[b' ', high, low, b'\n'])
+}
+
+// The line of a step.
+fn put_step(
+    out: &mut [u8],
+    at: usize,
+    refusal: Refusal,
+    counter: u8,
+    interrupt: VdpInt,
+    report: DisplayRefresh,
+) -> usize
+    requires { ⌜ at + 15 ≤ length (now out) ⌝ }
+    ensures { λ r. ⌜ r ≡ at + length (lineOf (Answer.Stepped refusal counter interrupt report)) ⌝ }
+    ensures { λ _. ⌜ now (out .exit) ≡ written (now (out .entry)) at (lineOf (Answer.Stepped refusal counter interrupt report)) ⌝ }
+{
+    let a = put_all(out, at, b"s ");
+    let b = put_decimal(out, a, number(refusal));
+    let high = hex_digit(counter / 16);
+    let low = hex_digit(counter % 16);
+    let i = digit(interrupt_number(interrupt));
+    let d = digit(report_number(report));
+    put_all(out, b, &[b' ', high, low, b' ', i, b' ', d, b'\n'])
+}
+
+// The line of an answer.
+pub fn put_answer(out: &mut [u8], at: usize, answer: Answer) -> usize
+    requires { ⌜ at + 15 ≤ length (now out) ⌝ }
+    ensures { λ r. ⌜ r ≡ at + length (lineOf answer) ⌝ }
+    ensures { λ _. ⌜ now (out .exit) ≡ written (now (out .entry)) at (lineOf answer) ⌝ }
+{
+    match answer {
+        Answer::Wrote(refusal) => put_numbered(out, at, b"w ", number(refusal)),
+        Answer::Gave(refusal, byte) => put_read(out, at, refusal, byte),
+        Answer::Stepped(refusal, counter, interrupt, report) => put_step(
+            out,
+            at,
+            refusal,
+            counter,
+            interrupt,
+            report,
+        ),
+        Answer::Nothing => at,
+    }
+}
