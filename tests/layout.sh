@@ -80,11 +80,11 @@ calls_of() {
     calls=$(constructors "$file" Call)
     [ -n "$calls" ] && diff <(for crate; do
         sed -nE 's/^ *pub fn ([a-z0-9_]+).*/\1/p; s/^pub use [a-z_]+::([a-z0-9_]+);/\1/p' "crates/$crate/src/lib.rt"
-    done | sort) <({ printf '%s\n' "$calls"; named "$file" 'No calls of [a-z]+'; } | sort)
+    done | sort) <({ printf '%s\n' "$calls"; named "$file" 'No calls of [a-z_]+'; } | sort)
 }
-calls_of Handheld vdp step tiles
+calls_of Handheld vdp step tile_codes
 tell "the theorem on refusal 7 speaks of every call of a device, and what else is public is named there" $?
-calls_of Home home tiles
+calls_of Home home tile_codes
 tell "and of every call of a home device" $?
 
 # The calls of the face, each with a 1 where it takes a state.

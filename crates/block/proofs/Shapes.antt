@@ -15,15 +15,16 @@ use Rattle.laws.proofs.Tables.{getD-table}
 use Rattle.laws.proofs.Tests.{either}
 use Rattle.raster.specs.declared.Raster.{Raster}
 use Rattle.raster.specs.declared.LineTable.{LineTable}
-use Rattle.vdp.specs.declared.Front.{Front}
+use Rattle.front.specs.declared.Front.{Front}
 use Rattle.vdp.specs.declared.VdpState.{VdpState}
 use Rattle.vdp.specs.declared.Written.{Written}
-use Rattle.vdp.specs.declared.WriteDest.{WriteDest}
-use Rattle.vdp.specs.declared.Latch.{Latch}
-use Rattle.vdp.specs.declared.Latch.the-variants.{Empty, Held}
+use Rattle.front.specs.declared.WriteDest.{WriteDest}
+use Rattle.front.specs.declared.Latch.{Latch}
+use Rattle.front.specs.declared.Latch.the-variants.{Empty, Held}
 use Rattle.vdp.specs.Device.{device, made, frontOf, withFront, withPaletteByte, withAddr}
-use Rattle.vdp.specs.Ports.{frontWrite, frontRead, oddPalette, paletteWrite, portWrite, portRead}
-use Rattle.vdp.proofs.Kept.{write-kept, read-registers}
+use Rattle.front.specs.Ports.{frontWrite, frontRead}
+use Rattle.vdp.specs.Ports.{oddPalette, paletteWrite, portWrite, portRead}
+use Rattle.front.proofs.Kept.{write-kept, read-registers}
 use Rattle.block.specs.Block.{latchByte, latchFrom, colourAt, coloursAt, wellFormed, stateOf, Shape}
 use Rattle.block.proofs.Copies.{length-coloursAt}
 use Rattle.block.proofs.Whole.{long}

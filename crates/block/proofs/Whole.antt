@@ -17,8 +17,8 @@ use Rattle.raster.specs.declared.LineTable.{LineTable}
 use Rattle.raster.specs.declared.LineTable.the-variants.{Steps261, Steps262}
 use Rattle.raster.specs.Raster.{lineTableNumber, lineTableFrom}
 use Rattle.vdp.specs.declared.VdpState.{VdpState}
-use Rattle.vdp.specs.declared.WriteDest.{WriteDest}
-use Rattle.vdp.specs.declared.Latch.{Latch}
+use Rattle.front.specs.declared.WriteDest.{WriteDest}
+use Rattle.front.specs.declared.Latch.{Latch}
 use Rattle.vdp.specs.Device.{device}
 use Rattle.block.specs.declared.Decoded.{Decoded}
 use Rattle.block.specs.Block.{sized, fits, head, small, last, colourBytes, blockOf, encoded, stateOf, wellFormed, decoded, chosenFrom}

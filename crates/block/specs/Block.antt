@@ -16,10 +16,10 @@ use Rattle.raster.specs.declared.LineTable.{LineTable}
 use Rattle.raster.specs.declared.LineTable.the-variants.{Steps261, Steps262}
 use Rattle.raster.specs.Raster.{lineTableNumber, lineTableFrom}
 use Rattle.vdp.specs.declared.VdpState.{VdpState}
-use Rattle.vdp.specs.declared.WriteDest.{WriteDest}
-use Rattle.vdp.specs.declared.WriteDest.the-variants.{None, Vram, Cram}
-use Rattle.vdp.specs.declared.Latch.{Latch}
-use Rattle.vdp.specs.declared.Latch.the-variants.{Empty, Held}
+use Rattle.front.specs.declared.WriteDest.{WriteDest}
+use Rattle.front.specs.declared.WriteDest.the-variants.{None, Vram, Cram}
+use Rattle.front.specs.declared.Latch.{Latch}
+use Rattle.front.specs.declared.Latch.the-variants.{Empty, Held}
 use Rattle.vdp.specs.Device.{fresh}
 use Rattle.block.specs.declared.Decoded.{Decoded}
 

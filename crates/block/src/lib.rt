@@ -7,16 +7,16 @@ ghost use Rattle.raster.specs.Raster.{lineTableFrom};
 ghost use lib.ListN.{length, drop};
 ghost use lib.Seq.{paste};
 ghost use Rattle.block.specs.Block.{oldSize, markOf, fits, stateOf, rasterStored, cacheStored, flagOf, chosenOf, chosenFrom, latchFlag, latchByte, latchFrom, wellFormed, colourAt, coloursAt, colourBytes, small, decoded, encoded};
+use front::Latch;
+use front::WriteDest;
 use raster::LineTable;
 use raster::Raster;
-use vdp::Latch;
 use vdp::VdpState;
-use vdp::WriteDest;
 
 // The bytes of a block of the first version and of the second.
-const OLD_SIZE: usize = 219;
+pub const OLD_SIZE: usize = 219;
 
-const BLOCK_SIZE: usize = 220;
+pub const BLOCK_SIZE: usize = 220;
 
 // What a block holds: whether it is well formed, and its device (a fresh one where it is not).
 pub struct Decoded {

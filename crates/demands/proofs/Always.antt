@@ -10,8 +10,8 @@ use Rattle.raster.specs.declared.LineTable.{LineTable}
 use Rattle.raster.specs.Raster.{jumpLine, jumpTo}
 use Rattle.vdp.specs.Refusals.{size}
 use Rattle.block.specs.Block.{wellFormed, stateOf}
-use Rattle.salvage.specs.Repair.{matching, mended}
-use Rattle.salvage.proofs.Salvaged.{sound as mended-sound}
+use Rattle.block_repair.specs.Repair.{matching, mended}
+use Rattle.block_repair.proofs.Salvaged.{sound as mended-sound}
 use Rattle.demands.specs.Machine.{Machine}
 use Rattle.demands.specs.Home.{home}
 use Rattle.demands.specs.Pass.{History, deviceAfter}

@@ -10,11 +10,11 @@ use lib.Dec.{eqb}
 use borrow.Author.Tests.{eq-eqb, eqb-true}
 use Rattle.laws.specs.Bits.{bit}
 use Rattle.laws.specs.Lists.{at}
-use Rattle.vdp.specs.declared.Refusal.{Refusal}
-use Rattle.vdp.specs.Refusals.{refusalNumber, Line, first}
-use Rattle.step.specs.declared.VdpInt.the-variants.{InterruptGenerated, NoInterrupt}
-use Rattle.step.specs.declared.DisplayRefresh.the-variants.{NoDisplay, ScreenDone, ScreenDoneNoRefresh}
-use Rattle.step.specs.Points.{reportBy}
+use Rattle.refusal.specs.declared.Refusal.{Refusal}
+use Rattle.refusal.specs.Refusals.{refusalNumber, Line, first}
+use Rattle.points.specs.declared.VdpInt.the-variants.{InterruptGenerated, NoInterrupt}
+use Rattle.points.specs.declared.DisplayRefresh.the-variants.{NoDisplay, ScreenDone, ScreenDoneNoRefresh}
+use Rattle.points.specs.Points.{reportBy}
 use Rattle.face.proofs.Exact.{none, never}
 
 abbrev pub NotSeven : Refusal → Type 0

@@ -16,23 +16,25 @@ use Rattle.picture.specs.declared.RenderArea.the-variants.{VisibleOnly}
 use Rattle.picture.specs.Area.{screenOf}
 use Rattle.raster.specs.declared.LineTable.{LineTable}
 use Rattle.raster.proofs.Tables.{jump-back, pass-is}
-use Rattle.vdp.specs.declared.Front.{Front}
-use Rattle.vdp.specs.declared.FrontWritten.{FrontWritten}
+use Rattle.front.specs.declared.Front.{Front}
+use Rattle.front.specs.declared.FrontWritten.{FrontWritten}
 use Rattle.vdp.specs.declared.VdpState.{VdpState}
-use Rattle.vdp.specs.declared.WriteDest.the-variants.{Cram}
-use Rattle.vdp.specs.declared.Latch.{Latch}
-use Rattle.vdp.specs.declared.Latch.the-variants.{Empty, Held}
-use Rattle.vdp.specs.declared.Refusal.the-variants.{Accepted}
-use Rattle.vdp.specs.Front.{withCommand, emptied, choosing, commandBy, commandWrite, dataWrite}
+use Rattle.front.specs.declared.WriteDest.the-variants.{Cram}
+use Rattle.front.specs.declared.Latch.{Latch}
+use Rattle.front.specs.declared.Latch.the-variants.{Empty, Held}
+use Rattle.refusal.specs.declared.Refusal.the-variants.{Accepted}
+use Rattle.front.specs.Front.{withCommand, emptied, choosing, commandBy, commandWrite, dataWrite}
 use Rattle.vdp.specs.Device.{made, fresh, frontOf, withFront, withAddr, withPaletteByte}
-use Rattle.vdp.specs.Refusals.{whole}
-use Rattle.vdp.specs.Ports.{frontWrite, stored, writtenBy, portWrite}
+use Rattle.refusal.specs.Refusals.{whole}
+use Rattle.front.specs.Ports.{frontWrite}
+use Rattle.vdp.specs.Ports.{stored, writtenBy, portWrite}
 use Rattle.step.specs.Step.{frameLines, frameStep}
 use Rattle.demands.specs.Handheld.{after, handheld}
 use Rattle.demands.specs.Pass.{Run, deviceAfter, then, until, through, ready, answer, lineSet}
 use Rattle.demands.specs.Split.{Split, Twins}
 use Rattle.demands.specs.Author.{asked, unasked, newPalette, Answered}
-use Rattle.step.proofs.Laws.{frame-passes, frame-memory, stepped-reg, stepped-cram, stepped-command}
+use Rattle.points.proofs.Laws.{frame-passes, frame-memory}
+use Rattle.step.proofs.Laws.{stepped-reg, stepped-cram, stepped-command}
 use Rattle.demands.proofs.Steps.{frame-taken, accepts}
 use Rattle.demands.proofs.Lines.{line-next}
 use Rattle.demands.proofs.Demand3.{after-step, line-of}

@@ -15,10 +15,10 @@ use Rattle.picture.specs.declared.Screen.the-variants.{VisibleOnly, EffectiveAr
 use Rattle.picture.specs.Screen.{columns, rows, firstLine, rowSize, frameSize, rowBytes, pictureOf}
 use Rattle.raster.specs.declared.Raster.{Raster}
 use Rattle.raster.specs.Raster.{jumpLine, jumpTo, advanced, counted, ticked}
-use Rattle.step.specs.declared.DisplayRefresh.the-variants.{NoDisplay}
-use Rattle.step.specs.declared.DrawnRow.the-variants.{Drawn}
-use Rattle.step.specs.Points.{rowOn}
-use Rattle.step.proofs.Rows.{row-low, row-line, row-at}
+use Rattle.points.specs.declared.DisplayRefresh.the-variants.{NoDisplay}
+use Rattle.points.specs.declared.DrawnRow.the-variants.{Drawn}
+use Rattle.points.specs.Points.{rowOn}
+use Rattle.points.proofs.Rows.{row-low, row-line, row-at}
 use Rattle.demands.specs.Machine.{Machine, register, lineOf}
 use Rattle.demands.specs.Pass.{History, pass, Between, Run, deviceAfter, then, stepCall, until, through, ready, answer, lineSet, frameAt}
 use Rattle.demands.specs.Pass.{latched, coloursAt, pictureAt, rowAtEnd, LineInterruptsEvery, ForLine, Demand3}

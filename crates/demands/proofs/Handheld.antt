@@ -22,29 +22,33 @@ use Rattle.raster.specs.declared.LineTable.{LineTable}
 use Rattle.raster.specs.declared.LineTable.the-variants.{Steps261, Steps262}
 use Rattle.raster.specs.Raster.{jumpLine, jumpTo, advanced, lineInterrupt, ticked}
 use Rattle.vdp.specs.declared.VdpState.{VdpState}
-use Rattle.vdp.specs.declared.Refusal.the-variants.{Accepted, NoPaletteByte, LayerLength}
+use Rattle.refusal.specs.declared.Refusal.the-variants.{Accepted, NoPaletteByte, LayerLength}
 use Rattle.vdp.specs.Device.{frontOf}
-use Rattle.vdp.specs.Refusals.{Line, line as refusalLine, isPort, isPalette, isEmpty}
+use Rattle.refusal.specs.Refusals.{Line, line as refusalLine}
+use Rattle.front.specs.Lines.{isPort, isPalette, isEmpty}
 use Rattle.vdp.specs.Ports.{portWrite, portRead}
 use Rattle.vdp.proofs.Exact.{write-exact, read-exact}
-use Rattle.vdp.proofs.Invariant.{Aimed, write-aimed, read-aimed, front-write-inside, front-read-inside}
-use Rattle.vdp.proofs.Tables.{Refusing, refuses, under-either}
+use Rattle.front.proofs.Invariant.{front-write-inside, front-read-inside}
+use Rattle.vdp.proofs.Invariant.{Aimed, write-aimed, read-aimed}
+use Rattle.refusal.proofs.Tables.{Refusing, refuses, under-either}
 use Rattle.pixel.specs.Pixel.{pixelLines}
 use Rattle.step.specs.declared.Stepped.{Stepped}
-use Rattle.step.specs.declared.VdpInt.the-variants.{InterruptGenerated}
-use Rattle.step.specs.declared.DisplayRefresh.{DisplayRefresh}
-use Rattle.step.specs.declared.DisplayRefresh.the-variants.{NoDisplay}
-use Rattle.step.specs.declared.DrawnRow.the-variants.{Drawn}
+use Rattle.points.specs.declared.VdpInt.the-variants.{InterruptGenerated}
+use Rattle.points.specs.declared.DisplayRefresh.{DisplayRefresh}
+use Rattle.points.specs.declared.DisplayRefresh.the-variants.{NoDisplay}
+use Rattle.points.specs.declared.DrawnRow.the-variants.{Drawn}
 use Rattle.step.specs.Step.{register, lineOf, counterUp, rowOn, stepped, refusedStep, rowLines, frameLines, stepWith, rowStep, frameStep}
 use Rattle.step.specs.Frame.{frameAfter, FrameStepLeaves}
-use Rattle.step.specs.Layers.{alsoLayers}
-use Rattle.step.specs.Dump.{dumpLines}
+use Rattle.points.specs.Bytes.{alsoLayers}
+use Rattle.dump.specs.Sheet.{dumpLines}
 use Rattle.step.proofs.Kept.{write-keeps, read-keeps}
-use Rattle.step.proofs.Laws.{stepped-row, stepped-report, stepped-raster, stepped-addr, stepped-dest, stepped-interrupt, row-refusing, frame-refusing}
-use Rattle.step.proofs.Laws.{step-accepted, step-exact, dump-exact, frame-fits, frame-memory, frame-step-length, frame-step-other, frame-step-here}
+use Rattle.points.proofs.Laws.{row-refusing, frame-refusing}
+use Rattle.step.proofs.Laws.{stepped-row, stepped-report, stepped-raster, stepped-addr, stepped-dest, stepped-interrupt}
+use Rattle.points.proofs.Laws.{frame-fits, frame-memory}
+use Rattle.step.proofs.Laws.{step-accepted, step-exact, dump-exact, frame-step-length, frame-step-other, frame-step-here}
 use Rattle.step.proofs.Pixels.{pixel-exact}
 use Rattle.face.proofs.Exact.{none}
-use Rattle.tiles.specs.Calls.{readTileLines, writeTileLines, readTileRefusal, writeTileRefusal}
+use Rattle.tile_codes.specs.Calls.{readTileLines, writeTileLines, readTileRefusal, writeTileRefusal}
 use Rattle.demands.specs.Machine.{Told}
 use Rattle.demands.specs.Handheld.{Call, out, input, frame-step, row-step, layer-frame-step, layer-row-step, dump-tileset, pixel-at, write-tile}
 use Rattle.demands.specs.Handheld.{read-tile, layerFrameStep, layerRowStep, after, refusalOf, told, Steps, handheld}

@@ -20,17 +20,18 @@ use Rattle.picture.specs.declared.Screen.the-variants.{Home}
 use Rattle.picture.specs.Screen.{columns, rows, firstLine, rowSize, pictureOf, rowBytes}
 use Rattle.raster.specs.declared.LineTable.{LineTable}
 use Rattle.raster.specs.Raster.{jumpTo, advanced, lineInterrupt, ticked}
-use Rattle.vdp.specs.declared.Refusal.the-variants.{Accepted}
-use Rattle.vdp.specs.Refusals.{refusalNumber, Line, first}
-use Rattle.vdp.proofs.Tables.{Refusing}
-use Rattle.step.specs.declared.VdpInt.the-variants.{InterruptGenerated}
-use Rattle.step.specs.declared.DisplayRefresh.{DisplayRefresh}
-use Rattle.step.specs.declared.DisplayRefresh.the-variants.{NoDisplay}
-use Rattle.step.specs.declared.DrawnRow.the-variants.{Drawn}
-use Rattle.step.specs.Points.{rowOn, rowLines, frameLines}
-use Rattle.step.specs.Dump.{dumpLines}
-use Rattle.step.proofs.Laws.{row-refusing, frame-refusing, dump-exact}
-use Rattle.step.proofs.Rows.{row-line}
+use Rattle.refusal.specs.declared.Refusal.the-variants.{Accepted}
+use Rattle.refusal.specs.Refusals.{refusalNumber, Line, first}
+use Rattle.refusal.proofs.Tables.{Refusing}
+use Rattle.points.specs.declared.VdpInt.the-variants.{InterruptGenerated}
+use Rattle.points.specs.declared.DisplayRefresh.{DisplayRefresh}
+use Rattle.points.specs.declared.DisplayRefresh.the-variants.{NoDisplay}
+use Rattle.points.specs.declared.DrawnRow.the-variants.{Drawn}
+use Rattle.points.specs.Points.{rowOn, rowLines, frameLines}
+use Rattle.dump.specs.Sheet.{dumpLines}
+use Rattle.points.proofs.Laws.{row-refusing, frame-refusing}
+use Rattle.step.proofs.Laws.{dump-exact}
+use Rattle.points.proofs.Rows.{row-line}
 use Rattle.home.specs.declared.HomeState.{HomeState}
 use Rattle.home.specs.declared.HomeStepped.{HomeStepped}
 use Rattle.home.specs.Home.{made}
@@ -41,7 +42,7 @@ use Rattle.home.proofs.Kept.{write-keeps, read-keeps}
 use Rattle.home.proofs.Laws.{step-exact, step-either, is-stepped, refused-raster, frame-fits, frame-memory, stepped-row, stepped-report}
 use Rattle.home.proofs.Laws.{stepped-raster, stepped-aimed, stepped-clean, stepped-interrupt, colours-now, frame-step-length, frame-step-other}
 use Rattle.home.proofs.Laws.{frame-step-here}
-use Rattle.tiles.specs.Calls.{readTileLines, writeTileLines, readTileRefusal, writeTileRefusal}
+use Rattle.tile_codes.specs.Calls.{readTileLines, writeTileLines, readTileRefusal, writeTileRefusal}
 use Rattle.face.proofs.Exact.{none, never}
 use Rattle.demands.specs.Machine.{Told}
 use Rattle.demands.specs.Home.{Call, out, input, frame-step, row-step, dump-tileset, write-tile, read-tile, after, refusalOf, told, Steps, home}

@@ -12,12 +12,12 @@ use Rattle.picture.specs.Screen.{columns, rowSize, frameSize, pictureOf, rowByt
 use Rattle.raster.specs.declared.Raster.{Raster}
 use Rattle.raster.specs.declared.LineTable.{LineTable}
 use Rattle.raster.specs.Raster.{advanced, lineInterrupt, ticked}
-use Rattle.vdp.specs.declared.Refusal.the-variants.{Accepted}
-use Rattle.vdp.specs.Refusals.{refusalNumber}
-use Rattle.step.specs.declared.VdpInt.the-variants.{InterruptGenerated}
-use Rattle.step.specs.declared.DisplayRefresh.the-variants.{NoDisplay}
-use Rattle.step.specs.declared.DrawnRow.the-variants.{Drawn}
-use Rattle.step.specs.Points.{rowOn}
+use Rattle.refusal.specs.declared.Refusal.the-variants.{Accepted}
+use Rattle.refusal.specs.Refusals.{refusalNumber}
+use Rattle.points.specs.declared.VdpInt.the-variants.{InterruptGenerated}
+use Rattle.points.specs.declared.DisplayRefresh.the-variants.{NoDisplay}
+use Rattle.points.specs.declared.DrawnRow.the-variants.{Drawn}
+use Rattle.points.specs.Points.{rowOn}
 use Rattle.demands.specs.Machine.{Told, Machine, register}
 use Rattle.demands.specs.Pass.{NoStepOn}
 use Rattle.demands.proofs.Counter.{line}

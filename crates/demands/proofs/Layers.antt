@@ -20,18 +20,19 @@ use Rattle.picture.specs.Area.{screenOf, columns}
 use Rattle.picture.specs.Layers.{stopped, ownedBy, layersWith, layers, layersIn}
 use Rattle.picture.proofs.Layers.{owned-drawn, owned-stopped, owned-left, colour-drawn, colour-left, drawn-solid, length-layersIn}
 use Rattle.vdp.specs.declared.VdpState.{VdpState}
-use Rattle.vdp.specs.declared.Refusal.the-variants.{LayerLength}
-use Rattle.vdp.specs.Refusals.{Line, first}
-use Rattle.vdp.proofs.Tables.{Passed, passed, under-either}
-use Rattle.step.specs.declared.DrawnRow.{DrawnRow}
-use Rattle.step.specs.declared.DrawnRow.the-variants.{NoRow, Drawn}
+use Rattle.refusal.specs.declared.Refusal.the-variants.{LayerLength}
+use Rattle.refusal.specs.Refusals.{Line, first}
+use Rattle.refusal.proofs.Tables.{Passed, passed, under-either}
+use Rattle.points.specs.declared.DrawnRow.{DrawnRow}
+use Rattle.points.specs.declared.DrawnRow.the-variants.{NoRow, Drawn}
 use Rattle.step.specs.Step.{rowLines, frameLines, readingOf, refusedStep, stepped, stepWith}
-use Rattle.step.specs.Points.{comingRow}
-use Rattle.step.specs.Bytes.{layersBy, rowFilled, frameFilled, comingLayers, layersFilled}
+use Rattle.points.specs.Points.{comingRow}
+use Rattle.points.specs.Bytes.{layersBy, rowFilled, frameFilled, comingLayers, layersFilled}
 use Rattle.step.specs.Frame.{rowAfter, frameAfter}
-use Rattle.step.specs.Layers.{alsoLayers, layersAfter}
-use Rattle.step.proofs.Laws.{row-refusing, frame-refusing}
-use Rattle.step.proofs.Steps.{under-also, not-last}
+use Rattle.points.specs.Bytes.{alsoLayers}
+use Rattle.step.specs.Layers.{layersAfter}
+use Rattle.points.proofs.Laws.{row-refusing, frame-refusing}
+use Rattle.points.proofs.Steps.{under-also, not-last}
 use Rattle.demands.specs.Layers.{standsAt, laidOn, columnAt, codeIn, heldAt, some, OneOf, Owned, Aside}
 
 -- ---- the sprites of a line, laid in turn on any canvas c with any layers `own`, at column x

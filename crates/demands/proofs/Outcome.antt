@@ -51,9 +51,9 @@ use Rattle.sprites.proofs.line_at as sprite-line-at
 use Rattle.sprites.proofs.next_sprite
 use Rattle.pixel.proofs.spot_at
 use Rattle.row.proofs.render_line
-use Rattle.vdp.proofs.refusal_number
-use Rattle.vdp.proofs.Front.write as front_write
-use Rattle.vdp.proofs.Front.read as front_read
+use Rattle.refusal.proofs.refusal_number
+use Rattle.front.proofs.Front.write as front_write
+use Rattle.front.proofs.Front.read as front_read
 use Rattle.vdp.specs.Device.{fresh}
 use Rattle.vdp.proofs.VdpState.new
 use Rattle.vdp.proofs.VdpState.with_raster
@@ -61,20 +61,22 @@ use Rattle.vdp.proofs.VdpState.with_table
 use Rattle.vdp.proofs.VdpState.with_cache
 use Rattle.vdp.proofs.VdpState.out
 use Rattle.vdp.proofs.VdpState.input
-use Rattle.step.proofs.interrupt_number
-use Rattle.step.proofs.report_number
-use Rattle.step.proofs.row_points
-use Rattle.step.proofs.frame_points
-use Rattle.step.proofs.layer_row_points
-use Rattle.step.proofs.layer_frame_points
+use Rattle.points.proofs.interrupt_number
+use Rattle.points.proofs.report_number
+use Rattle.points.proofs.row_points
+use Rattle.points.proofs.frame_points
+use Rattle.points.proofs.layer_row_points
+use Rattle.points.proofs.layer_frame_points
 use Rattle.step.proofs.row_step
 use Rattle.step.proofs.frame_step
 use Rattle.step.proofs.layer_row_step
 use Rattle.step.proofs.layer_frame_step
 use Rattle.step.proofs.row_view
-use Rattle.step.proofs.screen_row
+use Rattle.points.proofs.screen_row
 use Rattle.sprites.proofs.render_sprites_line
-use Rattle.dump.proofs.dump_tileset as dump_rows
+use Rattle.dump.proofs.dump_tileset as dump-sheet
+use Rattle.raster.proofs.Raster.with_table as raster-with-table
+use Rattle.front.proofs.Front.new as front-new
 use Rattle.step.proofs.dump_tileset
 use Rattle.step.proofs.pixel_at
 use Rattle.home.proofs.HomeState.new as home-new
@@ -85,9 +87,9 @@ use Rattle.home.proofs.row_step as home-row-step
 use Rattle.home.proofs.frame_step as home-frame-step
 use Rattle.home.proofs.row_view as home-row-view
 use Rattle.home.proofs.dump_tileset as home-dump-tileset
-use Rattle.tiles.proofs.write_tile
-use Rattle.tiles.proofs.read_tile
-use Rattle.tiles.proofs.sheet
+use Rattle.tile_codes.proofs.write_tile
+use Rattle.tile_codes.proofs.read_tile
+use Rattle.tile_codes.proofs.sheet
 use Rattle.block.proofs.well_formed
 use Rattle.block.proofs.decode
 use Rattle.block.proofs.encode
@@ -100,13 +102,13 @@ use Rattle.block.proofs.palette_in
 use Rattle.block.proofs.cache_in
 use Rattle.block.proofs.store_raster
 use Rattle.block.proofs.store_cache
-use Rattle.salvage.proofs.repair
-use Rattle.record.proofs.record_at
-use Rattle.record.proofs.area_number
-use Rattle.record.proofs.put_all
-use Rattle.record.proofs.put_record
-use Rattle.record.proofs.past_record
-use Rattle.record.proofs.at_end
+use Rattle.block_repair.proofs.repair
+use Rattle.trace_record.proofs.record_at
+use Rattle.trace_record.proofs.area_number
+use Rattle.trace_record.proofs.put_all
+use Rattle.trace_record.proofs.put_record
+use Rattle.trace_record.proofs.past_record
+use Rattle.trace_record.proofs.at_end
 use Rattle.face.proofs.vdp_new
 use Rattle.face.proofs.vdp_repair
 use Rattle.face.proofs.vdp_new_table
@@ -458,10 +460,18 @@ pub home-dump-tileset-once : OneOutcome 2 home-dump-tileset.Kinds.ps home-dump-t
 home-dump-tileset-once κs a q z z′ w w′ e f = (e .refusal ∙ sym (f .refusal), λ i. (tt, (tt, ((e .bytes ∙ sym (f .bytes)) i, tt))))
 
 -- ---- dump
-pub dump-rows-once : OneOutcome 3 dump_rows.Kinds.ps dump_rows.Kinds.r dump_rows.Reads.Asked dump_rows.Reads.Learnt
-dump-rows-once κs a q z z′ w w′ e f = (refl, λ i. ((e ∙ sym f) i, w .1))
+pub dump-sheet-once : OneOutcome 3 dump-sheet.Kinds.ps dump-sheet.Kinds.r dump-sheet.Reads.Asked dump-sheet.Reads.Learnt
+dump-sheet-once κs a q z z′ w w′ e f = (e .refusal ∙ sym (f .refusal), λ i. (tt, (tt, (tt, ((e .bytes ∙ sym (f .bytes)) i, tt)))))
 
--- ---- tiles
+-- ---- fresh parts
+pub raster-with-table-once : OneOutcome 0 raster-with-table.Kinds.ps raster-with-table.Kinds.r raster-with-table.Reads.Asked
+    raster-with-table.Reads.Learnt
+raster-with-table-once κs a q z z′ w w′ e f = (e ∙ sym f, refl)
+
+pub front-new-once : OneOutcome 0 front-new.Kinds.ps front-new.Kinds.r front-new.Reads.Asked front-new.Reads.Learnt
+front-new-once κs a q z z′ w w′ e f = (e ∙ sym f, refl)
+
+-- ---- tile_codes
 pub write-tile-once : OneOutcome 2 write_tile.Kinds.ps write_tile.Kinds.r write_tile.Reads.Asked write_tile.Reads.Learnt
 write-tile-once κs a q z z′ w w′ e f = (e .refusal ∙ sym (f .refusal), λ i. ((e .memory ∙ sym (f .memory)) i, w .1))
 

@@ -20,21 +20,22 @@ use Rattle.raster.specs.declared.LineTable.{LineTable}
 use Rattle.raster.specs.declared.LineTable.the-variants.{Steps261, Steps262}
 use Rattle.raster.specs.Raster.{lineTableFrom, jumpLine}
 use Rattle.vdp.specs.declared.VdpState.{VdpState}
-use Rattle.vdp.specs.declared.WriteDest.{WriteDest}
-use Rattle.vdp.specs.declared.WriteDest.the-variants.{None, Vram, Cram}
+use Rattle.front.specs.declared.WriteDest.{WriteDest}
+use Rattle.front.specs.declared.WriteDest.the-variants.{None, Vram, Cram}
 use Rattle.vdp.specs.Device.{made}
-use Rattle.vdp.specs.Refusals.{refusalNumber, Line, first, size}
+use Rattle.refusal.specs.Refusals.{refusalNumber, Line, first}
+use Rattle.vdp.specs.Refusals.{size}
 use Rattle.vdp.specs.Ports.{portWrite, portRead}
-use Rattle.vdp.proofs.Tables.{under-either}
+use Rattle.refusal.proofs.Tables.{under-either}
 use Rattle.block.specs.Block.{sized, fits, head, small, last, colourBytes, blockOf, stateOf, wellFormed, Shape}
 use Rattle.block.proofs.RoundTrip.{good-block, state-back}
 use Rattle.block.proofs.Shapes.{made-shape, write-shape, read-shape}
-use Rattle.salvage.specs.Repair.{matching, mended, changes, repairLines}
-use Rattle.salvage.specs.Salvaged.{nothingWrong}
-use Rattle.salvage.proofs.Salvaged.{stays-so}
+use Rattle.block_repair.specs.Repair.{matching, mended, changes, repairLines}
+use Rattle.block_repair.specs.Salvaged.{nothingWrong}
+use Rattle.block_repair.proofs.Salvaged.{stays-so}
 use Rattle.pixel.specs.Pixel.{pixelLines}
 use Rattle.step.specs.Step.{rowLines, frameLines, stepWith}
-use Rattle.tiles.specs.Calls.{readTileLines, writeTileLines}
+use Rattle.tile_codes.specs.Calls.{readTileLines, writeTileLines}
 use Rattle.face.specs.Face.{Called, refused, onArea, newTableCall, outOn, outCall, inputOn, inputCall, stepOn, stepCall, rowStepOn, rowStepCall}
 use Rattle.face.specs.Face.{dumpCall}
 use Rattle.face.specs.Layers.{layerLines, layerOn, layerCall, rowTable, rowFills, frameTable, frameFills}

@@ -14,7 +14,7 @@ use Rattle.raster.specs.declared.Raster.{Raster}
 use Rattle.raster.specs.declared.LineTable.{LineTable}
 use Rattle.raster.specs.Raster.{up, jumps, starts, jumpLine, jumpTo, passLength, advanced, counted, ticked}
 use Rattle.raster.proofs.Tables.{jump-back}
-use Rattle.step.specs.Points.{rowOn}
+use Rattle.points.specs.Points.{rowOn}
 use Rattle.demands.specs.Machine.{Machine, register}
 use Rattle.demands.specs.Pass.{Run, pass, through, ready, latched, answer, lineSet, rowAtEnd, pictureAt}
 use Rattle.demands.specs.Split.{firstNew, Moment}

@@ -20,9 +20,9 @@ use Rattle.picture.proofs.Laws.{length-rowBytes, pixel-byte}
 use Rattle.raster.specs.declared.Raster.{Raster}
 use Rattle.raster.specs.declared.LineTable.{LineTable}
 use Rattle.raster.specs.Raster.{passLength, jumpTo, advanced}
-use Rattle.step.specs.declared.DrawnRow.the-variants.{Drawn}
-use Rattle.step.specs.Points.{rowOn}
-use Rattle.step.proofs.Rows.{row-low, row-line}
+use Rattle.points.specs.declared.DrawnRow.the-variants.{Drawn}
+use Rattle.points.specs.Points.{rowOn}
+use Rattle.points.proofs.Rows.{row-low, row-line}
 use Rattle.demands.specs.Machine.{Machine, register}
 use Rattle.demands.specs.Pass.{Run, pass, through, ready, latched, answer, lineSet, rowAtEnd, pictureAt}
 use Rattle.demands.specs.Split.{firstNew, Moment, Split, ColourSplit, pixelAtEnd, fourBytes, OnlyColour, WhichPixels, Twins, Changed}

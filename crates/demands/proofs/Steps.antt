@@ -10,14 +10,15 @@ use Rattle.colour.specs.Colour.{coloursOf}
 use Rattle.picture.specs.declared.RenderArea.{RenderArea}
 use Rattle.picture.specs.Area.{screenOf}
 use Rattle.vdp.specs.declared.VdpState.{VdpState}
-use Rattle.vdp.specs.declared.Refusal.the-variants.{Accepted}
-use Rattle.vdp.specs.Refusals.{Line}
-use Rattle.vdp.proofs.Tables.{Passed, Refusing, passed}
-use Rattle.step.specs.declared.DrawnRow.{DrawnRow}
-use Rattle.step.specs.declared.DrawnRow.the-variants.{NoRow, Drawn}
+use Rattle.refusal.specs.declared.Refusal.the-variants.{Accepted}
+use Rattle.refusal.specs.Refusals.{Line}
+use Rattle.refusal.proofs.Tables.{Passed, Refusing, passed}
+use Rattle.points.specs.declared.DrawnRow.{DrawnRow}
+use Rattle.points.specs.declared.DrawnRow.the-variants.{NoRow, Drawn}
 use Rattle.step.specs.Step.{lineOf, counterUp, rowOn, coloursNow, stepped, frameLines, stepWith, frameStep}
 use Rattle.step.proofs.Laws.{stepped-refusal, dirtyAfter, cacheAfter, stepped-dirty, stepped-cache, stepped-cram, step-exact, step-accepted}
-use Rattle.step.proofs.Laws.{step-left, frame-refusing}
+use Rattle.points.proofs.Laws.{frame-refusing}
+use Rattle.step.proofs.Laws.{step-left}
 use Rattle.step.proofs.Kept.{Clean}
 
 -- ---- colours

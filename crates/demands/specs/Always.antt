@@ -7,9 +7,9 @@ use mathlib.Core.List.{List}
 use Prim.Native.Nat.{ℕ, _≤_, _<_}
 use lib.ListN.{length}
 use Rattle.raster.specs.Raster.{jumpLine, jumpTo}
-use Rattle.vdp.specs.Refusals.{refusalNumber}
+use Rattle.refusal.specs.Refusals.{refusalNumber}
 use Rattle.block.specs.Block.{sized, stateOf}
-use Rattle.salvage.specs.Repair.{mended}
+use Rattle.block_repair.specs.Repair.{mended}
 use Rattle.demands.specs.Machine.{Machine}
 use Rattle.demands.specs.Handheld.{Call, refusalOf}
 

@@ -13,7 +13,7 @@ use Rattle.colour.specs.Colour.{colour, coloursOf}
 use Rattle.picture.specs.declared.RenderArea.the-variants.{VisibleOnly}
 use Rattle.raster.specs.declared.LineTable.{LineTable}
 use Rattle.vdp.specs.declared.VdpState.{VdpState}
-use Rattle.vdp.specs.declared.Refusal.the-variants.{Accepted}
+use Rattle.refusal.specs.declared.Refusal.the-variants.{Accepted}
 use Rattle.vdp.specs.Device.{made}
 use Rattle.step.specs.Step.{frameStep}
 use Rattle.demands.specs.Handheld.{out, handheld}

@@ -10,8 +10,9 @@ use Rattle.raster.specs.declared.LineTable.the-variants.{Steps261, Steps262}
 use Rattle.raster.specs.Raster.{passLength, jumps, starts, advanced, counted}
 use Rattle.vdp.specs.declared.VdpState.{VdpState}
 use Rattle.vdp.specs.Device.{made}
-use Rattle.vdp.specs.Ports.{frontRead, portRead}
-use Rattle.step.specs.Points.{rowOn, bitsOf, endedBy, pointsOf}
+use Rattle.front.specs.Ports.{frontRead}
+use Rattle.vdp.specs.Ports.{portRead}
+use Rattle.points.specs.Points.{rowOn, bitsOf, endedBy, pointsOf}
 use Rattle.step.specs.Step.{stepped}
 use Rattle.demands.specs.Examples.{zeroed}
 

@@ -20,11 +20,13 @@ use Rattle.raster.specs.declared.LineTable.the-variants.{Steps261, Steps262}
 use Rattle.raster.specs.Raster.{passLength, jumps, starts, advanced, lineInterrupt, counted}
 use Rattle.vdp.specs.declared.VdpState.{VdpState}
 use Rattle.vdp.specs.Device.{made, fresh}
-use Rattle.vdp.specs.Refusals.{refusalNumber}
-use Rattle.vdp.specs.Ports.{frontWrite, frontRead, portWrite, portRead}
+use Rattle.refusal.specs.Refusals.{refusalNumber}
+use Rattle.front.specs.Ports.{frontWrite, frontRead}
+use Rattle.vdp.specs.Ports.{portWrite, portRead}
 use Rattle.vdp.specs.Calls.{Call, write, read, Answer, w, r, after, answer, afterAll, answers, start}
-use Rattle.step.specs.Points.{rowOn, bitsOf, endedBy, reportBy, interruptBy, pointsOf}
-use Rattle.step.specs.Step.{interruptNumber, lineOf, stepped, stepWith, frameStep}
+use Rattle.points.specs.Points.{rowOn, bitsOf, endedBy, reportBy, interruptBy, pointsOf}
+use Rattle.points.specs.Points.{interruptNumber}
+use Rattle.step.specs.Step.{lineOf, stepped, stepWith, frameStep}
 use Rattle.demands.specs.Split.{fourBytes}
 
 -- ---- port calls on a fresh device with zeroed memory: the bytes that they read, and the numbers of their refusals

@@ -18,11 +18,12 @@ use Rattle.raster.specs.declared.LineTable.the-variants.{Steps261, Steps262}
 use Rattle.raster.specs.Raster.{passLength, jumps, starts, advanced, lineInterrupt, counted}
 use Rattle.vdp.specs.declared.VdpState.{VdpState}
 use Rattle.vdp.specs.Device.{made}
-use Rattle.vdp.specs.Ports.{frontWrite, portWrite}
+use Rattle.front.specs.Ports.{frontWrite}
+use Rattle.vdp.specs.Ports.{portWrite}
 use Rattle.vdp.specs.Calls.{write, after, afterAll, start}
-use Rattle.step.specs.declared.DrawnRow.{DrawnRow}
-use Rattle.step.specs.declared.DrawnRow.the-variants.{NoRow, Drawn}
-use Rattle.step.specs.Points.{rowOn, bitsOf, endedBy, interruptBy, pointsOf}
+use Rattle.points.specs.declared.DrawnRow.{DrawnRow}
+use Rattle.points.specs.declared.DrawnRow.the-variants.{NoRow, Drawn}
+use Rattle.points.specs.Points.{rowOn, bitsOf, endedBy, interruptBy, pointsOf}
 use Rattle.step.specs.Step.{stepped}
 use Rattle.demands.specs.Split.{firstNew}
 use Rattle.demands.specs.Examples.{zeroed, stepsOn, interruptLines, every, beforeLine0}

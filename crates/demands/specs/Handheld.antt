@@ -7,27 +7,27 @@ use Rattle.colour.specs.Colour.{coloursOf}
 use Rattle.picture.specs.declared.RenderArea.{RenderArea}
 use Rattle.picture.specs.Area.{screenOf, columns}
 use Rattle.vdp.specs.declared.VdpState.{VdpState}
-use Rattle.vdp.specs.declared.Refusal.{Refusal}
-use Rattle.vdp.specs.declared.Refusal.the-variants.{Accepted}
+use Rattle.refusal.specs.declared.Refusal.{Refusal}
+use Rattle.refusal.specs.declared.Refusal.the-variants.{Accepted}
 use Rattle.vdp.specs.Device.{made}
 use Rattle.vdp.specs.Refusals.{size}
 use Rattle.vdp.specs.Ports.{portWrite, portRead}
 use Rattle.step.specs.declared.Stepped.{Stepped}
 use Rattle.step.specs.Step.{rowLines, frameLines, stepWith, rowStep, frameStep}
 use Rattle.step.specs.Frame.{frameAfter}
-use Rattle.step.specs.Layers.{alsoLayers}
-use Rattle.step.specs.Dump.{dumpRefusal}
+use Rattle.points.specs.Bytes.{alsoLayers}
+use Rattle.dump.specs.Sheet.{dumpRefusal}
 use Rattle.step.specs.Pixel.{pixelOf}
-use Rattle.tiles.specs.Calls.{readTileRefusal, writeTileRefusal}
+use Rattle.tile_codes.specs.Calls.{readTileRefusal, writeTileRefusal}
 use Rattle.demands.specs.Machine.{Told, Machine}
 
 -- A call, with the video memory lent to it; `size` is the length of the pixel buffer lent to it (of a tile read, of the buffer for the codes), and
 -- `layers` that of the layer buffer. (Nothing is assumed of how the memory lent to one call is related to that lent to the next.)
 -- It has the name of its function. The other public functions of these crates make a device, give a number, are parts that the calls are made of, or take no
 -- device and give no refusal; the test suite `layout` holds both lists to the code:
--- No calls of vdp: write, read, new, with_table, with_raster, with_cache, refusal_number.
--- No calls of step: interrupt_number, report_number, row_points, layer_row_points, frame_points, layer_frame_points, row_view, screen_row.
--- No calls of tiles: sheet.
+-- No calls of vdp: new, with_table, with_raster, with_cache.
+-- No calls of step: row_view.
+-- No calls of tile_codes: sheet.
 pub data Call : Type 0 where
   out : (port value : ℕ) (vram : List ℕ) → Call
   input : (port : ℕ) (vram : List ℕ) → Call

@@ -6,22 +6,23 @@ use mathlib.Core.List.{List}
 use Prim.Native.Nat.{ℕ}
 use Rattle.colour.specs.Home.{homeColoursOf}
 use Rattle.picture.specs.declared.Screen.the-variants.{Home}
-use Rattle.vdp.specs.declared.Refusal.{Refusal}
-use Rattle.vdp.specs.declared.Refusal.the-variants.{Accepted}
-use Rattle.vdp.specs.Refusals.{refusalNumber, sizeOf}
-use Rattle.step.specs.Dump.{dumpRefusal}
+use Rattle.refusal.specs.declared.Refusal.{Refusal}
+use Rattle.refusal.specs.declared.Refusal.the-variants.{Accepted}
+use Rattle.refusal.specs.Refusals.{refusalNumber}
+use Rattle.front.specs.Lines.{sizeOf}
+use Rattle.dump.specs.Sheet.{dumpRefusal}
 use Rattle.home.specs.declared.HomeState.{HomeState}
 use Rattle.home.specs.declared.HomeStepped.{HomeStepped}
 use Rattle.home.specs.Home.{paletteSize, made}
 use Rattle.home.specs.Ports.{portWrite, portRead}
 use Rattle.home.specs.Step.{rowStep, frameStep, frameAfter}
-use Rattle.tiles.specs.Calls.{readTileRefusal, writeTileRefusal}
+use Rattle.tile_codes.specs.Calls.{readTileRefusal, writeTileRefusal}
 use Rattle.demands.specs.Machine.{Told, Machine}
 
 -- R20.8: a call, said as the handheld's are (Handheld.antt), in the one area that there is: it tells no layers, and is asked for no single pixel. The other
 -- public functions:
 -- No calls of home: new, with_table, row_view.
--- No calls of tiles: sheet.
+-- No calls of tile_codes: sheet.
 pub data Call : Type 0 where
   out : (port value : ℕ) (vram : List ℕ) → Call
   input : (port : ℕ) (vram : List ℕ) → Call

@@ -15,12 +15,13 @@ use Rattle.picture.specs.Picture.{back, front, bare, tableAt, listed, solid, sp
 use Rattle.picture.specs.Area.{screenOf, columns}
 use Rattle.picture.specs.Layers.{stopped, layers}
 use Rattle.vdp.specs.declared.VdpState.{VdpState}
-use Rattle.vdp.specs.declared.Refusal.the-variants.{Accepted, LayerLength}
-use Rattle.vdp.specs.Refusals.{Line, first, under}
+use Rattle.refusal.specs.declared.Refusal.the-variants.{Accepted, LayerLength}
+use Rattle.refusal.specs.Refusals.{Line, first, under}
 use Rattle.step.specs.Step.{rowLines, frameLines, readingOf, stepWith, rowStep, frameStep}
-use Rattle.step.specs.Bytes.{rowFilled, frameFilled}
+use Rattle.points.specs.Bytes.{rowFilled, frameFilled}
 use Rattle.step.specs.Frame.{rowAfter, frameAfter}
-use Rattle.step.specs.Layers.{alsoLayers, layersAfter}
+use Rattle.points.specs.Bytes.{alsoLayers}
+use Rattle.step.specs.Layers.{layersAfter}
 
 -- ---- one column
 module _ (m g : ℕ → ℕ) (v : View) where

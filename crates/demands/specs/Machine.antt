@@ -7,10 +7,10 @@ use Rattle.laws.specs.Lists.{at}
 use Rattle.picture.specs.declared.Screen.{Screen}
 use Rattle.raster.specs.declared.Raster.{Raster}
 use Rattle.raster.specs.declared.LineTable.{LineTable}
-use Rattle.vdp.specs.declared.Refusal.{Refusal}
-use Rattle.step.specs.declared.VdpInt.{VdpInt}
-use Rattle.step.specs.declared.DisplayRefresh.{DisplayRefresh}
-use Rattle.step.specs.declared.DrawnRow.{DrawnRow}
+use Rattle.refusal.specs.declared.Refusal.{Refusal}
+use Rattle.points.specs.declared.VdpInt.{VdpInt}
+use Rattle.points.specs.declared.DisplayRefresh.{DisplayRefresh}
+use Rattle.points.specs.declared.DrawnRow.{DrawnRow}
 
 -- What a step answers, and the device that it leaves.
 pub record Told (D : Type 0) : Type 0 where

@@ -14,10 +14,10 @@ use Rattle.picture.specs.Picture.{Row}
 use Rattle.picture.specs.Screen.{columns, rows, rowSize, pictureOf, rowBytes}
 use Rattle.raster.specs.declared.LineTable.{LineTable}
 use Rattle.raster.specs.Raster.{passLength}
-use Rattle.vdp.specs.declared.Refusal.the-variants.{Accepted}
-use Rattle.step.specs.declared.VdpInt.the-variants.{InterruptGenerated}
-use Rattle.step.specs.declared.DisplayRefresh.the-variants.{NoDisplay}
-use Rattle.step.specs.declared.DrawnRow.the-variants.{Drawn}
+use Rattle.refusal.specs.declared.Refusal.the-variants.{Accepted}
+use Rattle.points.specs.declared.VdpInt.the-variants.{InterruptGenerated}
+use Rattle.points.specs.declared.DisplayRefresh.the-variants.{NoDisplay}
+use Rattle.points.specs.declared.DrawnRow.the-variants.{Drawn}
 use Rattle.demands.specs.Machine.{Told, Machine, register, lineOf}
 
 -- ---- calls, from a fresh device of either table on

@@ -13,8 +13,8 @@ use Rattle.picture.specs.declared.RenderArea.{RenderArea}
 use Rattle.picture.specs.Area.{screenOf, columns, rows}
 use Rattle.row.specs.Row as row-engine
 use Rattle.vdp.specs.declared.VdpState.{VdpState}
-use Rattle.vdp.specs.declared.Refusal.the-variants.{Accepted, VramLength}
-use Rattle.step.specs.declared.DrawnRow.the-variants.{Drawn}
+use Rattle.refusal.specs.declared.Refusal.the-variants.{Accepted, VramLength}
+use Rattle.points.specs.declared.DrawnRow.the-variants.{Drawn}
 use Rattle.step.specs.declared.Stepped.{Stepped}
 use Rattle.step.specs.Step.{coloursNow, rowPicture}
 use Rattle.step.specs.Frame.{RowStepLeaves}

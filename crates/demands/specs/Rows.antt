@@ -10,7 +10,7 @@ use Rattle.picture.specs.Screen.{columns, rows, firstLine, rowBytes}
 use Rattle.raster.specs.declared.LineTable.{LineTable}
 use Rattle.raster.specs.declared.LineTable.the-variants.{Steps261, Steps262}
 use Rattle.raster.specs.Raster.{jumpLine, jumpTo}
-use Rattle.step.specs.declared.DrawnRow.the-variants.{Drawn}
+use Rattle.points.specs.declared.DrawnRow.the-variants.{Drawn}
 use Rattle.demands.specs.Machine.{Machine}
 use Rattle.demands.specs.Handheld.{handheld}
 use Rattle.demands.specs.Home.{home}

@@ -8,7 +8,7 @@ use mathlib.Core.List.{List, [], _∷_}
 use Prim.Native.Nat.{ℕ, _≤_, _<_}
 use Rattle.raster.specs.declared.LineTable.{LineTable}
 use Rattle.raster.specs.declared.LineTable.the-variants.{Steps261, Steps262}
-use Rattle.vdp.specs.Refusals.{refusalNumber}
+use Rattle.refusal.specs.Refusals.{refusalNumber}
 use Rattle.block.specs.Block.{stateOf}
 use Rattle.face.specs.Face.{Called, newTableCall, newCall, outCall, inputCall, stepCall, rowStepCall, dumpCall}
 use Rattle.face.specs.Layers.{layerCall, rowTable, rowFills, frameTable, frameFills}

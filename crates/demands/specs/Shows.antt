@@ -6,7 +6,7 @@ use Prim.Native.Nat.{ℕ, _≤_, _<_, _-_}
 use Rattle.picture.specs.Screen.{columns, rows, rowBytes}
 use Rattle.raster.specs.declared.Raster.{Raster}
 use Rattle.raster.specs.Raster.{ticked}
-use Rattle.step.specs.declared.DrawnRow.the-variants.{Drawn}
+use Rattle.points.specs.declared.DrawnRow.the-variants.{Drawn}
 use Rattle.demands.specs.Machine.{Machine, register}
 use Rattle.demands.specs.Pass.{Run, pass, through, ready, answer, lineSet, latched, coloursAt, rowAtEnd, pictureAt}
 use Rattle.demands.specs.Split.{firstNew, Moment}

@@ -13,8 +13,8 @@ use Rattle.picture.specs.declared.Screen.the-variants.{Home}
 use Rattle.picture.specs.declared.RenderArea.the-variants.{VisibleOnly}
 use Rattle.picture.specs.Screen.{columns, rows, firstLine, rowBytes}
 use Rattle.raster.specs.Raster.{jumpTo}
-use Rattle.step.specs.declared.DrawnRow.the-variants.{Drawn}
-use Rattle.step.specs.Points.{rowOn}
+use Rattle.points.specs.declared.DrawnRow.the-variants.{Drawn}
+use Rattle.points.specs.Points.{rowOn}
 use Rattle.demands.specs.Machine.{Machine, lineOf}
 use Rattle.demands.specs.Handheld.{handheld}
 use Rattle.demands.specs.Pass.{Run, pass, ready, answer, lineSet, rowAtEnd, pictureAt}

@@ -10,6 +10,11 @@ ghost use Rattle.laws.specs.Sizes.{vramSize};
 ghost use Rattle.picture.specs.Tile.{codeAt};
 ghost use Rattle.dump.specs.Dump.{tileColumn, tileRow, lineAt, pixelByte, dumpSize, dumped};
 ghost use Rattle.dump.specs.Lines.{Dumping};
+ghost use Rattle.dump.specs.Sheet.{SheetLeaves};
+use refusal::Refusal;
+use small::VRAM_SIZE;
+
+const DUMP_SIZE: usize = 131072;
 
 // R5.14: the column of tiles in which tile chr stands.
 fn column_of(tall: bool, chr: usize) -> usize
@@ -93,8 +98,8 @@ fn dump_tile(
     }
 }
 
-// All tiles, by the cached colours as they stand (R5.15).
-pub fn dump_tileset(pixels: &mut [u8], vram: &[u8], colours: &[u32; 32], reg: [u8; 11])
+// All tiles, by these colours (R5.15).
+fn draw_tileset(pixels: &mut [u8], vram: &[u8], colours: &[u32; 32], reg: [u8; 11])
     requires { ⌜ (length (now pixels) ≡ dumpSize) × (length (now vram) ≡ vramSize) ⌝ }
     ensures { λ r. ⌜ now (pixels .exit) ≡ dumped (now (vram .entry)) reg (now (colours .entry)) (now (pixels .entry)) ⌝ }
 {
@@ -105,4 +110,18 @@ pub fn dump_tileset(pixels: &mut [u8], vram: &[u8], colours: &[u32; 32], reg: [u
         dump_tile(pixels, vram, colours, tall, high, chr);
         chr += 1;
     }
+}
+
+// The sheet of all tiles as a call: video memory and the sheet are tested first. It draws with the colours as they stand.
+pub fn dump_tileset(reg: [u8; 11], colours: &[u32; 32], vram: &[u8], pixels: &mut [u8]) -> Refusal
+    ensures { λ r. ⌜ SheetLeaves reg (now (colours .entry)) (now (vram .entry)) (now (pixels .entry)) r (now (pixels .exit)) ⌝ }
+{
+    if vram.len() != VRAM_SIZE {
+        return Refusal::VramLength;
+    }
+    if pixels.len() != DUMP_SIZE {
+        return Refusal::PixelLength;
+    }
+    draw_tileset(pixels, vram, colours, reg);
+    Refusal::Accepted
 }

@@ -15,22 +15,25 @@ use Rattle.laws.proofs.Tests.{split, either}
 use Rattle.picture.specs.declared.RenderArea.{RenderArea}
 use Rattle.raster.specs.Raster.{lineTableFrom}
 use Rattle.vdp.specs.declared.VdpState.{VdpState}
-use Rattle.vdp.specs.declared.Refusal.{Refusal}
-use Rattle.vdp.specs.declared.Refusal.the-variants.{Accepted, UnknownPort, HorizontalCounter, HighRegister, NothingChosen, PaletteRead, NoPaletteByte}
-use Rattle.vdp.specs.declared.Refusal.the-variants.{OutsideMemory, VramLength, PixelLength, BlockMalformed, UnknownArea, FrameTooLong, UnknownTile}
-use Rattle.vdp.specs.declared.Refusal.the-variants.{CodesLength, HighCode, LayerLength, ListLength, RecordRoom}
+use Rattle.refusal.specs.declared.Refusal.{Refusal}
+use Rattle.refusal.specs.declared.Refusal.the-variants.{Accepted, UnknownPort, HorizontalCounter, HighRegister, NothingChosen, PaletteRead}
+use Rattle.refusal.specs.declared.Refusal.the-variants.{NoPaletteByte}
+use Rattle.refusal.specs.declared.Refusal.the-variants.{OutsideMemory, VramLength, PixelLength, BlockMalformed, UnknownArea, FrameTooLong}
+use Rattle.refusal.specs.declared.Refusal.the-variants.{UnknownTile}
+use Rattle.refusal.specs.declared.Refusal.the-variants.{CodesLength, HighCode, LayerLength, ListLength, RecordRoom}
 use Rattle.vdp.specs.Device.{unlatched}
-use Rattle.vdp.specs.Refusals.{refusalNumber, deviceLeft, Line, under, whole}
+use Rattle.refusal.specs.Refusals.{refusalNumber, Line, under, whole}
+use Rattle.vdp.specs.Refusals.{deviceLeft}
 use Rattle.vdp.specs.Ports.{portWrite, portRead}
 use Rattle.vdp.proofs.Behind.{write-behind, read-behind}
 use Rattle.block.specs.Block.{fits, wellFormed, stateOf, head, small, last, colourBytes, blockOf}
 use Rattle.block.proofs.Whole.{long}
 use Rattle.block.proofs.RoundTrip.{block-back}
 use Rattle.step.specs.Step.{stepped, refusedStep, rowLines, frameLines, stepWith}
-use Rattle.step.specs.Dump.{dumpRefusal, dumpAfter}
+use Rattle.dump.specs.Sheet.{dumpRefusal, sheetAfter}
 use Rattle.step.specs.Frame.{rowAfter, frameAfter}
 use Rattle.picture.specs.Area.{areaFrom}
-use Rattle.vdp.proofs.Tables.{under-refused}
+use Rattle.refusal.proofs.Tables.{under-refused}
 use Rattle.step.specs.Layers.{layersAfter}
 use Rattle.step.proofs.Laws as Steps
 use Rattle.face.specs.Layers.{layerLines, layerCall, layersLeft}
@@ -226,7 +229,7 @@ module _ (b : List ℕ) (bytes : (i : ℕ) → at b i < 256) where
       (λ e. simp e (λ h. refl))
 
   pub dump-behind : (m pixels : List ℕ) → LeftBehind b pixels (dumpCall b m pixels)
-  unfolding dumpCall dumpRefusal dumpAfter
+  unfolding dumpCall dumpRefusal sheetAfter
   dump-behind m pixels =
       either (LeftBehind b pixels) (wellFormed b)
       (λ _. split (whole m)

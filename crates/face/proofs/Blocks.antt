@@ -14,7 +14,7 @@ use Rattle.vdp.specs.Device.{made}
 use Rattle.block.specs.Block.{fits, blockOf, Shape}
 use Rattle.block.proofs.Whole.{fits-sized}
 use Rattle.block.proofs.RoundTrip.{length-block, good-block, state-back}
-use Rattle.vdp.specs.Refusals.{Line}
+use Rattle.refusal.specs.Refusals.{Line}
 use Rattle.face.specs.Layers.{layerOn, layerCall}
 use Rattle.face.specs.Face.{onArea, newTableCall, outOn, outCall, inputOn, inputCall, stepOn, stepCall, rowStepOn, rowStepCall, dumpOn}
 use Rattle.face.specs.Face.{dumpCall}

@@ -12,20 +12,23 @@ use lib.Dec.{eqb, leb}
 use lib.ListN.{length}
 use Rattle.laws.proofs.Tests.{split, both, clash}
 use Rattle.raster.specs.Raster.{lineTableFrom}
-use Rattle.vdp.specs.declared.Refusal.{Refusal}
-use Rattle.vdp.specs.declared.Refusal.the-variants.{Accepted, UnknownPort, HorizontalCounter, HighRegister, NothingChosen, PaletteRead, NoPaletteByte}
-use Rattle.vdp.specs.declared.Refusal.the-variants.{OutsideMemory, VramLength, PixelLength, BlockMalformed, UnknownArea, FrameTooLong, UnknownTile}
-use Rattle.vdp.specs.declared.Refusal.the-variants.{CodesLength, HighCode, LayerLength, ListLength, RecordRoom}
+use Rattle.refusal.specs.declared.Refusal.{Refusal}
+use Rattle.refusal.specs.declared.Refusal.the-variants.{Accepted, UnknownPort, HorizontalCounter, HighRegister, NothingChosen, PaletteRead}
+use Rattle.refusal.specs.declared.Refusal.the-variants.{NoPaletteByte}
+use Rattle.refusal.specs.declared.Refusal.the-variants.{OutsideMemory, VramLength, PixelLength, BlockMalformed, UnknownArea, FrameTooLong}
+use Rattle.refusal.specs.declared.Refusal.the-variants.{UnknownTile}
+use Rattle.refusal.specs.declared.Refusal.the-variants.{CodesLength, HighCode, LayerLength, ListLength, RecordRoom}
 use Rattle.picture.specs.declared.RenderArea.{RenderArea}
 use Rattle.vdp.specs.declared.VdpState.{VdpState}
-use Rattle.vdp.specs.Refusals.{refusalNumber, Line, first, line, writeLines, readLines}
+use Rattle.refusal.specs.Refusals.{refusalNumber, Line, first, line}
+use Rattle.vdp.specs.Refusals.{writeLines, readLines}
 use Rattle.vdp.specs.Ports.{portWrite, portRead}
 use Rattle.vdp.proofs.Exact.{write-exact, read-exact}
 use Rattle.block.specs.Block.{fits, wellFormed, stateOf}
-use Rattle.step.specs.declared.DrawnRow.{DrawnRow}
-use Rattle.step.specs.declared.DrawnRow.the-variants.{NoRow, Drawn}
+use Rattle.points.specs.declared.DrawnRow.{DrawnRow}
+use Rattle.points.specs.declared.DrawnRow.the-variants.{NoRow, Drawn}
 use Rattle.step.specs.declared.Stepped.{Stepped}
-use Rattle.step.specs.Dump.{dumpRefusal, dumpLines}
+use Rattle.dump.specs.Sheet.{dumpRefusal, dumpLines}
 use Rattle.step.specs.Step.{rowLines, frameLines, stepWith, rowStep, frameStep}
 use Rattle.step.proofs.Laws as Steps
 use Rattle.picture.specs.Area.{areaFrom}

@@ -12,7 +12,7 @@ use Rattle.picture.specs.declared.RenderArea.{RenderArea}
 use Rattle.picture.specs.Area.{areaFrom}
 use Rattle.raster.specs.declared.Raster.{Raster}
 use Rattle.vdp.specs.declared.VdpState.{VdpState}
-use Rattle.vdp.specs.Refusals.{Line}
+use Rattle.refusal.specs.Refusals.{Line}
 use Rattle.vdp.specs.Ports.{portWrite, portRead}
 use Rattle.block.specs.Block.{fits, wellFormed, stateOf, blockOf, Shape}
 use Rattle.block.proofs.Whole.{fits-sized, fits-own, length-of}

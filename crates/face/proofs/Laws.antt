@@ -15,10 +15,10 @@ use Rattle.raster.specs.Raster.{lineTableFrom}
 use Rattle.vdp.specs.declared.VdpState.{VdpState}
 use Rattle.vdp.specs.declared.Written.{Written}
 use Rattle.vdp.specs.declared.ReadBack.{ReadBack}
-use Rattle.vdp.specs.declared.Refusal.{Refusal}
-use Rattle.vdp.specs.declared.Refusal.the-variants.{Accepted, BlockMalformed, UnknownArea}
+use Rattle.refusal.specs.declared.Refusal.{Refusal}
+use Rattle.refusal.specs.declared.Refusal.the-variants.{Accepted, BlockMalformed, UnknownArea}
 use Rattle.vdp.specs.Device.{made}
-use Rattle.vdp.specs.Refusals.{refusalNumber, Line}
+use Rattle.refusal.specs.Refusals.{refusalNumber, Line}
 use Rattle.vdp.specs.Ports.{WriteLeaves, portRead}
 use Rattle.block.specs.declared.Decoded.{Decoded}
 use Rattle.block.specs.Block.{fits, wellFormed, stateOf, blockOf, decoded, encoded, Sized}
@@ -26,16 +26,16 @@ use Rattle.block.proofs.Whole.{good-is, device-is, encoded-is, long}
 use Rattle.block.proofs.RoundTrip.{block-back}
 use Rattle.block.proofs.Stores.{sized-state}
 use Rattle.step.specs.declared.Stepped.{Stepped}
-use Rattle.step.specs.declared.Points.{Points}
-use Rattle.step.specs.Points.{Reading}
-use Rattle.step.specs.Bytes.{RowPointsLeave, FramePointsLeave, RowLayerPointsLeave, FrameLayerPointsLeave}
+use Rattle.points.specs.declared.Points.{Points}
+use Rattle.points.specs.Points.{Reading}
+use Rattle.points.specs.Bytes.{RowPointsLeave, FramePointsLeave, RowLayerPointsLeave, FrameLayerPointsLeave}
 use Rattle.step.specs.Step.{coloursNow, rowLines, frameLines, readingOf, cleaned, joined, stepWith}
 use Rattle.step.specs.Layers.{LayersLeave}
 use Rattle.step.proofs.Laws.{step-table}
 use Rattle.step.proofs.Steps.{row-joined, frame-joined, row-layers-joined, frame-layers-joined}
 use Rattle.step.proofs.Kept.{write-keeps, read-keeps}
-use Rattle.step.specs.declared.DrawnRow.{DrawnRow}
-use Rattle.step.specs.declared.DrawnRow.the-variants.{NoRow, Drawn}
+use Rattle.points.specs.declared.DrawnRow.{DrawnRow}
+use Rattle.points.specs.declared.DrawnRow.the-variants.{NoRow, Drawn}
 use Rattle.step.specs.Dump.{DumpLeaves}
 use Rattle.picture.specs.Area.{areaFrom, screenOf, columns}
 use Rattle.face.specs.Layers.{layerLines, layerOn, layerCall, layersLeft, LayerLeaves, LayerRowLeaves, LayerFrameLeaves}

@@ -14,8 +14,8 @@ use Rattle.laws.proofs.Tables.{getD-table}
 use Rattle.laws.proofs.Tests.{split}
 use Rattle.colour.specs.Colour.{colour, coloursOf}
 use Rattle.picture.specs.Area.{areaFrom}
-use Rattle.vdp.specs.declared.Refusal.{Refusal}
-use Rattle.vdp.specs.Refusals.{refusalNumber, first}
+use Rattle.refusal.specs.declared.Refusal.{Refusal}
+use Rattle.refusal.specs.Refusals.{refusalNumber, first}
 use Rattle.block.specs.Block.{wellFormed, stateOf, colourAt, coloursAt}
 use Rattle.pixel.specs.Pixel.{pixelLines}
 use Rattle.step.specs.Step.{coloursNow}

@@ -12,13 +12,13 @@ use Rattle.laws.specs.Lists.{written}
 use Rattle.laws.proofs.Tests.{split}
 use Rattle.picture.specs.declared.RenderArea.{RenderArea}
 use Rattle.picture.specs.Area.{areaFrom}
-use Rattle.vdp.specs.declared.Refusal.the-variants.{UnknownArea}
-use Rattle.vdp.specs.Refusals.{refusalNumber, line, first}
-use Rattle.record.specs.declared.Record.{Record}
-use Rattle.record.specs.declared.Record.the-variants.{Step}
-use Rattle.record.specs.declared.Recorded.{Recorded}
-use Rattle.record.specs.Record.{recordAt}
-use Rattle.record.specs.Writer.{recordBytes, size, recordLines, recorded, RecordLeaves}
+use Rattle.refusal.specs.declared.Refusal.the-variants.{UnknownArea}
+use Rattle.refusal.specs.Refusals.{refusalNumber, line, first}
+use Rattle.trace_record.specs.declared.Record.{Record}
+use Rattle.trace_record.specs.declared.Record.the-variants.{Step}
+use Rattle.trace_record.specs.declared.Recorded.{Recorded}
+use Rattle.trace_record.specs.Record.{recordAt}
+use Rattle.trace_record.specs.Writer.{recordBytes, size, recordLines, recorded, RecordLeaves}
 use Rattle.face.specs.Face.{Called, Leaves}
 use Rattle.face.specs.Refused.{refusalIn, LeftBehind}
 use Rattle.face.specs.Record.{recordCall, recordStepCall, recordWord, nextCall}

@@ -7,9 +7,9 @@ use native.Mathlib.Nat.{zero-add, add-zero}
 use lib.ListN.{length}
 use Rattle.laws.proofs.Tests.{split}
 use Rattle.laws.specs.Lists.{written}
-use Rattle.vdp.specs.Refusals.{refusalNumber, Line, first, under}
-use Rattle.salvage.specs.declared.Repaired.{Repaired}
-use Rattle.salvage.specs.Repair.{mended, changes, repairLines, RepairLeaves}
+use Rattle.refusal.specs.Refusals.{refusalNumber, Line, first, under}
+use Rattle.block_repair.specs.declared.Repaired.{Repaired}
+use Rattle.block_repair.specs.Repair.{mended, changes, repairLines, RepairLeaves}
 use Rattle.face.specs.Face.{Called, Leaves, refused}
 use Rattle.face.specs.Repair.{repairCall}
 

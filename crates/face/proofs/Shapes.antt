@@ -13,14 +13,14 @@ use Rattle.colour.proofs.Laws.{length-colours, colours-at}
 use Rattle.picture.specs.declared.RenderArea.{RenderArea}
 use Rattle.picture.specs.Area.{screenOf}
 use Rattle.vdp.specs.declared.VdpState.{VdpState}
-use Rattle.vdp.specs.Refusals.{Line}
-use Rattle.vdp.proofs.Tables.{under-either}
+use Rattle.refusal.specs.Refusals.{Line}
+use Rattle.refusal.proofs.Tables.{under-either}
 use Rattle.block.specs.Block.{Shape}
 use Rattle.block.proofs.Shapes.{carried}
-use Rattle.step.specs.declared.DrawnRow.{DrawnRow}
-use Rattle.step.specs.declared.DrawnRow.the-variants.{NoRow, Drawn}
+use Rattle.points.specs.declared.DrawnRow.{DrawnRow}
+use Rattle.points.specs.declared.DrawnRow.the-variants.{NoRow, Drawn}
 use Rattle.step.specs.declared.Stepped.{Stepped}
-use Rattle.step.specs.Points.{pointsOf}
+use Rattle.points.specs.Points.{pointsOf}
 use Rattle.step.specs.Step.{coloursNow, readingOf, cleaned, stepped, refusedStep, stepWith}
 
 -- a colour of two bytes fits 32 bits

@@ -10,10 +10,10 @@ use borrow.Author.Tests.{ne-eqb}
 use lib.Dec.{leb}
 use lib.ListN.{length}
 use Rattle.laws.proofs.Tests.{same-cond}
-use Rattle.vdp.specs.declared.Refusal.{Refusal}
-use Rattle.vdp.specs.Refusals.{refusalNumber, first}
-use Rattle.tiles.specs.Calls.{readTileLines, writeTileLines, readTileRefusal, writeTileRefusal, unless, tileWritten, tileRead, WriteLeaves}
-use Rattle.tiles.specs.Calls.{ReadLeaves}
+use Rattle.refusal.specs.declared.Refusal.{Refusal}
+use Rattle.refusal.specs.Refusals.{refusalNumber, first}
+use Rattle.tile_codes.specs.Calls.{readTileLines, writeTileLines, readTileRefusal, writeTileRefusal, unless, tileWritten, tileRead, WriteLeaves}
+use Rattle.tile_codes.specs.Calls.{ReadLeaves}
 use Rattle.face.specs.Face.{Leaves}
 use Rattle.face.specs.Refused.{refusalIn, LeftBehind}
 use Rattle.face.specs.Tiles.{writeTileCall, readTileCall}

@@ -11,16 +11,17 @@ use Rattle.picture.specs.Area.{areaFrom}
 use Rattle.raster.specs.Raster.{lineTableFrom}
 use Rattle.vdp.specs.declared.VdpState.{VdpState}
 use Rattle.vdp.specs.declared.ReadBack.{ReadBack}
-use Rattle.vdp.specs.declared.Refusal.{Refusal}
-use Rattle.vdp.specs.declared.Refusal.the-variants.{Accepted, BlockMalformed, UnknownArea}
+use Rattle.refusal.specs.declared.Refusal.{Refusal}
+use Rattle.refusal.specs.declared.Refusal.the-variants.{Accepted, BlockMalformed, UnknownArea}
 use Rattle.vdp.specs.Device.{made}
-use Rattle.vdp.specs.Refusals.{refusalNumber}
+use Rattle.refusal.specs.Refusals.{refusalNumber}
 use Rattle.vdp.specs.Ports.{portWrite, portRead}
 use Rattle.block.specs.Block.{fits, wellFormed, stateOf, blockOf}
 use Rattle.word.specs.Word.{stepWord}
 use Rattle.step.specs.declared.Stepped.{Stepped}
 use Rattle.step.specs.Step.{rowStep, frameStep}
-use Rattle.step.specs.Dump.{dumpRefusal, dumpAfter}
+use Rattle.dump.specs.Sheet.{dumpRefusal}
+use Rattle.step.specs.Dump.{dumpAfter}
 use Rattle.step.specs.Frame.{rowAfter, frameAfter}
 
 -- What a call answers and leaves: its word, the block, and the bytes of the one other buffer that it may write (video memory of a port write, pixels of a

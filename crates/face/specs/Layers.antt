@@ -9,11 +9,12 @@ use lib.ListN.{length}
 use Rattle.picture.specs.declared.RenderArea.{RenderArea}
 use Rattle.picture.specs.Area.{screenOf, areaFrom, columns}
 use Rattle.vdp.specs.declared.VdpState.{VdpState}
-use Rattle.vdp.specs.Refusals.{Line, under}
+use Rattle.refusal.specs.Refusals.{Line, under}
 use Rattle.block.specs.Block.{wellFormed, stateOf}
 use Rattle.step.specs.Step.{rowLines, frameLines, readingOf, stepWith}
-use Rattle.step.specs.Bytes.{rowFilled, frameFilled}
-use Rattle.step.specs.Layers.{alsoLayers, layersAfter}
+use Rattle.points.specs.Bytes.{rowFilled, frameFilled}
+use Rattle.points.specs.Bytes.{alsoLayers}
+use Rattle.step.specs.Layers.{layersAfter}
 use Rattle.face.specs.Face.{Called, onBlock, onArea, steppedTo, Leaves}
 
 -- the lines that such a step can meet in an area, where `lines` are those of the step without layers: 16 comes last

@@ -5,8 +5,8 @@ use mathlib.Core.List.{List}
 use Prim.Native.Nat.{ℕ, _+_, _*_}
 use lib.Dec.{leb}
 use Rattle.picture.specs.Area.{areaFrom}
-use Rattle.vdp.specs.declared.Refusal.the-variants.{BlockMalformed, UnknownArea}
-use Rattle.vdp.specs.Refusals.{refusalNumber}
+use Rattle.refusal.specs.declared.Refusal.the-variants.{BlockMalformed, UnknownArea}
+use Rattle.refusal.specs.Refusals.{refusalNumber}
 use Rattle.block.specs.Block.{wellFormed, stateOf}
 use Rattle.step.specs.declared.Pixel.{Pixel}
 use Rattle.step.specs.Pixel.{pixelOf}

@@ -3,11 +3,11 @@
 use mathlib.Core.List.{List, []}
 use Prim.Native.Nat.{ℕ, _+_, _*_}
 use Rattle.laws.specs.Lists.{written}
-use Rattle.vdp.specs.Refusals.{under}
-use Rattle.record.specs.declared.Record.{Record}
-use Rattle.record.specs.declared.Record.the-variants.{Write, Read, Step, Bad, End}
-use Rattle.record.specs.Record.{recordAt}
-use Rattle.record.specs.Writer.{areaNumber, recordBytes, size, recordLines}
+use Rattle.refusal.specs.Refusals.{under}
+use Rattle.trace_record.specs.declared.Record.{Record}
+use Rattle.trace_record.specs.declared.Record.the-variants.{Write, Read, Step, Bad, End}
+use Rattle.trace_record.specs.Record.{recordAt}
+use Rattle.trace_record.specs.Writer.{areaNumber, recordBytes, size, recordLines}
 use Rattle.face.specs.Face.{Called, refused, onArea}
 
 -- the number of bytes written stands from bit 8 on; the buffer that may be written is the recording s, and k the place in it

@@ -7,11 +7,12 @@ use mathlib.Core.List.{List, [], _∷_}
 use Prim.Native.Nat.{ℕ, _%_, _<_}
 use lib.Dec.{leb}
 use lib.ListN.{length, set}
-use Rattle.vdp.specs.declared.Refusal.the-variants.{BlockMalformed, UnknownArea}
-use Rattle.vdp.specs.Refusals.{Line, line, writeLines, readLines}
+use Rattle.refusal.specs.declared.Refusal.the-variants.{BlockMalformed, UnknownArea}
+use Rattle.refusal.specs.Refusals.{Line, line}
+use Rattle.vdp.specs.Refusals.{writeLines, readLines}
 use Rattle.raster.specs.Raster.{lineTableFrom}
 use Rattle.block.specs.Block.{fits, wellFormed, stateOf}
-use Rattle.step.specs.Dump.{dumpLines}
+use Rattle.dump.specs.Sheet.{dumpLines}
 use Rattle.face.specs.Face.{Called}
 
 -- R7.7: the refusal is the word's low byte

@@ -4,8 +4,8 @@ use mathlib.Core.List.{List}
 use Prim.Native.Nat.{ℕ, _*_}
 use lib.ListN.{length}
 use Rattle.laws.specs.Lists.{written}
-use Rattle.vdp.specs.Refusals.{under}
-use Rattle.salvage.specs.Repair.{mended, changes, repairLines}
+use Rattle.refusal.specs.Refusals.{under}
+use Rattle.block_repair.specs.Repair.{mended, changes, repairLines}
 use Rattle.face.specs.Face.{Called, refused}
 
 unfoldable pub repairCall : List ℕ → List ℕ → Called

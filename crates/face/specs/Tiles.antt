@@ -4,8 +4,8 @@
 use mathlib.Core.List.{List, []}
 use Prim.Native.Nat.{ℕ}
 use lib.ListN.{length}
-use Rattle.vdp.specs.Refusals.{refusalNumber}
-use Rattle.tiles.specs.Calls.{readTileRefusal, writeTileRefusal, tileWritten, tileRead}
+use Rattle.refusal.specs.Refusals.{refusalNumber}
+use Rattle.tile_codes.specs.Calls.{readTileRefusal, writeTileRefusal, tileWritten, tileRead}
 use Rattle.face.specs.Face.{Called}
 
 -- the buffer that it may write is video memory

@@ -3,7 +3,7 @@ ghost use mathlib.Core.List.{[]};
 ghost use mathlib.Core.Path.{_≡_};
 ghost use mathlib.Core.Bool.{cond};
 ghost use Prim.Native.Nat.{ℕ, _+_, _*_, _≤_, _<_};
-ghost use Rattle.vdp.specs.Refusals.{refusalNumber};
+ghost use Rattle.refusal.specs.Refusals.{refusalNumber};
 ghost use lib.ListN.{length};
 ghost use Rattle.laws.specs.Lists.{at};
 ghost use Rattle.vdp.specs.declared.VdpState.{VdpState};
@@ -12,16 +12,16 @@ ghost use Rattle.step.specs.Step.{coloursNow, cleaned, joined};
 ghost use Rattle.face.specs.Tiles.{writeTileCall, readTileCall};
 ghost use Rattle.face.specs.Face.{newTableCall, newCall, outCall, inputCall, stepCall, rowStepCall, dumpCall, Leaves};
 ghost use Rattle.face.specs.Layers.{LayerRowLeaves, LayerFrameLeaves};
-ghost use Rattle.record.specs.declared.Record.the-variants.{Write, Read};
+ghost use Rattle.trace_record.specs.declared.Record.the-variants.{Write, Read};
 ghost use Rattle.face.specs.Record.{recordCall, recordStepCall, bytesWord, nextCall};
 ghost use Rattle.face.specs.Repair.{repairCall};
 ghost use Rattle.face.specs.Version.{version};
 ghost use Rattle.face.specs.Pixel.{pixelBits, pixelCall};
-use record::Record;
-use record::Recorded;
-use step::DrawnRow;
-use step::Points;
-use vdp::Refusal;
+use points::DrawnRow;
+use points::Points;
+use refusal::Refusal;
+use trace_record::Record;
+use trace_record::Recorded;
 use vdp::VdpState;
 
 // A fresh device of this table into the block, in the version that the block's length tells.
@@ -123,11 +123,11 @@ pub extern "C" fn vdp_step(state: &mut [u8], vram: &[u8], frame: &mut [u8], area
     if !block::well_formed(state) {
         return word::number(Refusal::BlockMalformed);
     }
-    if 2 < area {
+    if picture::LAST_AREA < area {
         return word::number(Refusal::UnknownArea);
     }
     let colours = colours_of(state);
-    let points = step::frame_points(
+    let points = points::frame_points(
         block::registers(state),
         block::raster_in(state),
         state[2],
@@ -148,11 +148,11 @@ pub extern "C" fn vdp_row_step(state: &mut [u8], vram: &[u8], row: &mut [u8], ar
     if !block::well_formed(state) {
         return word::number(Refusal::BlockMalformed);
     }
-    if 2 < area {
+    if picture::LAST_AREA < area {
         return word::number(Refusal::UnknownArea);
     }
     let colours = colours_of(state);
-    let points = step::row_points(
+    let points = points::row_points(
         block::registers(state),
         block::raster_in(state),
         state[2],
@@ -179,11 +179,11 @@ pub extern "C" fn vdp_layer_step(
     if !block::well_formed(state) {
         return word::number(Refusal::BlockMalformed);
     }
-    if 2 < area {
+    if picture::LAST_AREA < area {
         return word::number(Refusal::UnknownArea);
     }
     let colours = colours_of(state);
-    let points = step::layer_frame_points(
+    let points = points::layer_frame_points(
         block::registers(state),
         block::raster_in(state),
         state[2],
@@ -211,11 +211,11 @@ pub extern "C" fn vdp_layer_row_step(
     if !block::well_formed(state) {
         return word::number(Refusal::BlockMalformed);
     }
-    if 2 < area {
+    if picture::LAST_AREA < area {
         return word::number(Refusal::UnknownArea);
     }
     let colours = colours_of(state);
-    let points = step::layer_row_points(
+    let points = points::layer_row_points(
         block::registers(state),
         block::raster_in(state),
         state[2],
@@ -255,7 +255,7 @@ pub extern "C" fn vdp_version() -> u32
 pub extern "C" fn vdp_write_tile(vram: &mut [u8], tile: u16, codes: &[u8]) -> u32
     ensures { λ r. ⌜ Leaves (writeTileCall (now (vram .entry)) tile (now (codes .entry))) r [] (now (vram .exit)) ⌝ }
 {
-    word::number(tiles::write_tile(vram, tile, codes))
+    word::number(tile_codes::write_tile(vram, tile, codes))
 }
 
 // The 64 codes of a tile; video memory is only read.
@@ -263,7 +263,7 @@ pub extern "C" fn vdp_write_tile(vram: &mut [u8], tile: u16, codes: &[u8]) -> u3
 pub extern "C" fn vdp_read_tile(vram: &[u8], tile: u16, codes: &mut [u8]) -> u32
     ensures { λ r. ⌜ Leaves (readTileCall (now (vram .entry)) tile (now (codes .entry))) r [] (now (codes .exit)) ⌝ }
 {
-    word::number(tiles::read_tile(vram, tile, codes))
+    word::number(tile_codes::read_tile(vram, tile, codes))
 }
 
 // ---- one pixel
@@ -306,7 +306,7 @@ pub extern "C" fn vdp_pixel(state: &[u8], vram: &[u8], area: u8, row: u32, colum
     if !block::well_formed(state) {
         return long(word::number(Refusal::BlockMalformed));
     }
-    if 2 < area {
+    if picture::LAST_AREA < area {
         return long(word::number(Refusal::UnknownArea));
     }
     let raster = block::raster_in(state);
@@ -327,7 +327,7 @@ pub extern "C" fn vdp_pixel(state: &[u8], vram: &[u8], area: u8, row: u32, colum
 pub extern "C" fn vdp_repair(state: &mut [u8], list: &mut [u8]) -> u32
     ensures { λ r. ⌜ Leaves (repairCall (now (state .entry)) (now (list .entry))) r (now (state .exit)) (now (list .exit)) ⌝ }
 {
-    let repaired = salvage::repair(state, list);
+    let repaired = block_repair::repair(state, list);
     let refusal = repaired.refusal;
     word::number(refusal) + 256 * (repaired.count as u32)
 }
@@ -347,7 +347,7 @@ fn recorded_word(recorded: Recorded) -> u32
 pub extern "C" fn vdp_record_out(recording: &mut [u8], used: usize, port: u8, value: u8) -> u32
     ensures { λ r. ⌜ Leaves (recordCall (now (recording .entry)) used (Write port value)) r [] (now (recording .exit)) ⌝ }
 {
-    recorded_word(record::put_record(recording, used, Record::Write(port, value)))
+    recorded_word(trace_record::put_record(recording, used, Record::Write(port, value)))
 }
 
 // A port read.
@@ -355,7 +355,7 @@ pub extern "C" fn vdp_record_out(recording: &mut [u8], used: usize, port: u8, va
 pub extern "C" fn vdp_record_input(recording: &mut [u8], used: usize, port: u8) -> u32
     ensures { λ r. ⌜ Leaves (recordCall (now (recording .entry)) used (Read port)) r [] (now (recording .exit)) ⌝ }
 {
-    recorded_word(record::put_record(recording, used, Record::Read(port)))
+    recorded_word(trace_record::put_record(recording, used, Record::Read(port)))
 }
 
 // A step.
@@ -363,11 +363,11 @@ pub extern "C" fn vdp_record_input(recording: &mut [u8], used: usize, port: u8) 
 pub extern "C" fn vdp_record_step(recording: &mut [u8], used: usize, area: u8) -> u32
     ensures { λ r. ⌜ Leaves (recordStepCall (now (recording .entry)) used area) r [] (now (recording .exit)) ⌝ }
 {
-    if 2 < area {
+    if picture::LAST_AREA < area {
         return word::number(Refusal::UnknownArea);
     }
     let step = Record::Step(picture::area_from(area));
-    recorded_word(record::put_record(recording, used, step))
+    recorded_word(trace_record::put_record(recording, used, step))
 }
 
 // Four bytes as a word, the first lowest.
@@ -382,10 +382,10 @@ fn bytes_word(a: u8, b: u8, c: u8, d: u8) -> u32
 pub extern "C" fn vdp_record_next(recording: &[u8], at: usize) -> u32
     ensures { λ r. ⌜ r ≡ nextCall (now (recording .entry)) at ⌝ }
 {
-    match record::record_at(recording, at) {
+    match trace_record::record_at(recording, at) {
         Record::Write(port, value) => bytes_word(1, port, value, 4),
         Record::Read(port) => bytes_word(2, port, 0, 3),
-        Record::Step(area) => bytes_word(3, record::area_number(area), 0, 3),
+        Record::Step(area) => bytes_word(3, trace_record::area_number(area), 0, 3),
         Record::Bad => 4,
         Record::End => 0,
     }

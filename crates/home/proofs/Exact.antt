@@ -7,14 +7,14 @@ use mathlib.Core.Logic.{_≢_}
 use mathlib.Core.List.{List, []}
 use native.Mathlib.Omega.{arith}
 use Rattle.laws.proofs.Tests.{either, cond-in}
-use Rattle.vdp.specs.declared.Refusal.the-variants.{Accepted}
-use Rattle.vdp.specs.Refusals.{first}
-use Rattle.vdp.specs.Ports.{frontWrite}
-use Rattle.vdp.proofs.Exact.{front-write-exact, front-read-exact}
-use Rattle.vdp.proofs.Behind.{front-write-behind, front-read-behind}
-use Rattle.vdp.proofs.Invariant.{front-write-inside, front-read-inside}
-use Rattle.vdp.proofs.Kept.{write-kept}
-use Rattle.vdp.proofs.Tables.{first-not}
+use Rattle.refusal.specs.declared.Refusal.the-variants.{Accepted}
+use Rattle.refusal.specs.Refusals.{first}
+use Rattle.front.specs.Ports.{frontWrite}
+use Rattle.front.proofs.Exact.{front-write-exact, front-read-exact}
+use Rattle.front.proofs.Behind.{front-write-behind, front-read-behind}
+use Rattle.front.proofs.Invariant.{front-write-inside, front-read-inside}
+use Rattle.front.proofs.Kept.{write-kept}
+use Rattle.refusal.proofs.Tables.{first-not}
 use Rattle.home.specs.declared.HomeState.{HomeState}
 use Rattle.home.specs.declared.HomeWritten.{HomeWritten}
 use Rattle.home.specs.declared.HomeRead.{HomeRead}

@@ -14,9 +14,10 @@ use borrow.Author.Tests.{eqb-true, not-false}
 use Rattle.laws.specs.Lists.{at}
 use Rattle.laws.proofs.Tests.{either, neither}
 use Rattle.colour.specs.Home.{homeColoursOf}
-use Rattle.vdp.specs.Ports.{frontWrite, changed}
-use Rattle.vdp.proofs.Invariant.{front-write-aimed, front-read-aimed}
-use Rattle.vdp.proofs.Kept.{write-kept, read-registers}
+use Rattle.front.specs.Ports.{frontWrite}
+use Rattle.front.specs.Front.{changed}
+use Rattle.front.proofs.Invariant.{front-write-aimed, front-read-aimed}
+use Rattle.front.proofs.Kept.{write-kept, read-registers}
 use Rattle.home.specs.declared.HomeState.{HomeState}
 use Rattle.home.specs.declared.HomeWritten.{HomeWritten}
 use Rattle.home.specs.Ports.{stored, portWrite, portRead}

@@ -14,15 +14,15 @@ use Rattle.picture.specs.declared.Screen.the-variants.{Home}
 use Rattle.picture.specs.Screen.{rowSize, frameSize}
 use Rattle.raster.specs.declared.Raster.{Raster}
 use Rattle.raster.specs.Raster.{advanced, lineInterrupt, counted, ticked}
-use Rattle.vdp.specs.declared.Refusal.the-variants.{Accepted}
-use Rattle.vdp.specs.Front.{front}
-use Rattle.vdp.specs.Refusals.{Line, first}
-use Rattle.vdp.proofs.Tables.{Passed, Refusing, under-either, under-passed, under-refused, passed}
-use Rattle.step.specs.declared.VdpInt.the-variants.{NoInterrupt, InterruptGenerated}
-use Rattle.step.specs.declared.DrawnRow.{DrawnRow}
-use Rattle.step.specs.declared.DrawnRow.the-variants.{NoRow, Drawn}
-use Rattle.step.specs.Points.{rowOn, reportBy, interruptBy, pointsOf, rowLines, frameLines}
-use Rattle.step.proofs.Laws as Points
+use Rattle.refusal.specs.declared.Refusal.the-variants.{Accepted}
+use Rattle.front.specs.Front.{front}
+use Rattle.refusal.specs.Refusals.{Line, first}
+use Rattle.refusal.proofs.Tables.{Passed, Refusing, under-either, under-passed, under-refused, passed}
+use Rattle.points.specs.declared.VdpInt.the-variants.{NoInterrupt, InterruptGenerated}
+use Rattle.points.specs.declared.DrawnRow.{DrawnRow}
+use Rattle.points.specs.declared.DrawnRow.the-variants.{NoRow, Drawn}
+use Rattle.points.specs.Points.{rowOn, reportBy, interruptBy, pointsOf, rowLines, frameLines}
+use Rattle.points.proofs.Laws as Points
 use Rattle.home.specs.declared.HomeState.{HomeState}
 use Rattle.home.specs.declared.HomeStepped.{HomeStepped}
 use Rattle.home.specs.Home.{home, withRaster, withStatus}

@@ -1,25 +1,18 @@
--- The home machine's step from its points, and its tile dump, case by case.
+-- The home machine's step from its points.
 -- Assumes nothing.
 use mathlib.Core.Path.{_≡_, refl, ap, _∙_}
-use mathlib.Core.Logic.{_≢_}
 use mathlib.Core.List.{List, [], _∷_}
 use Prim.Native.Nat.{ℕ}
-use borrow.Author.Tests.{eq-eqb, ne-eqb}
-use lib.ListN.{length}
 use Rattle.laws.proofs.Tests.{split}
-use Rattle.dump.specs.Dump.{dumped}
 use Rattle.picture.specs.declared.Screen.the-variants.{Home}
 use Rattle.raster.specs.declared.Raster.{Raster}
-use Rattle.vdp.specs.declared.Refusal.the-variants.{Accepted, VramLength, PixelLength}
-use Rattle.vdp.specs.Refusals.{Line}
-use Rattle.step.specs.declared.Points.{Points}
-use Rattle.step.specs.Points.{Reading, reading, pointsWith}
-use Rattle.step.specs.Bytes.{RowPointsLeave, FramePointsLeave}
-use Rattle.step.specs.Dump.{dumpRefusal}
+use Rattle.refusal.specs.Refusals.{Line}
+use Rattle.points.specs.declared.Points.{Points}
+use Rattle.points.specs.Points.{Reading, reading, pointsWith}
+use Rattle.points.specs.Bytes.{RowPointsLeave, FramePointsLeave}
 use Rattle.home.specs.declared.HomeState.{HomeState}
 use Rattle.home.specs.declared.HomeStepped.{HomeStepped}
 use Rattle.home.specs.Step.{coloursNow, readingOf, joined, stepped, stepWith, rowAfter, frameAfter, RowStepLeaves, FrameStepLeaves}
-use Rattle.home.specs.Dump.{dumpAfter, DumpLeaves}
 
 -- ---- the step is `joined` of its points, refused or not
 joined-with : (ls : List Line) (vram : List ℕ) (h : HomeState) → joined h (pointsWith ls Home vram (readingOf h)) ≡ stepWith ls vram h
@@ -46,26 +39,3 @@ module _ (vram : List ℕ) (h : HomeState) {k : Reading} (ek : k ≡ readingOf h
     pub frame-joined : FramePointsLeave Home vram k b p b′ → FrameStepLeaves vram h b s b′
     unfolding frameAfter
     frame-joined e = record { answer = answered _ (e .answer); bytes = e .bytes ∙ rw ek }
-
--- ---- the tile dump
-module _ (h : HomeState) (vram pixels : List ℕ) where
-  pub dump-refuses-8 : length vram ≢ 16384 → DumpLeaves h vram pixels VramLength pixels
-  unfolding dumpRefusal dumpAfter
-  dump-refuses-8 n = let t = ne-eqb (length vram) 16384 n in record { refusal = rw t; bytes = rw t }
-
-  module _ (mem : length vram ≡ 16384) where
-    pub dump-refuses-9 : length pixels ≢ 131072 → DumpLeaves h vram pixels PixelLength pixels
-    unfolding dumpRefusal dumpAfter
-    dump-refuses-9 n =
-        let t = eq-eqb (length vram) 16384 mem in
-        let u = ne-eqb (length pixels) 131072 n in
-        record { refusal = rw (t, u); bytes = rw (t, u) }
-
-    pub dump-done :
-        {cs pixels′ : List ℕ} → length pixels ≡ 131072 → cs ≡ h .«color_cache» → pixels′ ≡ dumped vram (h .front .reg) cs pixels →
-        DumpLeaves h vram pixels Accepted pixels′
-    unfolding dumpRefusal dumpAfter
-    dump-done n ec e =
-        let t = eq-eqb (length vram) 16384 mem in
-        let u = eq-eqb (length pixels) 131072 n in
-        record { refusal = rw (t, u); bytes = rw (t, u, e, ec) }

@@ -2,14 +2,14 @@
 -- Assumes nothing.
 use Prim.Native.Nat.{ℕ}
 use mathlib.Core.List.{List}
-use mathlib.Core.Bool.{Bool, false}
+use mathlib.Core.Bool.{Bool, true, false}
 use lib.ListN.{replicate}
 use Rattle.raster.specs.declared.Raster.{Raster}
 use Rattle.raster.specs.declared.LineTable.{LineTable}
 use Rattle.raster.specs.declared.LineTable.the-variants.{Steps262}
-use Rattle.vdp.specs.declared.Front.{Front}
-use Rattle.vdp.specs.Front.{front, choosing}
-use Rattle.vdp.specs.Device as Handheld
+use Rattle.front.specs.declared.Front.{Front}
+use Rattle.raster.specs.Raster.{freshRaster}
+use Rattle.front.specs.Front.{freshFront, front, choosing}
 use Rattle.home.specs.declared.HomeState.{HomeState}
 
 -- R20.2: the bytes of the palette
@@ -20,11 +20,9 @@ paletteSize = 32
 abbrev pub home : Front → Raster → List ℕ → Bool → List ℕ → HomeState
 home f raster cram dirty cache = record { front = f; raster = raster; cram = cram; «cram_dirty» = dirty; «color_cache» = cache }
 
--- R3.2: as it is made, with table t: as the handheld's is, with its own palette of zeros
+-- R3.2: as it is made, with table t
 abbrev pub made : LineTable → HomeState
-made t =
-    let d = Handheld.made t in
-    home (Handheld.frontOf d) (d .raster) (replicate paletteSize 0) (d .«cram_dirty») (d .«color_cache»)
+made t = home freshFront (freshRaster t) (replicate paletteSize 0) true (replicate 32 0)
 
 -- with no table named, table 1
 abbrev pub fresh : HomeState

@@ -6,11 +6,13 @@ use mathlib.Core.List.{List, []}
 use mathlib.Core.Bool.{cond, _||_}
 use lib.ListN.{set}
 use Rattle.laws.specs.Lists.{at}
-use Rattle.vdp.specs.declared.FrontWritten.{FrontWritten}
-use Rattle.vdp.specs.declared.Refusal.{Refusal}
-use Rattle.vdp.specs.declared.Refusal.the-variants.{Accepted}
-use Rattle.vdp.specs.Refusals.{leftBehind, Line, frontWriteLines, frontReadLines}
-use Rattle.vdp.specs.Ports.{frontWrite, frontRead, changed}
+use Rattle.front.specs.declared.FrontWritten.{FrontWritten}
+use Rattle.refusal.specs.declared.Refusal.{Refusal}
+use Rattle.refusal.specs.declared.Refusal.the-variants.{Accepted}
+use Rattle.refusal.specs.Refusals.{Line}
+use Rattle.front.specs.Lines.{leftBehind, frontWriteLines, frontReadLines}
+use Rattle.front.specs.Ports.{frontWrite, frontRead}
+use Rattle.front.specs.Front.{changed}
 use Rattle.home.specs.declared.HomeState.{HomeState}
 use Rattle.home.specs.declared.HomeWritten.{HomeWritten}
 use Rattle.home.specs.declared.HomeRead.{HomeRead}

@@ -3,7 +3,8 @@
 use Prim.Native.Nat.{ℕ, _<_}
 use mathlib.Core.Logic.{_≢_}
 use mathlib.Core.List.{List}
-use Rattle.vdp.specs.Refusals.{refusalNumber, sizeOf}
+use Rattle.refusal.specs.Refusals.{refusalNumber}
+use Rattle.front.specs.Lines.{sizeOf}
 use Rattle.home.specs.declared.HomeState.{HomeState}
 use Rattle.home.specs.Home.{paletteSize}
 use Rattle.home.specs.Ports.{portWrite, portRead}

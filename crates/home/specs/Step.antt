@@ -11,16 +11,16 @@ use Rattle.colour.specs.Home.{homeColoursOf}
 use Rattle.picture.specs.declared.Screen.the-variants.{Home}
 use Rattle.picture.specs.Picture.{Row}
 use Rattle.picture.specs.Screen.{columns, pictureOf, rowBytes}
-use Rattle.vdp.specs.declared.Refusal.{Refusal}
-use Rattle.vdp.specs.Refusals.{Line, under}
-use Rattle.step.specs.declared.VdpInt.the-variants.{NoInterrupt}
-use Rattle.step.specs.declared.DisplayRefresh.the-variants.{NoDisplay}
-use Rattle.step.specs.declared.DrawnRow.{DrawnRow}
-use Rattle.step.specs.declared.DrawnRow.the-variants.{NoRow, Drawn}
-use Rattle.step.specs.declared.Points.{Points}
-use Rattle.step.specs.Points.{Reading, reading, risen, rowLines, frameLines, pointsOf}
-use Rattle.step.specs.Bytes.{rowFilled, frameFilled}
-use Rattle.step.specs.Frame.{screenRow}
+use Rattle.refusal.specs.declared.Refusal.{Refusal}
+use Rattle.refusal.specs.Refusals.{Line, under}
+use Rattle.points.specs.declared.VdpInt.the-variants.{NoInterrupt}
+use Rattle.points.specs.declared.DisplayRefresh.the-variants.{NoDisplay}
+use Rattle.points.specs.declared.DrawnRow.{DrawnRow}
+use Rattle.points.specs.declared.DrawnRow.the-variants.{NoRow, Drawn}
+use Rattle.points.specs.declared.Points.{Points}
+use Rattle.points.specs.Points.{Reading, reading, risen, rowLines, frameLines, pointsOf}
+use Rattle.points.specs.Bytes.{rowFilled, frameFilled}
+use Rattle.points.specs.View.{screenRow}
 use Rattle.home.specs.declared.HomeState.{HomeState}
 use Rattle.home.specs.declared.HomeStepped.{HomeStepped}
 use Rattle.home.specs.Home.{withStatus, withRaster, withCache}

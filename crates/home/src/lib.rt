@@ -8,24 +8,18 @@ ghost use Rattle.home.specs.Home.{paletteSize, made, fresh, withFront, w
 ghost use Rattle.home.specs.Ports.{paletteWrite, WriteLeaves, portRead};
 ghost use Rattle.home.specs.Step.{coloursNow, cleaned, joined, RowStepLeaves, FrameStepLeaves, rowView};
 ghost use Rattle.home.specs.Dump.{DumpLeaves};
+use front::Front;
 use picture::Screen;
+use points::DisplayRefresh;
+use points::DrawnRow;
+use points::Points;
+use points::VdpInt;
 use raster::LineTable;
 use raster::Raster;
-use step::DisplayRefresh;
-use step::DrawnRow;
-use step::Points;
-use step::VdpInt;
-use vdp::Front;
-use vdp::Latch;
-use vdp::Refusal;
-use vdp::WriteDest;
+use refusal::Refusal;
 
-// The bytes of the palette, of video memory and of the sheet of all tiles.
+// The bytes of the palette.
 const PALETTE_SIZE: u16 = 32;
-
-const VRAM_SIZE: usize = 0x4000;
-
-const DUMP_SIZE: usize = 131072;
 
 // The device: what the ports work on, the raster, the palette and the cached colours.
 pub struct HomeState {
@@ -71,21 +65,8 @@ impl HomeState {
         ensures { λ r. ⌜ r ≡ made table ⌝ }
     {
         HomeState {
-            front: Front {
-                status: 0,
-                reg: [0, 0, 0xFF, 0xFF, 0xFF, 0xFF, 0xFF, 0, 0, 0, 1],
-                addr: 0,
-                vram_buffer: 0,
-                dest: WriteDest::None,
-                cmd_byte1: Latch::Empty,
-            },
-            raster: Raster {
-                v_counter: 0,
-                v_counter_jumped: false,
-                line_interrupt_counter: 0,
-                vertical_scroll: 0,
-                table: table,
-            },
+            front: Front::new(),
+            raster: Raster::with_table(table),
             cram: [0; 32],
             cram_dirty: true,
             color_cache: [0; 32],
@@ -245,7 +226,7 @@ pub fn row_step(home: HomeState, vram: &[u8], row: &mut [u8]) -> HomeStepped
     let reg = front.reg;
     let raster = home.raster;
     let colours = colours_of(home, home.cram_dirty);
-    let points = step::row_points(reg, raster, front.status, &colours, vram, row, Screen::Home);
+    let points = points::row_points(reg, raster, front.status, &colours, vram, row, Screen::Home);
     join(home, points, colours)
 }
 
@@ -257,7 +238,7 @@ pub fn frame_step(home: HomeState, vram: &[u8], frame: &mut [u8]) -> HomeStepped
     let reg = front.reg;
     let raster = home.raster;
     let colours = colours_of(home, home.cram_dirty);
-    let points = step::frame_points(
+    let points = points::frame_points(
         reg,
         raster,
         front.status,
@@ -273,22 +254,15 @@ pub fn frame_step(home: HomeState, vram: &[u8], frame: &mut [u8]) -> HomeStepped
 pub fn row_view<'a>(frame: &'a [u8], row: usize) -> &'a [u8]
     ensures { λ r. ⌜ now r ≡ rowView (now (frame .entry)) row ⌝ }
 {
-    step::screen_row(frame, Screen::Home, row)
+    points::screen_row(frame, Screen::Home, row)
 }
 
 // All tiles, side by side. It draws with the cache as it stands, and leaves the device.
 pub fn dump_tileset(home: HomeState, vram: &[u8], pixels: &mut [u8]) -> Refusal
     ensures { λ r. ⌜ DumpLeaves home (now (vram .entry)) (now (pixels .entry)) r (now (pixels .exit)) ⌝ }
 {
-    if vram.len() != VRAM_SIZE {
-        return Refusal::VramLength;
-    }
-    if pixels.len() != DUMP_SIZE {
-        return Refusal::PixelLength;
-    }
     let front = home.front;
     let reg = front.reg;
     let colours = colours_of(home, false);
-    dump::dump_tileset(pixels, vram, &colours, reg);
-    Refusal::Accepted
+    dump::dump_tileset(reg, &colours, vram, pixels)
 }

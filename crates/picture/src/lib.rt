@@ -2,6 +2,20 @@
 ghost use mathlib.Core.Path.{_≡_};
 ghost use Rattle.picture.specs.Area.{areaFrom, screenOf};
 
+// The last area that a number names; what lies above it is refused by 11.
+pub const LAST_AREA: u8 = 2;
+
+// The screens' columns and rows, and the first line of the visible ones.
+pub const GG_VISIBLE_PIXEL_WIDTH: usize = 160;
+
+pub const GG_VISIBLE_PIXEL_HEIGHT: usize = 144;
+
+pub const GG_VISIBLE_AREA_START_Y: usize = 24;
+
+pub const SCROLL_PIXEL_WIDTH: usize = 256;
+
+pub const SCROLL_PIXEL_HEIGHT: usize = 224;
+
 // What a step draws: the part that the screen shows, all that the chip makes, or the part that the screen shows with its edges by true columns.
 pub enum RenderArea {
     VisibleOnly,

@@ -6,9 +6,9 @@ use Prim.Native.Nat.{ℕ}
 use lib.Dec.{ltb}
 use Rattle.picture.specs.declared.RenderArea.{RenderArea}
 use Rattle.picture.specs.Area.{columns, rows, pictureOf}
-use Rattle.vdp.specs.declared.Refusal.{Refusal}
-use Rattle.vdp.specs.declared.Refusal.the-variants.{Accepted, VramLength}
-use Rattle.vdp.specs.Refusals.{whole, Line, line, under}
+use Rattle.refusal.specs.declared.Refusal.{Refusal}
+use Rattle.refusal.specs.declared.Refusal.the-variants.{Accepted, VramLength}
+use Rattle.refusal.specs.Refusals.{whole, Line, line, under}
 use Rattle.pixel.specs.declared.Spot.{Spot}
 
 -- R16.2: row y and column x are in the area

@@ -15,22 +15,15 @@ ghost use Rattle.background.specs.Background.{Room, backFront};
 ghost use Rattle.stand.specs.Stand.{standOf, Fits};
 ghost use Rattle.pixel.specs.Column.{Set, Clear, frontAt, offOf, aheadOf, backOf, reachOf, marksLeft, colourWith, Tied, Shows};
 ghost use Rattle.pixel.specs.Pixel.{inArea, noSpot, spotOf};
+use picture::GG_VISIBLE_AREA_START_Y;
+use picture::GG_VISIBLE_PIXEL_HEIGHT;
+use picture::GG_VISIBLE_PIXEL_WIDTH;
 use picture::RenderArea;
+use picture::SCROLL_PIXEL_HEIGHT;
+use picture::SCROLL_PIXEL_WIDTH;
 use picture::Stand;
-use vdp::Refusal;
-
-// The sizes that areas have, the first line of the visible ones, and the bytes of video memory.
-const GG_VISIBLE_PIXEL_WIDTH: usize = 160;
-
-const GG_VISIBLE_PIXEL_HEIGHT: usize = 144;
-
-const GG_VISIBLE_AREA_START_Y: usize = 24;
-
-const SCROLL_PIXEL_WIDTH: usize = 256;
-
-const SCROLL_PIXEL_HEIGHT: usize = 224;
-
-const VRAM_SIZE: usize = 0x4000;
+use refusal::Refusal;
+use small::VRAM_SIZE;
 
 // ---- the background
 

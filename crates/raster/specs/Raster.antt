@@ -8,6 +8,10 @@ use Rattle.raster.specs.declared.Raster.{Raster}
 use Rattle.raster.specs.declared.LineTable.{LineTable}
 use Rattle.raster.specs.declared.LineTable.the-variants.{Steps261, Steps262}
 
+-- R3.2: the raster of a fresh device that goes by table t
+abbrev pub freshRaster : LineTable → Raster
+freshRaster t = record { «v_counter» = 0; «v_counter_jumped» = false; «line_interrupt_counter» = 0; «vertical_scroll» = 0; table = t }
+
 -- R4.8: the numbers of the tables
 abbrev pub lineTableNumber : LineTable → ℕ
 lineTableNumber Steps261 = 0

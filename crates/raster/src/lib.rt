@@ -1,7 +1,7 @@
 // The raster: the line counter with its jump, the latched scroll, and the count of lines to the next line interrupt.
 ghost use mathlib.Core.Path.{_≡_};
 ghost use Rattle.laws.specs.Lists.{at};
-ghost use Rattle.raster.specs.Raster.{jumpLine, lineTableNumber, lineTableFrom, advanced, lineCount, lineInterrupt, counted};
+ghost use Rattle.raster.specs.Raster.{freshRaster, jumpLine, lineTableNumber, lineTableFrom, advanced, lineCount, lineInterrupt, counted};
 
 // The table that the counter goes by: how many steps a pass has.
 pub enum LineTable {
@@ -55,6 +55,19 @@ fn line_interrupt_load_start(r10: u8) -> u8
 }
 
 impl Raster {
+    // That of a fresh device that goes by this table (R3.2).
+    pub fn with_table(table: LineTable) -> Raster
+        ensures { λ r. ⌜ r ≡ freshRaster table ⌝ }
+    {
+        Raster {
+            v_counter: 0,
+            v_counter_jumped: false,
+            line_interrupt_counter: 0,
+            vertical_scroll: 0,
+            table: table,
+        }
+    }
+
     // R4.1: the counter goes up, and line 0 and the jump line do what they do.
     pub fn advance(self, reg: [u8; 11]) -> Raster
         ensures { λ r. ⌜ r ≡ advanced (at reg) self ⌝ }

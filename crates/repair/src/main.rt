@@ -1,6 +1,6 @@
 // Mends a damaged state block, or says `bad`; each byte that changes is told on standard error.
 use libc::STDERR_FILENO;
-use vdp::Refusal;
+use refusal::Refusal;
 
 // What stands at an offset of a block that a repair may change; answers as write_all does.
 fn tell_field(at: usize) -> bool {
@@ -50,7 +50,7 @@ fn tell_changes(old: &[u8], new: &[u8]) {
 // Writes the block mended, and tells what has changed since it was `old`.
 fn mend(old: &[u8], block: &mut [u8]) {
     let mut list = [0u8; 220];
-    let done = salvage::repair(block, &mut list);
+    let done = block_repair::repair(block, &mut list);
     let refusal = done.refusal;
     match refusal {
         Refusal::Accepted => {

@@ -15,19 +15,14 @@ ghost use Rattle.picture.specs.Layers.{layersOf, layersIn};
 ghost use Rattle.background.specs.Background.{Room, backColour, shade, prioTo};
 ghost use Rattle.row.specs.Row.{Drawn};
 use bitmap::Bitmap;
+use picture::GG_VISIBLE_AREA_START_Y;
+use picture::GG_VISIBLE_PIXEL_WIDTH;
+use picture::SCROLL_PIXEL_HEIGHT;
+use picture::SCROLL_PIXEL_WIDTH;
 use picture::Screen;
 use sprites::Line;
 
-// Width and first line of the visible area, with its own edges or with true ones; width and height of the map, which are those of the effective area
-// (and its width that of the home machine); the home machine's first column that register 0 can keep from scrolling down.
-const GG_VISIBLE_PIXEL_WIDTH: usize = 160;
-
-const GG_VISIBLE_AREA_START_Y: usize = 24;
-
-const SCROLL_PIXEL_WIDTH: usize = 256;
-
-const SCROLL_PIXEL_HEIGHT: usize = 224;
-
+// R20.5: the column from which register 0 bit 7 stops the vertical scroll.
 const HOME_LOCKED_X: usize = 192;
 
 // The status bits that a line of sprites sets: 5 where two pixels met, 6 where there was a ninth.

@@ -32,6 +32,6 @@ fn main() {
         return;
     }
     let n = taken.len;
-    let k = tiles::sheet(&input[..n], &mut out);
+    let k = tile_codes::sheet(&input[..n], &mut out);
     program::output(b"sheet", &out[..k]);
 }

@@ -1,8 +1,13 @@
-// Numbers and tests that every layer uses.
+// Numbers, sizes and tests that every layer uses.
 ghost use mathlib.Core.Path.{_≡_};
 ghost use mathlib.Core.Bool.{_&&_};
 ghost use Prim.Native.Nat.{ℕ, _*_, _<_, _≤_, min};
 ghost use Rattle.laws.specs.Bits.{bit, digit};
+
+// The bytes of video memory: as a length, and as the number of its addresses.
+pub const VRAM_SIZE: usize = 0x4000;
+
+pub const VRAM_ADDRESSES: u16 = 0x4000;
 
 // A byte as an index.
 pub fn wide(x: u8) -> usize

@@ -11,13 +11,15 @@ use borrow.Author.Tests.{eqb-true, not-false}
 use Rattle.laws.specs.Lists.{at}
 use Rattle.laws.proofs.Tests.{either, neither}
 use Rattle.colour.specs.Colour.{coloursOf}
-use Rattle.vdp.specs.declared.Front.{Front}
+use Rattle.front.specs.declared.Front.{Front}
 use Rattle.vdp.specs.declared.VdpState.{VdpState}
 use Rattle.vdp.specs.declared.Written.{Written}
-use Rattle.vdp.specs.declared.Latch.{Latch}
-use Rattle.vdp.specs.declared.Latch.the-variants.{Empty, Held}
+use Rattle.front.specs.declared.Latch.{Latch}
+use Rattle.front.specs.declared.Latch.the-variants.{Empty, Held}
 use Rattle.vdp.specs.Device.{frontOf, withFront}
-use Rattle.vdp.specs.Ports.{frontWrite, changed, stored, oddPalette, paletteWrite, portWrite, portRead}
+use Rattle.front.specs.Ports.{frontWrite}
+use Rattle.front.specs.Front.{changed}
+use Rattle.vdp.specs.Ports.{stored, oddPalette, paletteWrite, portWrite, portRead}
 
 -- the cached colours are the palette's whenever the record is not dirty
 abbrev pub Clean : VdpState → Type 0

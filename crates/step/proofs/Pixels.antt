@@ -21,21 +21,22 @@ use Rattle.raster.specs.declared.Raster.{Raster}
 use Rattle.raster.specs.Raster.{counted, ticked}
 use Rattle.row.specs.Row as rows-drawn
 use Rattle.vdp.specs.declared.VdpState.{VdpState}
-use Rattle.vdp.specs.declared.Refusal.the-variants.{Accepted, VramLength}
-use Rattle.vdp.specs.Refusals.{whole, first}
-use Rattle.vdp.proofs.Tables.{under-either}
+use Rattle.refusal.specs.declared.Refusal.the-variants.{Accepted, VramLength}
+use Rattle.refusal.specs.Refusals.{whole, first}
+use Rattle.refusal.proofs.Tables.{under-either}
 use Rattle.pixel.specs.declared.Spot.{Spot}
 use Rattle.pixel.specs.Pixel.{inArea, noSpot, pixelLines, spotOf}
 use Rattle.laws.proofs.Tests.{split}
-use Rattle.step.specs.declared.DrawnRow.the-variants.{Drawn}
+use Rattle.points.specs.declared.DrawnRow.the-variants.{Drawn}
 use Rattle.step.specs.declared.Pixel.{Pixel}
 use Rattle.step.specs.declared.Stepped.{Stepped}
-use Rattle.step.specs.Points.{rowOn, rowLines}
+use Rattle.points.specs.Points.{rowOn, rowLines}
 use Rattle.step.specs.Step.{lineOf, coloursNow, rowPicture, counterUp, refusedStep, stepped, stepWith}
 use Rattle.step.specs.Frame.{rowAfter, RowStepLeaves}
 use Rattle.step.specs.Pixel.{pixelOf}
-use Rattle.step.proofs.Rows.{row-low}
-use Rattle.step.proofs.Laws.{row-fits, row-step-here, stepped-row, stepped-reg, stepped-raster, stepped-cache, stepped-dirty}
+use Rattle.points.proofs.Rows.{row-low}
+use Rattle.points.proofs.Laws.{row-fits}
+use Rattle.step.proofs.Laws.{row-step-here, stepped-row, stepped-reg, stepped-raster, stepped-cache, stepped-dirty}
 
 same-refusal : (t : Bool) (c : ℕ) → cond {A = Spot} t (record { refusal = Accepted; there = true; colour = c }) (noSpot Accepted) .refusal ≡ Accepted
 same-refusal true c = refl

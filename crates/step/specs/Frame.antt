@@ -1,22 +1,17 @@
 -- R7.1 to R7.3: what a step of the device leaves in a row buffer and in a frame, and the view of a frame's row.
 -- Assumes nothing.
 use mathlib.Core.Path.{_≡_}
-use mathlib.Core.Bool.{cond}
-use mathlib.Core.List.{List, []}
+use mathlib.Core.List.{List}
 use Prim.Native.Nat.{ℕ}
-use lib.Dec.{ltb}
 use lib.ListN.{length}
-use Rattle.laws.specs.Lists.{rowOf}
 use Rattle.picture.specs.declared.RenderArea.{RenderArea}
-use Rattle.picture.specs.declared.Screen.{Screen}
-use Rattle.picture.specs.Screen.{rows, rowSize, frameSize}
 use Rattle.picture.specs.Area.{screenOf, columns, rowBytes}
 use Rattle.vdp.specs.declared.VdpState.{VdpState}
-use Rattle.vdp.specs.Refusals.{under}
+use Rattle.refusal.specs.Refusals.{under}
 use Rattle.step.specs.declared.Stepped.{Stepped}
-use Rattle.step.specs.Points.{exactly}
-use Rattle.step.specs.Bytes.{rowFilled, frameFilled}
+use Rattle.points.specs.Bytes.{rowFilled, frameFilled}
 use Rattle.step.specs.Step.{coloursNow, rowPicture, readingOf, rowLines, frameLines, rowStep, frameStep}
+use Rattle.points.specs.View.{screenRow}
 
 -- the bytes of row y, as a step draws it on the device d with its counter up
 abbrev pub drawnBytes : RenderArea → List ℕ → VdpState → ℕ → List ℕ
@@ -38,9 +33,6 @@ pub record FrameStepLeaves (a : RenderArea) (vram : List ℕ) (d : VdpState) (fr
   pub answer : r ≡ frameStep a vram (length frame) d
   pub bytes : frame′ ≡ frameAfter a vram d frame
 
--- R7.3: a row that the screen has, of a frame of its size; else nothing
-unfoldable pub screenRow : List ℕ → Screen → ℕ → List ℕ
-screenRow frame s y = cond (ltb y (rows s)) (under (exactly (frameSize s) (length frame)) (λ r. []) (rowOf (rowSize s) y frame)) []
-
+-- R7.3: the row of an area
 abbrev pub rowView : List ℕ → RenderArea → ℕ → List ℕ
 rowView frame a y = screenRow frame (screenOf a) y

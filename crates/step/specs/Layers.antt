@@ -7,12 +7,10 @@ use lib.ListN.{length}
 use Rattle.picture.specs.declared.RenderArea.{RenderArea}
 use Rattle.picture.specs.Area.{screenOf, layersOf}
 use Rattle.vdp.specs.declared.VdpState.{VdpState}
-use Rattle.vdp.specs.Refusals.{Line, under}
+use Rattle.refusal.specs.Refusals.{Line, under}
 use Rattle.step.specs.declared.Stepped.{Stepped}
-use Rattle.step.specs.Bytes.{rowFilled, frameFilled, layersUnder}
+use Rattle.points.specs.Bytes.{alsoLayers, rowFilled, frameFilled, layersUnder}
 use Rattle.step.specs.Step.{readingOf, rowLines, frameLines, stepWith}
--- the lines that it can meet
-unfoldable pub use Rattle.step.specs.Bytes.{alsoLayers}
 
 -- the layers of row y, for the device's registers and latched scroll and the video memory
 abbrev pub rowLayers : RenderArea → List ℕ → VdpState → ℕ → ℕ → ℕ

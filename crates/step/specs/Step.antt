@@ -9,19 +9,17 @@ use Rattle.picture.specs.declared.RenderArea.{RenderArea}
 use Rattle.picture.specs.Picture.{Row}
 use Rattle.picture.specs.Area.{screenOf, pictureOf}
 use Rattle.vdp.specs.declared.VdpState.{VdpState}
-use Rattle.vdp.specs.declared.Refusal.{Refusal}
+use Rattle.refusal.specs.declared.Refusal.{Refusal}
 use Rattle.vdp.specs.Device.{withRaster, withStatus, withCache}
-use Rattle.vdp.specs.Refusals.{Line, under}
-use Rattle.step.specs.declared.VdpInt.the-variants.{NoInterrupt}
-use Rattle.step.specs.declared.DisplayRefresh.the-variants.{NoDisplay}
-use Rattle.step.specs.declared.DrawnRow.{DrawnRow}
-use Rattle.step.specs.declared.DrawnRow.the-variants.{NoRow, Drawn}
-use Rattle.step.specs.declared.Points.{Points}
+use Rattle.refusal.specs.Refusals.{Line, under}
+use Rattle.points.specs.declared.VdpInt.the-variants.{NoInterrupt}
+use Rattle.points.specs.declared.DisplayRefresh.the-variants.{NoDisplay}
+use Rattle.points.specs.declared.DrawnRow.{DrawnRow}
+use Rattle.points.specs.declared.DrawnRow.the-variants.{NoRow, Drawn}
+use Rattle.points.specs.declared.Points.{Points}
 use Rattle.step.specs.declared.Stepped.{Stepped}
-use Rattle.step.specs.Points.{Reading, reading, risen, pointsOf}
-use Rattle.step.specs.Points as points
--- what others need beside the step, of its points
-unfoldable pub use Rattle.step.specs.Points.{interruptNumber, reportNumber}
+use Rattle.points.specs.Points.{Reading, reading, risen, pointsOf}
+use Rattle.points.specs.Points as points
 
 -- an area's, which are its screen's: the row of a line, and the lines of the table that a step can meet
 abbrev pub rowOn : RenderArea → ℕ → DrawnRow

@@ -9,11 +9,13 @@ use borrow.Author.Tests.{ltb-true, ltb-false}
 use lib.Dec.{ltb, lit≤}
 use lib.ListN.{length}
 use Rattle.laws.proofs.Tests.{split}
-use Rattle.vdp.specs.declared.Refusal.{Refusal}
-use Rattle.vdp.specs.declared.Refusal.the-variants.{Accepted, UnknownPort, HorizontalCounter, HighRegister, NothingChosen, PaletteRead, NoPaletteByte}
-use Rattle.vdp.specs.declared.Refusal.the-variants.{OutsideMemory, VramLength, PixelLength, BlockMalformed, UnknownArea, FrameTooLong, UnknownTile}
-use Rattle.vdp.specs.declared.Refusal.the-variants.{CodesLength, HighCode, LayerLength, ListLength, RecordRoom}
-use Rattle.vdp.specs.Refusals.{refusalNumber}
+use Rattle.refusal.specs.declared.Refusal.{Refusal}
+use Rattle.refusal.specs.declared.Refusal.the-variants.{Accepted, UnknownPort, HorizontalCounter, HighRegister, NothingChosen, PaletteRead}
+use Rattle.refusal.specs.declared.Refusal.the-variants.{NoPaletteByte}
+use Rattle.refusal.specs.declared.Refusal.the-variants.{OutsideMemory, VramLength, PixelLength, BlockMalformed, UnknownArea, FrameTooLong}
+use Rattle.refusal.specs.declared.Refusal.the-variants.{UnknownTile}
+use Rattle.refusal.specs.declared.Refusal.the-variants.{CodesLength, HighCode, LayerLength, ListLength, RecordRoom}
+use Rattle.refusal.specs.Refusals.{refusalNumber}
 use Rattle.trace_run.specs.declared.Device.{Device}
 use Rattle.trace_text.specs.Text.{digitOf, decimal}
 use Rattle.trace_run.specs.Run.{start, rowTurn, ran}

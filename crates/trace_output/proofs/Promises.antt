@@ -10,13 +10,13 @@ use lib.Dec.{leb}
 use lib.ListN.{length, length-append}
 use Rattle.laws.proofs.Tests.{either, split, clash}
 use Rattle.picture.specs.declared.RenderArea.{RenderArea}
-use Rattle.record.specs.declared.Record.{Record}
-use Rattle.record.specs.declared.Record.the-variants.{Write, Read, Step, Bad, End}
-use Rattle.record.specs.Record.{recordAt}
-use Rattle.record.specs.Writer.{recordBytes, size}
-use Rattle.record.specs.Reader.{isCall, past, handed, place, records, stop}
-use Rattle.record.specs.Promises.{allBytes}
-use Rattle.record.proofs.Promises.{place-stays}
+use Rattle.trace_record.specs.declared.Record.{Record}
+use Rattle.trace_record.specs.declared.Record.the-variants.{Write, Read, Step, Bad, End}
+use Rattle.trace_record.specs.Record.{recordAt}
+use Rattle.trace_record.specs.Writer.{recordBytes, size}
+use Rattle.trace_record.specs.Reader.{isCall, past, handed, place, records, stop}
+use Rattle.trace_record.specs.Promises.{allBytes}
+use Rattle.trace_record.proofs.Promises.{place-stays}
 use Rattle.trace_run.specs.declared.Machine.{Machine}
 use Rattle.trace_run.specs.declared.Machine.the-variants.{Handheld}
 use Rattle.trace_run.specs.Device.{handheld}

@@ -15,21 +15,22 @@ use Rattle.picture.specs.Screen.{rowSize, frameSize}
 use Rattle.picture.specs.Area.{screenOf, columns}
 use Rattle.vdp.specs.Device.{frontOf}
 use Rattle.vdp.specs.Ports.{portWrite}
-use Rattle.vdp.proofs.Tables.{Passed}
-use Rattle.vdp.proofs.Kept.{write-kept}
-use Rattle.step.specs.declared.DrawnRow.{DrawnRow}
-use Rattle.step.specs.declared.DrawnRow.the-variants.{NoRow, Drawn}
+use Rattle.refusal.proofs.Tables.{Passed}
+use Rattle.front.proofs.Kept.{write-kept}
+use Rattle.points.specs.declared.DrawnRow.{DrawnRow}
+use Rattle.points.specs.declared.DrawnRow.the-variants.{NoRow, Drawn}
 use Rattle.step.specs.declared.Stepped.{Stepped}
-use Rattle.step.specs.Points.{rowLines, frameLines}
+use Rattle.points.specs.Points.{rowLines, frameLines}
 use Rattle.step.specs.Step.{counterUp, stepped, rowStep}
 use Rattle.step.specs.Layers.{rowLayers}
-use Rattle.step.proofs.Laws.{step-accepted, row-passes, frame-passes, row-step-length, frame-step-length}
+use Rattle.points.proofs.Laws.{row-passes, frame-passes}
+use Rattle.step.proofs.Laws.{step-accepted, row-step-length, frame-step-length}
 use Rattle.home.specs.declared.HomeStepped.{HomeStepped}
 use Rattle.home.specs.Step as homeStep
 use Rattle.home.proofs.Kept as homeKept
 use Rattle.home.proofs.Laws as homeLaws
-use Rattle.record.specs.declared.Record.{Record}
-use Rattle.record.specs.declared.Record.the-variants.{Write, Read, Step, Bad, End}
+use Rattle.trace_record.specs.declared.Record.{Record}
+use Rattle.trace_record.specs.declared.Record.the-variants.{Write, Read, Step, Bad, End}
 use Rattle.trace_run.specs.declared.Machine.{Machine}
 use Rattle.trace_run.specs.declared.Machine.the-variants.{Handheld, Home}
 use Rattle.trace_run.specs.declared.Device.{Device}

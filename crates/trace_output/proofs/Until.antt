@@ -13,12 +13,12 @@ use Rattle.laws.specs.Lists.{at}
 use Rattle.laws.proofs.Tests.{either, split, clash}
 use Rattle.picture.specs.declared.RenderArea.{RenderArea}
 use Rattle.picture.specs.Area.{areaFrom}
-use Rattle.record.specs.declared.Record.{Record}
-use Rattle.record.specs.declared.Record.the-variants.{Write, Read, Step, Bad, End}
+use Rattle.trace_record.specs.declared.Record.{Record}
+use Rattle.trace_record.specs.declared.Record.the-variants.{Write, Read, Step, Bad, End}
 use Rattle.trace_text.specs.declared.Answer.the-variants as Says
 use Rattle.trace_run.specs.declared.Run.{Run}
-use Rattle.record.specs.Record.{recordAt, marked}
-use Rattle.record.specs.Reader.{isCall}
+use Rattle.trace_record.specs.Record.{recordAt, marked}
+use Rattle.trace_record.specs.Reader.{isCall}
 use Rattle.trace_text.specs.Text.{lineOf, endLine, badLine}
 use Rattle.trace_run.specs.Run.{World, Turn, rowTurn, turnBy, hasArea, takenBy, recordOn, turnOf, after, lines, ran}
 use Rattle.trace_output.specs.Output.{lastLine, text}

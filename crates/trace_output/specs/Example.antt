@@ -10,10 +10,11 @@ use Rattle.raster.specs.declared.LineTable.{LineTable}
 use Rattle.raster.specs.declared.LineTable.the-variants.{Steps261, Steps262}
 use Rattle.raster.specs.Raster.{jumps, starts, advanced, lineInterrupt, counted}
 use Rattle.vdp.specs.Device.{made}
-use Rattle.vdp.specs.Ports.{frontWrite, frontRead, portWrite, portRead}
-use Rattle.step.specs.Points.{rowOn, bitsOf, endedBy, reportBy, interruptBy, pointsOf}
+use Rattle.front.specs.Ports.{frontWrite, frontRead}
+use Rattle.vdp.specs.Ports.{portWrite, portRead}
+use Rattle.points.specs.Points.{rowOn, bitsOf, endedBy, reportBy, interruptBy, pointsOf}
 use Rattle.step.specs.Step.{stepped, stepWith}
-use Rattle.record.specs.Record.{recordAt, marked}
+use Rattle.trace_record.specs.Record.{recordAt, marked}
 use Rattle.trace_run.specs.Device.{handheld}
 use Rattle.trace_text.specs.Text.{decimal, lineOf, endLine, badLine, longLine}
 use Rattle.trace_run.specs.Run.{start, rowTurn, turnBy, turnOf, after, lines, ran}

@@ -9,9 +9,9 @@ use lib.Dec.{leb}
 use lib.ListN.{length}
 use Rattle.picture.specs.declared.RenderArea.{RenderArea}
 use Rattle.vdp.specs.declared.VdpState.{VdpState}
-use Rattle.record.specs.declared.Record.{Record}
-use Rattle.record.specs.Reader.{isCall, records, stop}
-use Rattle.record.specs.Promises.{allBytes}
+use Rattle.trace_record.specs.declared.Record.{Record}
+use Rattle.trace_record.specs.Reader.{isCall, records, stop}
+use Rattle.trace_record.specs.Promises.{allBytes}
 use Rattle.trace_run.specs.declared.Machine.{Machine}
 use Rattle.trace_run.specs.declared.Device.{Device}
 use Rattle.trace_run.specs.declared.Shown.{Shown}

@@ -6,7 +6,7 @@ ghost use Rattle.laws.specs.Lists.{written};
 ghost use Rattle.trace_run.specs.Device.{handheld};
 ghost use Rattle.trace_output.specs.Output.{pixelCount, pictureRoom, lastLine, header, ppm, drawn, TraceLeaves, PictureLeaves};
 ghost use Rattle.trace_run.specs.Run.{frameTurn, layerTurn, turnFor};
-use record::put_all;
+use trace_record::put_all;
 use trace_run::Device;
 use trace_run::Machine;
 use trace_run::Run;

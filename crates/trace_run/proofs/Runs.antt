@@ -11,15 +11,15 @@ use Rattle.laws.specs.Lists.{written}
 use Rattle.laws.proofs.Tests.{either}
 use Rattle.picture.specs.declared.RenderArea.{RenderArea}
 use Rattle.picture.specs.declared.RenderArea.the-variants.{VisibleOnly, EffectiveArea, TrueEdges}
-use Rattle.vdp.specs.declared.Refusal.{Refusal}
-use Rattle.vdp.specs.Refusals.{refusalNumber}
-use Rattle.step.specs.declared.VdpInt.{VdpInt}
-use Rattle.step.specs.declared.VdpInt.the-variants.{NoInterrupt, InterruptGenerated}
-use Rattle.step.specs.declared.DisplayRefresh.{DisplayRefresh}
-use Rattle.step.specs.declared.DisplayRefresh.the-variants.{NoDisplay, ScreenDone, ScreenDoneNoRefresh}
-use Rattle.step.specs.Step.{interruptNumber, reportNumber}
-use Rattle.record.specs.declared.Record.{Record}
-use Rattle.record.specs.declared.Record.the-variants.{Write, Read, Step, Bad, End}
+use Rattle.refusal.specs.declared.Refusal.{Refusal}
+use Rattle.refusal.specs.Refusals.{refusalNumber}
+use Rattle.points.specs.declared.VdpInt.{VdpInt}
+use Rattle.points.specs.declared.VdpInt.the-variants.{NoInterrupt, InterruptGenerated}
+use Rattle.points.specs.declared.DisplayRefresh.{DisplayRefresh}
+use Rattle.points.specs.declared.DisplayRefresh.the-variants.{NoDisplay, ScreenDone, ScreenDoneNoRefresh}
+use Rattle.points.specs.Points.{interruptNumber, reportNumber}
+use Rattle.trace_record.specs.declared.Record.{Record}
+use Rattle.trace_record.specs.declared.Record.the-variants.{Write, Read, Step, Bad, End}
 use Rattle.trace_run.specs.declared.Machine.{Machine}
 use Rattle.trace_run.specs.declared.Machine.the-variants.{Handheld, Home}
 use Rattle.trace_run.specs.declared.Device.{Device}
@@ -29,9 +29,9 @@ use Rattle.trace_run.specs.declared.Run.{Run}
 use Rattle.trace_run.specs.declared.Shown.{Shown}
 use Rattle.trace_run.specs.declared.Shown.the-variants.{Colours, Layers}
 use Rattle.trace_run.specs.declared.Turned.{Turned}
-use Rattle.record.specs.Record.{recordAt}
-use Rattle.record.specs.Writer.{size}
-use Rattle.record.proofs.Records.{fits}
+use Rattle.trace_record.specs.Record.{recordAt}
+use Rattle.trace_record.specs.Writer.{size}
+use Rattle.trace_record.proofs.Records.{fits}
 use Rattle.trace_run.specs.Device.{AfterStep, writeOn, readOn, rowStepOn, frameStepOn, deviceWrite, deviceRead, deviceRowStep, deviceFrameStep}
 use Rattle.trace_text.specs.Text.{digitOf, decimal, hexDigit, lineOf}
 use Rattle.trace_run.specs.Run.{World, Turn, held, stepAnswer, rowTurn, intoFrame, frameTurn, layersInto, layerTurn, turnFor, turnBy, hasArea}

@@ -18,25 +18,26 @@ use Rattle.picture.specs.Area.{screenOf, columns, rows}
 use Rattle.vdp.specs.declared.VdpState.{VdpState}
 use Rattle.vdp.specs.declared.Written.{Written}
 use Rattle.vdp.specs.declared.ReadBack.{ReadBack}
-use Rattle.vdp.specs.Refusals.{Line}
+use Rattle.refusal.specs.Refusals.{Line}
 use Rattle.vdp.specs.Ports.{portRead, WriteLeaves}
-use Rattle.step.specs.declared.DrawnRow.{DrawnRow}
-use Rattle.step.specs.declared.DrawnRow.the-variants.{NoRow, Drawn}
+use Rattle.points.specs.declared.DrawnRow.{DrawnRow}
+use Rattle.points.specs.declared.DrawnRow.the-variants.{NoRow, Drawn}
 use Rattle.step.specs.declared.Stepped.{Stepped}
 use Rattle.step.specs.Step.{lineOf, counterUp, rowOn, stepped, rowLines, stepWith, rowStep}
-use Rattle.step.specs.Points.{RowIn, pointsOf}
+use Rattle.points.specs.Points.{RowIn, pointsOf}
 use Rattle.step.specs.Frame.{RowStepLeaves, FrameStepLeaves}
 use Rattle.home.specs.declared.HomeWritten.{HomeWritten}
 use Rattle.home.specs.declared.HomeRead.{HomeRead}
 use Rattle.home.specs.declared.HomeStepped.{HomeStepped}
 use Rattle.home.specs.Ports as homePorts
 use Rattle.home.specs.Step as homeStep
-use Rattle.step.specs.Bytes.{layersBy}
-use Rattle.step.specs.Layers.{alsoLayers, rowLayers, layersAfter, RowLayersLeave}
-use Rattle.step.proofs.Rows.{row-in}
+use Rattle.points.specs.Bytes.{layersBy}
+use Rattle.points.specs.Bytes.{alsoLayers}
+use Rattle.step.specs.Layers.{rowLayers, layersAfter, RowLayersLeave}
+use Rattle.points.proofs.Rows.{row-in}
 use Rattle.step.proofs.Steps.{aside}
-use Rattle.record.specs.declared.Record.{Record}
-use Rattle.record.specs.declared.Record.the-variants.{Write, Read, Step, Bad, End}
+use Rattle.trace_record.specs.declared.Record.{Record}
+use Rattle.trace_record.specs.declared.Record.the-variants.{Write, Read, Step, Bad, End}
 use Rattle.trace_run.specs.declared.Machine.{Machine}
 use Rattle.trace_run.specs.declared.Machine.the-variants.{Handheld, Home}
 use Rattle.trace_run.specs.declared.Device.{Device}
@@ -44,7 +45,7 @@ use Rattle.trace_text.specs.declared.Answer.the-variants as Says
 use Rattle.trace_run.specs.declared.Shown.{Shown}
 use Rattle.trace_run.specs.declared.Shown.the-variants.{Colours, Layers}
 use Rattle.trace_run.specs.declared.Turned.{Turned}
-use Rattle.record.specs.Record.{recordAt}
+use Rattle.trace_record.specs.Record.{recordAt}
 use Rattle.trace_run.specs.Device.{withVdp, withHome, AfterStep, wrote, gave, ofHandheld, ofHome, writeOn, readOn, rowStepOn, frameStepOn}
 use Rattle.trace_run.specs.Device.{deviceWrite, deviceRead, deviceRowStep, deviceFrameStep}
 use Rattle.trace_run.specs.Run.{World, Turn, held, on, stepAnswer, rowTurn, intoFrame, frameTurn, layerColour, layersPainted, layersOn}

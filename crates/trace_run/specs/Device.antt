@@ -4,12 +4,12 @@ use mathlib.Core.List.{List}
 use Prim.Native.Nat.{ℕ}
 use lib.ListN.{length}
 use Rattle.picture.specs.declared.RenderArea.{RenderArea}
-use Rattle.vdp.specs.declared.Refusal.{Refusal}
+use Rattle.refusal.specs.declared.Refusal.{Refusal}
 use Rattle.vdp.specs.declared.VdpState.{VdpState}
 use Rattle.vdp.specs.Device.{fresh}
 use Rattle.vdp.specs.Ports.{portWrite, portRead}
-use Rattle.step.specs.declared.VdpInt.{VdpInt}
-use Rattle.step.specs.declared.DisplayRefresh.{DisplayRefresh}
+use Rattle.points.specs.declared.VdpInt.{VdpInt}
+use Rattle.points.specs.declared.DisplayRefresh.{DisplayRefresh}
 use Rattle.step.specs.declared.Stepped.{Stepped}
 use Rattle.step.specs.Step.{rowStep, frameStep}
 use Rattle.step.specs.Frame.{rowAfter, frameAfter}

@@ -9,12 +9,12 @@ use lib.ListN.{length}
 use Rattle.laws.specs.Paint.{painted, ofBytes}
 use Rattle.picture.specs.declared.RenderArea.{RenderArea}
 use Rattle.picture.specs.declared.RenderArea.the-variants.{VisibleOnly, EffectiveArea, TrueEdges}
-use Rattle.step.specs.declared.DrawnRow.{DrawnRow}
-use Rattle.step.specs.declared.DrawnRow.the-variants.{NoRow, Drawn}
+use Rattle.points.specs.declared.DrawnRow.{DrawnRow}
+use Rattle.points.specs.declared.DrawnRow.the-variants.{NoRow, Drawn}
 use Rattle.step.specs.Step.{counterUp, rowStep}
 use Rattle.step.specs.Layers.{rowLayers}
-use Rattle.record.specs.declared.Record.{Record}
-use Rattle.record.specs.declared.Record.the-variants.{Write, Read, Step, Bad, End}
+use Rattle.trace_record.specs.declared.Record.{Record}
+use Rattle.trace_record.specs.declared.Record.the-variants.{Write, Read, Step, Bad, End}
 use Rattle.trace_run.specs.declared.Machine.{Machine}
 use Rattle.trace_run.specs.declared.Machine.the-variants.{Handheld, Home}
 use Rattle.trace_run.specs.declared.Device.{Device}
@@ -24,7 +24,7 @@ use Rattle.trace_run.specs.declared.Run.{Run}
 use Rattle.trace_run.specs.declared.Shown.{Shown}
 use Rattle.trace_run.specs.declared.Shown.the-variants.{Colours, Layers}
 use Rattle.trace_run.specs.declared.Turned.{Turned}
-use Rattle.record.specs.Record.{recordAt}
+use Rattle.trace_record.specs.Record.{recordAt}
 use Rattle.trace_run.specs.Device.{AfterStep, deviceWrite, deviceRead, deviceRowStep, deviceFrameStep}
 use Rattle.trace_text.specs.Text.{lineOf}
 

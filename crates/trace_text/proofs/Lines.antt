@@ -10,8 +10,8 @@ use lib.ListN.{length, length-append}
 use Rattle.laws.specs.Lists.{written}
 use Rattle.laws.proofs.Lists.{written-on, written-nil}
 use Rattle.laws.proofs.Tests.{either}
-use Rattle.vdp.specs.declared.Refusal.{Refusal}
-use Rattle.vdp.specs.Refusals.{refusalNumber}
+use Rattle.refusal.specs.declared.Refusal.{Refusal}
+use Rattle.refusal.specs.Refusals.{refusalNumber}
 use Rattle.trace_text.specs.declared.Answer.{Answer}
 use Rattle.trace_text.specs.declared.Answer.the-variants.{Wrote, Nothing}
 use Rattle.trace_text.specs.Text.{digitOf, decimal, numbered, lineOf}

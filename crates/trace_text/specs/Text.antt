@@ -4,8 +4,8 @@ use mathlib.Core.Bool.{cond}
 use mathlib.Core.List.{List, [], _∷_, _++_}
 use Prim.Native.Nat.{ℕ, _+_, _/_, _%_}
 use lib.Dec.{ltb}
-use Rattle.vdp.specs.Refusals.{refusalNumber}
-use Rattle.step.specs.Step.{interruptNumber, reportNumber}
+use Rattle.refusal.specs.Refusals.{refusalNumber}
+use Rattle.points.specs.Points.{interruptNumber, reportNumber}
 use Rattle.trace_text.specs.declared.Answer.{Answer}
 use Rattle.trace_text.specs.declared.Answer.the-variants.{Wrote, Gave, Stepped, Nothing}
 

@@ -3,13 +3,13 @@ ghost use mathlib.Core.Path.{_≡_};
 ghost use Prim.Native.Nat.{_+_, _≤_, _<_};
 ghost use lib.ListN.{length};
 ghost use Rattle.laws.specs.Lists.{written};
-ghost use Rattle.vdp.specs.Refusals.{refusalNumber};
-ghost use Rattle.step.specs.Step.{interruptNumber, reportNumber};
+ghost use Rattle.refusal.specs.Refusals.{refusalNumber};
+ghost use Rattle.points.specs.Points.{interruptNumber, reportNumber};
 ghost use Rattle.trace_text.specs.Text.{digitOf, decimal, hexDigit, numbered, lineOf};
-use record::put_all;
-use step::DisplayRefresh;
-use step::VdpInt;
-use vdp::Refusal;
+use points::DisplayRefresh;
+use points::VdpInt;
+use refusal::Refusal;
+use trace_record::put_all;
 
 // What a call answers, and its line says.
 pub enum Answer {
@@ -73,19 +73,19 @@ fn put_decimal(out: &mut [u8], at: usize, n: usize) -> usize
 fn number(refusal: Refusal) -> usize
     ensures { λ n. ⌜ n ≡ refusalNumber refusal ⌝ }
 {
-    vdp::refusal_number(refusal) as usize
+    refusal::refusal_number(refusal) as usize
 }
 
 fn interrupt_number(interrupt: VdpInt) -> usize
     ensures { λ n. ⌜ (n ≡ interruptNumber interrupt) × (n < 10) ⌝ }
 {
-    step::interrupt_number(interrupt) as usize
+    points::interrupt_number(interrupt) as usize
 }
 
 fn report_number(report: DisplayRefresh) -> usize
     ensures { λ n. ⌜ (n ≡ reportNumber report) × (n < 10) ⌝ }
 {
-    step::report_number(report) as usize
+    points::report_number(report) as usize
 }
 
 // A word with a space after it, a number, and the end of the line.

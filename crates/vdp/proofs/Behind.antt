@@ -1,82 +1,23 @@
--- What a refused port call leaves is what the table's column says, and video memory stays; a refused read gives byte 0.
+-- What a refused port call leaves of the device is what the table's column says, and video memory stays; a refused read gives byte 0.
 -- Assumes nothing.
-use Prim.Native.Nat.{ℕ, _%_, _/_}
+use Prim.Native.Nat.{ℕ, _%_}
 use mathlib.Core.Path.{_≡_, refl, ap}
 use mathlib.Core.Logic.{_≢_}
 use mathlib.Core.List.{List}
-use lib.Dec.{ltb, eqb}
+use lib.Dec.{eqb}
 use Rattle.laws.proofs.Tests.{either}
-use Rattle.vdp.specs.declared.Front.{Front}
-use Rattle.vdp.specs.declared.FrontWritten.{FrontWritten}
-use Rattle.vdp.specs.declared.FrontRead.{FrontRead}
 use Rattle.vdp.specs.declared.VdpState.{VdpState}
-use Rattle.vdp.specs.declared.WriteDest.{WriteDest}
-use Rattle.vdp.specs.declared.WriteDest.the-variants.{None, Vram, Cram}
-use Rattle.vdp.specs.declared.Latch.{Latch}
-use Rattle.vdp.specs.declared.Latch.the-variants.{Empty, Held}
+use Rattle.front.specs.declared.Latch.{Latch}
+use Rattle.front.specs.declared.Latch.the-variants.{Empty, Held}
 use Rattle.vdp.specs.declared.Written.{Written}
 use Rattle.vdp.specs.declared.ReadBack.{ReadBack}
-use Rattle.vdp.specs.declared.Refusal.the-variants.{Accepted}
-use Rattle.vdp.specs.Front.{FrontAfter, emptied, commandBy, dataBy, readBy}
+use Rattle.refusal.specs.declared.Refusal.the-variants.{Accepted}
 use Rattle.vdp.specs.Device.{frontOf, withFront, unlatched}
-use Rattle.vdp.specs.Refusals.{leftBehind, deviceLeft, whole, isPort}
-use Rattle.vdp.specs.Ports.{frontWrite, frontRead, oddPalette, paletteWrite, After, portWrite, portRead}
-use Rattle.vdp.proofs.Kept.{write-kept}
-
-accepted : {G : Type 0} → Accepted ≢ Accepted → G
-accepted n = absurd (n refl)
-
--- ---- of a front: where an answer is a refusal, it leaves what the column says
-module _ (f : Front) where
-  abbrev LeftF : FrontWritten → Type 0
-  LeftF a = a .refusal ≢ Accepted → a .front ≡ leftBehind (a .refusal) f
-
-  pub record FrontLeft (m : List ℕ) (a : FrontAfter) : Type 0 where
-    pub front : LeftF (a .answer)
-    pub memory : a .answer .refusal ≢ Accepted → a .vram ≡ m
-
-  pub record FrontReadLeft (a : FrontRead) : Type 0 where
-    pub front : a .refusal ≢ Accepted → a .front ≡ leftBehind (a .refusal) f
-    pub zero : a .refusal ≢ Accepted → a .byte ≡ 0
-
-  command : (l : Latch) (n : ℕ) (m : List ℕ) (v : ℕ) → LeftF (commandBy l n f m v)
-  command Empty n m v = accepted
-  command (Held d) n m v =
-      either LeftF (eqb (v / 64) 0) (λ _. accepted)
-      (λ _. either LeftF (eqb (v / 64) 1) (λ _. accepted)
-      (λ _. either LeftF (eqb (v / 64) 2) (λ _. either LeftF (ltb 10 (v % 128)) (λ _ _. refl) (λ _. accepted)) (λ _. accepted)))
-
-  to-chosen : (d : WriteDest) (n : ℕ) (m : List ℕ) (v : ℕ) → FrontLeft m (dataBy d n (emptied f) m v)
-  to-chosen None n m v = record { front = λ _. refl; memory = λ _. refl }
-  to-chosen Vram n m v =
-      either (FrontLeft m) (ltb (f .addr) 16384) (λ _. record { front = accepted; memory = accepted })
-      (λ _. record { front = λ _. refl; memory = λ _. refl })
-  to-chosen Cram n m v = record { front = either LeftF (ltb (f .addr) n) (λ _. accepted) (λ _ _. refl); memory = λ _. refl }
-
-  pub front-write-behind : (n : ℕ) (m : List ℕ) (p v : ℕ) → FrontLeft m (frontWrite n f m p v)
-  unfolding frontWrite
-  front-write-behind n m p v =
-      either (FrontLeft m) (whole m)
-      (λ _. either (FrontLeft m) (isPort 0xBF p) (λ _. record { front = command (f .«cmd_byte1») n m v; memory = λ _. refl })
-      (λ _. either (FrontLeft m) (isPort 0xBE p) (λ _. to-chosen (f .dest) n m v) (λ _. record { front = λ _. refl; memory = λ _. refl })))
-      (λ _. record { front = λ _. refl; memory = λ _. refl })
-
-  from-chosen : (d : WriteDest) (m : List ℕ) → FrontReadLeft (readBy d (emptied f) m)
-  from-chosen None m = record { front = λ _. refl; zero = λ _. refl }
-  from-chosen Cram m = record { front = λ _. refl; zero = λ _. refl }
-  from-chosen Vram m =
-      either FrontReadLeft (ltb (f .addr) 16384) (λ _. record { front = accepted; zero = accepted })
-      (λ _. record { front = λ _. refl; zero = λ _. refl })
-
-  pub front-read-behind : (m : List ℕ) (p counter : ℕ) → FrontReadLeft (frontRead f m p counter)
-  unfolding frontRead
-  front-read-behind m p counter =
-      either FrontReadLeft (whole m)
-      (λ _. either FrontReadLeft (isPort 0x7E p) (λ _. record { front = accepted; zero = accepted })
-      (λ _. either FrontReadLeft (isPort 0x7F p) (λ _. record { front = λ _. refl; zero = λ _. refl })
-      (λ _. either FrontReadLeft (isPort 0xBF p) (λ _. record { front = accepted; zero = accepted })
-      (λ _. either FrontReadLeft (isPort 0xBE p) (λ _. from-chosen (f .dest) m) (λ _. record { front = λ _. refl; zero = λ _. refl })))))
-      (λ _. record { front = λ _. refl; zero = λ _. refl })
+use Rattle.vdp.specs.Refusals.{deviceLeft}
+use Rattle.front.specs.Ports.{frontWrite}
+use Rattle.vdp.specs.Ports.{oddPalette, paletteWrite, After, portWrite, portRead}
+use Rattle.front.proofs.Kept.{write-kept}
+use Rattle.front.proofs.Behind.{accepted, front-write-behind, front-read-behind}
 
 -- ---- of the device
 module _ (s : VdpState) where

@@ -1,6 +1,4 @@
--- The laws of the ports.
-pub mod Kept
+-- The laws of the handheld's ports.
 pub mod Exact
 pub mod Behind
 pub mod Invariant
-pub mod Tables

@@ -6,7 +6,7 @@ use lib.ListN.{replicate}
 use Rattle.laws.specs.Sizes.{vramSize}
 use Rattle.vdp.specs.declared.VdpState.{VdpState}
 use Rattle.vdp.specs.Device.{fresh}
-use Rattle.vdp.specs.Refusals.{refusalNumber}
+use Rattle.refusal.specs.Refusals.{refusalNumber}
 use Rattle.vdp.specs.Ports.{portWrite, portRead}
 
 -- A call of a port: a write of a byte, or a read.

@@ -1,20 +1,20 @@
 -- R3.1, R3.2: the device record, fresh, and with one field changed.
 -- Assumes nothing.
 use Prim.Native.Nat.{ℕ}
-use mathlib.Core.List.{List, [], _∷_}
+use mathlib.Core.List.{List}
 use mathlib.Core.Bool.{Bool, true, false}
 use lib.ListN.{replicate}
 use Rattle.raster.specs.declared.Raster.{Raster}
 use Rattle.raster.specs.declared.LineTable.{LineTable}
 use Rattle.raster.specs.declared.LineTable.the-variants.{Steps262}
+use Rattle.raster.specs.Raster.{freshRaster}
 use Rattle.laws.specs.Sizes.{cramSize}
-use Rattle.vdp.specs.declared.Front.{Front}
+use Rattle.front.specs.declared.Front.{Front}
 use Rattle.vdp.specs.declared.VdpState.{VdpState}
-use Rattle.vdp.specs.declared.WriteDest.{WriteDest}
-use Rattle.vdp.specs.declared.WriteDest.the-variants as Chosen
-use Rattle.vdp.specs.declared.Latch.{Latch}
-use Rattle.vdp.specs.declared.Latch.the-variants.{Empty}
-use Rattle.vdp.specs.Front.{front, emptied}
+use Rattle.front.specs.declared.WriteDest.{WriteDest}
+use Rattle.front.specs.declared.Latch.{Latch}
+use Rattle.front.specs.declared.Latch.the-variants.{Empty}
+use Rattle.front.specs.Front.{freshFront, front, emptied}
 
 -- R3.1: the record of these fields, in the order of the Rust's `VdpState`
 abbrev pub device : ℕ → List ℕ → Raster → ℕ → ℕ → WriteDest → List ℕ → Latch → Latch → Bool → List ℕ → VdpState
@@ -36,9 +36,9 @@ device status reg raster addr buffer dest cram command half dirty cache =
 -- R3.2: as it is made, with table t
 abbrev pub made : LineTable → VdpState
 made t =
-    device 0 (0 ∷ 0 ∷ 0xFF ∷ 0xFF ∷ 0xFF ∷ 0xFF ∷ 0xFF ∷ 0 ∷ 0 ∷ 0 ∷ 1 ∷ [])
-    (record { «v_counter» = 0; «v_counter_jumped» = false; «line_interrupt_counter» = 0; «vertical_scroll» = 0; table = t })
-    0 0 Chosen.None (replicate cramSize 0) Empty Empty true (replicate 32 0)
+    device (freshFront .status) (freshFront .reg) (freshRaster t) (freshFront .addr) (freshFront .«vram_buffer») (freshFront .dest)
+    (replicate cramSize 0)
+    (freshFront .«cmd_byte1») Empty true (replicate 32 0)
 
 -- R4.8: with no table named, that of the chart
 abbrev pub fresh : VdpState

@@ -1,5 +1,4 @@
 -- What the contracts of `vdp` cite, and what is shown of them.
-pub mod Front
 pub mod Device
 pub mod Refusals
 pub mod Ports

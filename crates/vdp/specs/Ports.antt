@@ -1,49 +1,24 @@
--- R3.3 to R3.10, the ports: what a port call answers and leaves, of the front of any device, and of a device with its palette.
+-- R3.3 to R3.10, the ports of the handheld: what a port call answers and leaves, the front's but for the palette.
 -- Assumes nothing.
 use Prim.Native.Nat.{ℕ, _+_, _-_, _%_}
 use mathlib.Core.Path.{_≡_}
 use mathlib.Core.List.{List}
-use mathlib.Core.Bool.{Bool, cond, not, _||_}
+use mathlib.Core.Bool.{cond, _||_}
 use lib.ListN.{set}
 use lib.Dec.{eqb}
 use Rattle.laws.specs.Lists.{at}
 use Rattle.laws.specs.Sizes.{cramSize}
-use Rattle.vdp.specs.declared.Front.{Front}
-use Rattle.vdp.specs.declared.FrontWritten.{FrontWritten}
-use Rattle.vdp.specs.declared.FrontRead.{FrontRead}
+use Rattle.front.specs.declared.FrontWritten.{FrontWritten}
 use Rattle.vdp.specs.declared.VdpState.{VdpState}
 use Rattle.vdp.specs.declared.Written.{Written}
 use Rattle.vdp.specs.declared.ReadBack.{ReadBack}
-use Rattle.vdp.specs.declared.Latch.{Latch}
-use Rattle.vdp.specs.declared.Latch.the-variants.{Empty, Held}
-use Rattle.vdp.specs.declared.Refusal.{Refusal}
-use Rattle.vdp.specs.declared.Refusal.the-variants.{Accepted, UnknownPort, HorizontalCounter, NoPaletteByte, VramLength}
-use Rattle.vdp.specs.Front.{FrontAfter, sent, refusedRead, given, commandWrite, dataWrite, statusRead, dataRead}
+use Rattle.front.specs.declared.Latch.{Latch}
+use Rattle.front.specs.declared.Latch.the-variants.{Empty, Held}
+use Rattle.refusal.specs.declared.Refusal.{Refusal}
+use Rattle.refusal.specs.declared.Refusal.the-variants.{Accepted, NoPaletteByte}
 use Rattle.vdp.specs.Device.{frontOf, withFront, withPaletteByte, withAddr, withPalette}
-use Rattle.vdp.specs.Refusals.{whole, isPort}
-
--- ---- the ports of a front, with n bytes of palette
-unfoldable pub frontWrite : ℕ → Front → List ℕ → ℕ → ℕ → FrontAfter
-frontWrite n f m p v =
-    cond (whole m)
-    (cond (isPort 0xBF p) (record { answer = commandWrite n f m v; vram = m })
-    (cond (isPort 0xBE p) (dataWrite n f m v) (record { answer = sent UnknownPort f; vram = m })))
-    (record { answer = sent VramLength f; vram = m })
-
--- R3.10 is the read of 7E, where `counter` stands
-unfoldable pub frontRead : Front → List ℕ → ℕ → ℕ → FrontRead
-frontRead f m p counter =
-    cond (whole m)
-    (cond (isPort 0x7E p) (given counter f)
-    (cond (isPort 0x7F p) (refusedRead HorizontalCounter f)
-    (cond (isPort 0xBF p) (statusRead f)
-    (cond (isPort 0xBE p) (dataRead f m) (refusedRead UnknownPort f)))))
-    (refusedRead VramLength f)
-
--- What a write on a front promises: its answer r, and what video memory holds after it, m′.
-pub record FrontLeaves (n : ℕ) (f : Front) (m : List ℕ) (p v : ℕ) (r : FrontWritten) (m′ : List ℕ) : Type 0 where
-  pub answer : r ≡ frontWrite n f m p v .answer
-  pub memory : m′ ≡ frontWrite n f m p v .vram
+use Rattle.front.specs.Ports.{frontWrite, frontRead}
+use Rattle.front.specs.Front.{changed}
 
 -- ---- the device: R3.7, a byte for its palette. The address lies in it, and the command latch is empty
 abbrev pub answered : Refusal → VdpState → Written
@@ -54,9 +29,6 @@ abbrev pub evenPalette : VdpState → ℕ → Written
 evenPalette s v = answered Accepted (withAddr (withPaletteByte s (Held v)) ((s .addr + 1) % cramSize))
 
 -- odd: both bytes are stored, dirty where one is another than before; the byte waits on
-abbrev pub changed : ℕ → ℕ → Bool
-changed a b = not (eqb a b)
-
 abbrev pub stored : VdpState → ℕ → ℕ → ℕ → VdpState
 stored s a low high =
     withPalette s (set (set (s .cram) (a - 1) low) a high)

@@ -1,33 +1,34 @@
 // The answer word of the C face (R7.7): which bits say what.
 ghost use mathlib.Core.Path.{_≡_};
 ghost use Prim.Native.Nat.{_<_};
-ghost use Rattle.vdp.specs.Refusals.{refusalNumber};
+ghost use Rattle.refusal.specs.Refusals.{refusalNumber};
 ghost use Rattle.vdp.specs.declared.VdpState.{VdpState};
-ghost use Rattle.step.specs.Step.{interruptNumber, reportNumber, joined};
+ghost use Rattle.points.specs.Points.{interruptNumber, reportNumber};
+ghost use Rattle.step.specs.Step.{joined};
 ghost use Rattle.word.specs.Word.{rowBits, stepWord};
-use step::DisplayRefresh;
-use step::DrawnRow;
-use step::Points;
-use step::VdpInt;
-use vdp::Refusal;
+use points::DisplayRefresh;
+use points::DrawnRow;
+use points::Points;
+use points::VdpInt;
+use refusal::Refusal;
 
 // The parts of an answer, as parts of a word: refusal, interrupt, report, and the row with the drawn bit.
 pub fn number(r: Refusal) -> u32
     ensures { λ n. ⌜ (n ≡ refusalNumber r) × (n < 256) ⌝ }
 {
-    vdp::refusal_number(r) as u32
+    refusal::refusal_number(r) as u32
 }
 
 fn interrupt_number(i: VdpInt) -> u32
     ensures { λ n. ⌜ (n ≡ interruptNumber i) × (n < 2) ⌝ }
 {
-    step::interrupt_number(i) as u32
+    points::interrupt_number(i) as u32
 }
 
 fn report_number(r: DisplayRefresh) -> u32
     ensures { λ n. ⌜ (n ≡ reportNumber r) × (n < 3) ⌝ }
 {
-    step::report_number(r) as u32
+    points::report_number(r) as u32
 }
 
 fn row_bits(r: DrawnRow) -> u32

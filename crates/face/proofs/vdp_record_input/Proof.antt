@@ -1,6 +1,6 @@
 -- `face::vdp_record_input` meets its contract: the record of a port read.
 use borrow.Author.Needs.{needs}
-use Rattle.record.specs.declared.Record.the-variants.{Read}
+use Rattle.trace_record.specs.declared.Record.the-variants.{Read}
 use Rattle.face.proofs.Records.{record-kept}
 use Rattle.face.proofs.vdp_record_input.Statement.{statement}
 use Rattle.face.proofs.vdp_record_input.Tie as tie

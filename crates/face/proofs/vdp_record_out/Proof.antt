@@ -1,6 +1,6 @@
 -- `face::vdp_record_out` meets its contract: the record of a port write.
 use borrow.Author.Needs.{needs}
-use Rattle.record.specs.declared.Record.the-variants.{Write}
+use Rattle.trace_record.specs.declared.Record.the-variants.{Write}
 use Rattle.face.proofs.Records.{record-kept}
 use Rattle.face.proofs.vdp_record_out.Statement.{statement}
 use Rattle.face.proofs.vdp_record_out.Tie as tie

@@ -1,6 +1,6 @@
 -- `face::vdp_record_step` meets its contract: the record of a step.
 use borrow.Author.Needs.{needs}
-use Rattle.record.specs.declared.Record.the-variants.{Step}
+use Rattle.trace_record.specs.declared.Record.the-variants.{Step}
 use Rattle.face.proofs.Records.{record-kept, step-kept, step-unknown}
 use Rattle.face.proofs.vdp_record_step.Statement.{statement}
 use Rattle.face.proofs.vdp_record_step.Tie as tie

@@ -1,18 +1,7 @@
 -- `step::dump_tileset` meets its contract: all tiles, side by side.
 use borrow.Author.Needs.{needs}
-use Rattle.step.proofs.Dumps.{dump-refuses-8, dump-refuses-9, dump-done}
 use Rattle.step.proofs.dump_tileset.Statement.{statement}
 use Rattle.step.proofs.dump_tileset.Tie as tie
-
-returns : tie.Need-returns
-returns c =
-    let at-start = c .before .before .before in
-    dump-refuses-8 (at-start .args .vdp) (at-start .args .vram .now) (at-start .args .pixels .now) (c .if1 .taken)
-
-returns-2 : tie.Need-returns-2
-returns-2 c =
-    let at-start = c .before .before .before .before in
-    dump-refuses-9 (at-start .args .vdp) (at-start .args .vram .now) (at-start .args .pixels .now) (c .before .if1 .left) (c .if2 .taken)
 
 colours-of-requires : tie.Need-colours-of-requires
 colours-of-requires c κs = search needs
@@ -23,17 +12,12 @@ dump-tileset-requires c κs = search needs
 same-length : tie.Need-same-length
 same-length c = search needs
 
-returns-3 : tie.Need-returns-3
-returns-3 c =
+returns : tie.Need-returns
+returns c =
     let at-dump-tileset = c .before .before in
     let at-colours-of = at-dump-tileset .before .before .before in
-    let at-if2 = at-colours-of .before .before in
-    let at-if1 = at-if2 .before in
-    let at-start = at-if1 .before .before .before in
-    dump-done (at-start .args .vdp) (at-start .args .vram .now) (at-start .args .pixels .now) (at-if1 .if1 .left) (at-if2 .if2 .left)
-    (at-colours-of .colours-of .ensures) (at-dump-tileset .dump-tileset .ensures)
+    rw (← at-colours-of .colours-of .ensures) (at-dump-tileset .dump-tileset .ensures)
 
 pub dump-tileset-spec : {M : Type 1} → statement M
 dump-tileset-spec =
-    tie.close
-    (tie.spec returns returns-2 colours-of-requires dump-tileset-requires same-length returns-3)
+    tie.close (tie.spec colours-of-requires dump-tileset-requires same-length returns)

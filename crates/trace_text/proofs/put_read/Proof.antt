@@ -7,7 +7,7 @@ use native.Mathlib.Omega.{arith}
 use lib.ListN.{length}
 use Rattle.laws.specs.Lists.{written}
 use Rattle.trace_text.specs.Text.{decimal, hexDigit, lineOf}
-use Rattle.vdp.specs.Refusals.{refusalNumber}
+use Rattle.refusal.specs.Refusals.{refusalNumber}
 use Rattle.trace_text.proofs.Lines.{three-writes}
 use Rattle.trace_text.proofs.put_read.Statement.{statement}
 use Rattle.trace_text.proofs.put_read.Tie as tie

@@ -7,8 +7,8 @@ use native.Mathlib.Omega.{arith}
 use lib.ListN.{length}
 use Rattle.laws.specs.Lists.{written}
 use Rattle.trace_text.specs.Text.{decimal, digitOf, hexDigit, lineOf}
-use Rattle.vdp.specs.Refusals.{refusalNumber}
-use Rattle.step.specs.Step.{interruptNumber, reportNumber}
+use Rattle.refusal.specs.Refusals.{refusalNumber}
+use Rattle.points.specs.Points.{interruptNumber, reportNumber}
 use Rattle.trace_text.proofs.Lines.{one, three-writes}
 use Rattle.trace_text.proofs.put_step.Statement.{statement}
 use Rattle.trace_text.proofs.put_step.Tie as tie

@@ -4,9 +4,9 @@ use Prim.Native.Nat.{ℕ}
 use mathlib.Core.Path.{_≡_, ap}
 use mathlib.Core.Bool.{true, false}
 use mathlib.Core.List.{List}
-use Rattle.vdp.specs.declared.FrontWritten.{FrontWritten}
-use Rattle.vdp.specs.Ports.{frontWrite}
-use Rattle.vdp.proofs.Kept.{inside}
+use Rattle.front.specs.declared.FrontWritten.{FrontWritten}
+use Rattle.front.specs.Ports.{frontWrite}
+use Rattle.front.proofs.Kept.{inside}
 use Rattle.home.specs.declared.HomeState.{HomeState}
 use Rattle.home.specs.Home.{withFront}
 use Rattle.home.specs.Ports.{answered, paletteWrite, writtenBy, portWrite}

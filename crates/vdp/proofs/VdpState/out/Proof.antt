@@ -5,11 +5,12 @@ use mathlib.Core.Path.{_≡_, ap, _∙_}
 use mathlib.Core.Bool.{true, false}
 use mathlib.Core.List.{List}
 use Rattle.vdp.specs.declared.VdpState.{VdpState}
-use Rattle.vdp.specs.declared.Front.{Front}
-use Rattle.vdp.specs.declared.FrontWritten.{FrontWritten}
+use Rattle.front.specs.declared.Front.{Front}
+use Rattle.front.specs.declared.FrontWritten.{FrontWritten}
 use Rattle.vdp.specs.Device.{frontOf, withFront}
-use Rattle.vdp.specs.Ports.{frontWrite, answered, paletteWrite, writtenBy, portWrite}
-use Rattle.vdp.proofs.Kept.{inside}
+use Rattle.front.specs.Ports.{frontWrite}
+use Rattle.vdp.specs.Ports.{answered, paletteWrite, writtenBy, portWrite}
+use Rattle.front.proofs.Kept.{inside}
 use Rattle.vdp.proofs.VdpState.out.Statement.{statement}
 use Rattle.vdp.proofs.VdpState.out.Tie as tie
 

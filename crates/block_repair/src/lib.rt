@@ -1,0 +1,168 @@
+// Salvage (R17.1 to R17.5): a damaged state block, mended in the caller's buffer, and the offsets that changed.
+ghost use mathlib.Core.Path.{_≡_};
+ghost use mathlib.Core.Bool.{Bool};
+ghost use Prim.Native.Nat.{_+_, _*_, _≤_, _<_};
+ghost use lib.ListN.{length, take};
+ghost use Rattle.laws.specs.Lists.{at};
+ghost use Rattle.vdp.specs.Refusals.{size};
+ghost use Rattle.block.specs.Block.{oldSize, blockSize, markOf, chosenFrom};
+ghost use Rattle.block_repair.specs.Repair.{within, held, choice, address, matching, dirty, mendedAt, RepairLeaves};
+use block::BLOCK_SIZE;
+use block::OLD_SIZE;
+use refusal::Refusal;
+use small::VRAM_ADDRESSES;
+use vdp::CRAM_SIZE;
+
+// What a repair answers: the refusal, and how many offsets have changed.
+pub struct Repaired {
+    pub refusal: Refusal,
+    pub count: usize,
+}
+
+// A byte that is at most `high`, else 0.
+fn in_range(high: u8, x: u8) -> u8
+    ensures { λ r. ⌜ r ≡ within high x ⌝ }
+{
+    if x <= high { x } else { 0 }
+}
+
+// The byte under a latch's flag: 0 where the latch is empty.
+fn latched(flag: u8, byte: u8) -> u8
+    ensures { λ r. ⌜ r ≡ held flag byte ⌝ }
+{
+    if flag == 0 { 0 } else { byte }
+}
+
+// The size of the memory of this number.
+fn memory_size(chosen: u8) -> u16
+    requires { ⌜ chosen ≤ 2 ⌝ }
+    ensures { λ r. ⌜ r ≡ size (chosenFrom chosen) ⌝ }
+    ensures { λ r. ⌜ 0 < r ⌝ }
+{
+    if chosen == 2 {
+        CRAM_SIZE
+    } else {
+        VRAM_ADDRESSES
+    }
+}
+
+fn word(low: u8, high: u8) -> u16
+    ensures { λ r. ⌜ r ≡ low + 256 * high ⌝ }
+{
+    (low as u16) + 256 * (high as u16)
+}
+
+// The address, reduced to its memory.
+fn address_of(old: &[u8]) -> u16
+    requires { ⌜ oldSize ≤ length (now old) ⌝ }
+    ensures { λ r. ⌜ r ≡ address (now (old .entry)) ⌝ }
+{
+    word(old[17], old[18]) % memory_size(in_range(2, old[20]))
+}
+
+// Whether the cached colours are the palette's.
+fn same_colours(old: &[u8]) -> bool
+    requires { ⌜ oldSize ≤ length (now old) ⌝ }
+    ensures { λ r. ⌜ r ≡ matching (now (old .entry)) ⌝ }
+{
+    let cache = block::cache_in(old);
+    let made = colour::palette_recompute(block::palette_in(old));
+    let mut i = 0;
+    while i < 32 {
+        if cache[i] != made[i] {
+            return false;
+        }
+        i += 1;
+    }
+    true
+}
+
+// The dirty flag.
+fn dirty_of(old: &[u8]) -> u8
+    requires { ⌜ oldSize ≤ length (now old) ⌝ }
+    ensures { λ r. ⌜ r ≡ dirty (now (old .entry)) ⌝ }
+{
+    let flag = in_range(1, old[26]);
+    if flag != 0 {
+        return flag;
+    }
+    if same_colours(old) { flag } else { 1 }
+}
+
+// The mended byte at offset k.
+fn mended_byte(old: &[u8], k: usize) -> u8
+    requires { ⌜ (oldSize ≤ length (now old)) × (length (now old) ≤ blockSize) × (k < length (now old)) ⌝ }
+    ensures { λ r. ⌜ r ≡ mendedAt (now (old .entry)) k ⌝ }
+{
+    match k {
+        0 => 0x56,
+        1 => block::mark_of(old.len()),
+        15 => in_range(1, old[15]),
+        17 => (address_of(old) % 256) as u8,
+        18 => (address_of(old) / 256) as u8,
+        20 => in_range(2, old[20]),
+        21 => in_range(1, old[21]),
+        22 => latched(in_range(1, old[21]), old[22]),
+        23 => in_range(1, old[23]),
+        24 => latched(in_range(1, old[23]), old[24]),
+        26 => dirty_of(old),
+        219 => in_range(1, old[219]),
+        _ => old[k],
+    }
+}
+
+// A block's bytes in an array of their own.
+fn copied(block: &[u8]) -> [u8; 220]
+    requires { ⌜ length (now block) ≤ blockSize ⌝ }
+    ensures { λ r. ⌜ take (length (now (block .entry))) r ≡ now (block .entry) ⌝ }
+{
+    let mut old = [0u8; 220];
+    let mut i = 0;
+    while i < block.len() {
+        old[i] = block[i];
+        i += 1;
+    }
+    old
+}
+
+// The block mended, and the changed offsets at the start of the list.
+pub fn repair(block: &mut [u8], list: &mut [u8]) -> Repaired
+    ensures { λ r. ⌜ RepairLeaves (now (block .entry)) (now (list .entry)) r (now (block .exit)) (now (list .exit)) ⌝ }
+    ensures { λ r. ⌜ r .count ≤ blockSize ⌝ }
+{
+    if block.len() < OLD_SIZE {
+        return Repaired {
+            refusal: Refusal::BlockMalformed,
+            count: 0,
+        };
+    }
+    if BLOCK_SIZE < block.len() {
+        return Repaired {
+            refusal: Refusal::BlockMalformed,
+            count: 0,
+        };
+    }
+    if list.len() < BLOCK_SIZE {
+        return Repaired {
+            refusal: Refusal::ListLength,
+            count: 0,
+        };
+    }
+    let n = block.len();
+    let whole = copied(block);
+    let mut count = 0;
+    let mut k = 0;
+    while k < n {
+        let byte = mended_byte(&whole[..n], k);
+        if byte != whole[k] {
+            list[count] = k as u8;
+            count += 1;
+        }
+        block[k] = byte;
+        k += 1;
+    }
+    Repaired {
+        refusal: Refusal::Accepted,
+        count: count,
+    }
+}

@@ -1,5 +1,0 @@
--- What the contracts of `record` cite, and what is promised of them.
-pub mod Record
-pub mod Writer
-pub mod Reader
-pub mod Promises

@@ -1,0 +1,2 @@
+-- What the contracts of `refusal` cite, and every other table of refusals.
+pub mod Refusals

@@ -1,0 +1,5 @@
+-- What the contracts of `trace_record` cite, and what is promised of them.
+pub mod Record
+pub mod Writer
+pub mod Reader
+pub mod Promises

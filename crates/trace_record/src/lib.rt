@@ -1,0 +1,216 @@
+// The records of a recording (R7.9): what stands at an offset, a record put behind those that are there, and a reader that goes from one to the next.
+ghost use mathlib.Core.Path.{_≡_};
+ghost use Prim.Native.Nat.{_+_, _-_, _*_, _<_, _≤_};
+ghost use lib.ListN.{length};
+ghost use lib.Dec.{leb};
+ghost use Rattle.laws.specs.Lists.{written};
+ghost use Rattle.trace_record.specs.Record.{recordAt};
+ghost use Rattle.trace_record.specs.Writer.{areaNumber, recordBytes, size, RecordLeaves};
+ghost use Rattle.trace_record.specs.Reader.{past};
+use picture::RenderArea;
+use refusal::Refusal;
+
+// What stands at an offset of a recording.
+pub enum Record {
+    Write(u8, u8),
+    Read(u8),
+    Step(RenderArea),
+    Bad,
+    End,
+}
+
+// Two bytes as one number, the first the higher.
+fn word(high: u8, low: u8) -> u16
+    ensures { λ r. ⌜ r ≡ 256 * high + low ⌝ }
+{
+    256 * (high as u16) + (low as u16)
+}
+
+// The record at this offset.
+pub fn record_at(s: &[u8], at: usize) -> Record
+    ensures { λ r. ⌜ r ≡ recordAt (now (s .entry)) at ⌝ }
+{
+    if s.len() <= at {
+        return Record::End;
+    }
+    let left = s.len() - at;
+    if left < 3 {
+        return Record::Bad;
+    }
+    let x = s[at + 2];
+    match word(s[at], s[at + 1]) {
+        0x5057 => {
+            if left < 4 {
+                return Record::Bad;
+            }
+            Record::Write(x, s[at + 3])
+        }
+        0x5052 => Record::Read(x),
+        0x4C53 => {
+            if picture::LAST_AREA < x {
+                return Record::Bad;
+            }
+            Record::Step(picture::area_from(x))
+        }
+        _ => Record::Bad,
+    }
+}
+
+// ---- a record behind the others
+
+// What the writer answers: whether there was room, and how many bytes the record took.
+pub struct Recorded {
+    pub refusal: Refusal,
+    pub count: u8,
+}
+
+// The number of an area.
+pub fn area_number(area: RenderArea) -> u8
+    ensures { λ n. ⌜ n ≡ areaNumber area ⌝ }
+{
+    match area {
+        RenderArea::VisibleOnly => 0,
+        RenderArea::EffectiveArea => 1,
+        RenderArea::TrueEdges => 2,
+    }
+}
+
+// How many bytes a record has; a bad one and the end have none.
+fn size_of(call: Record) -> u8
+    ensures { λ n. ⌜ n ≡ size call ⌝ }
+    ensures { λ n. ⌜ n ≤ 4 ⌝ }
+{
+    match call {
+        Record::Write(_, _) => 4,
+        Record::Read(_) => 3,
+        Record::Step(_) => 3,
+        Record::Bad => 0,
+        Record::End => 0,
+    }
+}
+
+// The bytes of src into out at `at`, and the place behind them.
+pub fn put_all(out: &mut [u8], at: usize, src: &[u8]) -> usize
+    requires { ⌜ at + length (now src) ≤ length (now out) ⌝ }
+    ensures { λ r. ⌜ r ≡ at + length (now (src .entry)) ⌝ }
+    ensures { λ _. ⌜ now (out .exit) ≡ written (now (out .entry)) at (now (src .entry)) ⌝ }
+{
+    let mut i = 0;
+    while i < src.len() {
+        out[at + i] = src[i];
+        i += 1;
+    }
+    at + i
+}
+
+// The bytes of a record into the recording at `used`.
+fn store(recording: &mut [u8], used: usize, call: Record)
+    requires { ⌜ used + size call ≤ length (now recording) ⌝ }
+    ensures { λ _. ⌜ now (recording .exit) ≡ written (now (recording .entry)) used (recordBytes call) ⌝ }
+{
+    match call {
+        Record::Write(port, value) => {
+            put_all(recording, used, &[b'P', b'W', port, value]);
+        }
+        Record::Read(port) => {
+            put_all(recording, used, &[b'P', b'R', port]);
+        }
+        Record::Step(area) => {
+            put_all(recording, used, &[b'L', b'S', area_number(area)]);
+        }
+        Record::Bad => {}
+        Record::End => {}
+    }
+}
+
+// Whether so many bytes have room from offset `used` on in a recording of this length.
+fn has_room(length: usize, used: usize, count: usize) -> bool
+    ensures { λ r. ⌜ r ≡ leb (used + count) length ⌝ }
+{
+    if length < used {
+        return false;
+    }
+    count <= length - used
+}
+
+// A record into the bytes from offset `used` on; without room for it nothing happens.
+pub fn put_record(recording: &mut [u8], used: usize, call: Record) -> Recorded
+    ensures { λ r. ⌜ RecordLeaves (now (recording .entry)) used call r (now (recording .exit)) ⌝ }
+    ensures { λ r. ⌜ r .count ≤ 4 ⌝ }
+{
+    let count = size_of(call);
+    if !has_room(recording.len(), used, count as usize) {
+        return Recorded {
+            refusal: Refusal::RecordRoom,
+            count: 0,
+        };
+    }
+    store(recording, used, call);
+    Recorded {
+        refusal: Refusal::Accepted,
+        count: count,
+    }
+}
+
+// ---- one record after another
+
+// The offset behind the record at this offset; of a bad record and of the end, the offset itself.
+pub fn past_record(s: &[u8], at: usize) -> usize
+    ensures { λ r. ⌜ r ≡ past (now (s .entry)) at ⌝ }
+{
+    let call = record_at(s, at);
+    at + size_of(call) as usize
+}
+
+// Whether this offset is at the end, or past it.
+pub fn at_end(s: &[u8], at: usize) -> bool
+    ensures { λ r. ⌜ r ≡ leb (length (now (s .entry))) at ⌝ }
+{
+    s.len() <= at
+}
+
+// R19.3: a recording and a place in it.
+pub struct Reader<'a> {
+    pub recording: &'a [u8],
+    pub at: usize,
+}
+
+impl<'a> Reader<'a> {
+    // At the first byte.
+    pub fn new(recording: &'a [u8]) -> Reader<'a>
+        ensures { λ r. ⌜ (r .recording ≡ recording .entry) × (r .at ≡ 0) ⌝ }
+    {
+        Reader { recording, at: 0 }
+    }
+
+    // The record that it hands out next, which is the one that it stands at.
+    pub fn next_record(self) -> Record
+        ensures { λ r. ⌜ r ≡ recordAt (now (self .entry .recording)) (self .entry .at) ⌝ }
+    {
+        record_at(self.recording, self.at)
+    }
+
+    // The reader behind that record, where it is a call; else the same reader.
+    pub fn past(self) -> Reader<'a>
+        ensures { λ r. ⌜ (r .recording ≡ self .entry .recording) × (r .at ≡ past (now (self .entry .recording)) (self .entry .at)) ⌝ }
+    {
+        Reader {
+            recording: self.recording,
+            at: past_record(self.recording, self.at),
+        }
+    }
+
+    // Whether it has come to the end.
+    pub fn ended(self) -> bool
+        ensures { λ r. ⌜ r ≡ leb (length (now (self .entry .recording))) (self .entry .at) ⌝ }
+    {
+        at_end(self.recording, self.at)
+    }
+
+    // The offset that it stands at.
+    pub fn place(self) -> usize
+        ensures { λ r. ⌜ r ≡ self .entry .at ⌝ }
+    {
+        self.at
+    }
+}
