@@ -1,13 +1,15 @@
 //! The time of one pass of 261 steps, ours and the published Rust's, in one run, for each line of a table; the first line is the pass that the
-//! customer asked about. Frames and states are compared before anything is timed, and again afterwards.
+//! customer asked about. Then a second table, of the calls one by one, and a game's frame. Frames, states and reads are compared before anything is
+//! timed, and again afterwards.
 //!
 //!   bench check SEED                     compares them and no more
-//!   bench count SEED LINES               to be counted from outside: one pass of each side of the first LINES lines, then of the floors
-//!   bench time ROUNDS SEED COUNTS PLOT   prints the table and writes the plot; COUNTS are the instructions, as run.sh collects them (or no file)
+//!   bench count SEED LINES               to be counted from outside: one pass of each side of the first LINES lines, then of the floors and of pixels; with all LINES, the calls and the game
+//!   bench time ROUNDS SEED COUNTS PLOT   prints the tables and writes the plot; COUNTS are the instructions, as run.sh collects them (or no file)
 
+mod calls;
 mod engine;
 #[path = "../oracle/face.rs"]
-#[allow(dead_code)] // of the calls, the steps alone are timed
+#[allow(dead_code)] // not every call is timed
 mod face;
 #[path = "../oracle/gears.rs"]
 #[allow(dead_code)] // of the published file, the steps alone are timed
@@ -19,6 +21,7 @@ mod io {
 mod plot;
 mod workload;
 
+use calls::{Buffers, Games, Pair, ALONE, KINDS};
 use engine::{Engine, Floor};
 use rules::model::Area;
 use std::time::{Duration, Instant};
@@ -133,12 +136,39 @@ fn ratio(ours: Option<f64>, rust: Option<f64>) -> String {
     }
 }
 
-/// Compares every line.
+/// Frames of the game that are compared before one is timed.
+const GAME_FRAMES: usize = 20;
+
+fn must_be(same: bool, what: &str) {
+    if !same {
+        println!("bench: {}: what is read, the pictures or the states differ: the times mean nothing", what);
+        std::process::exit(1);
+    }
+}
+
+/// A game on both sides, once they have played the same frames.
+fn games(seed: u64) -> Games {
+    let mut games = Games::new(seed);
+    for _ in 0..GAME_FRAMES {
+        games.ours();
+        games.rust();
+        must_be(games.same(), "a game's frame");
+    }
+    games
+}
+
+/// Compares every line of both tables.
 fn check(seed: u64) {
     for line in &LINES {
         line.compared(seed);
     }
     println!("bench: the frames and the states are the same, {} lines", LINES.len());
+    let mut pair = Pair::new(seed);
+    for (kind, name) in KINDS {
+        must_be(pair.same(kind), name);
+    }
+    games(seed);
+    println!("bench: the calls give and leave the same, {} kinds; so do {} frames of a game", KINDS.len(), GAME_FRAMES);
 }
 
 fn time(rounds: usize, seed: u64, counts: &[f64], plot: &str) {
@@ -186,6 +216,8 @@ fn time(rounds: usize, seed: u64, counts: &[f64], plot: &str) {
     let (ours, rust) = first.expect("the table has lines");
     println!();
     pixels(rounds, seed, count(2 * LINES.len() + 2));
+    println!();
+    calls(rounds, seed, &counts[counts.len().min(2 * LINES.len() + 3)..]);
     println!(
         "bench: ours {:.1} us, Rust {:.1} us, ratio {:.3} (of the least times; of the medians {:.3})",
         ours.least,
@@ -224,6 +256,59 @@ fn pixels(rounds: usize, seed: u64, count: Option<f64>) {
     println!("bench: one pixel {:.1} ns{}; one row, a pass of row steps by its {} rows, {:.1} ns: a pixel costs {:.3} of a row", pixel, counted, height, row, pixel / row);
 }
 
+/// The second table, and a game's frame. Counts are in the order of `count`: ours and the Rust's of each kind, those that ours alone has, the game.
+fn calls(rounds: usize, seed: u64, counts: &[f64]) {
+    let count = |n: usize, calls: usize| counts.get(n).map(|count| count / calls as f64);
+    let told = |count: Option<f64>| count.map_or("–".to_string(), |n| format!("{:.0}", n));
+    println!("One call: nanoseconds, least (median) of {} runs; instructions. Each is one of many in a loop, which is in the figures.\n", rounds);
+    println!("| {:33} | {:>17} | {:>17} | {:>6} | {:>7} | {:>7} |", "", "ours, ns", "the Rust, ns", "ratio", "ours", "Rust");
+    println!("|{:-<35}|{:->18}:|{:->18}:|{:->7}:|{:->8}:|{:->8}:|", "", "", "", "", "", "");
+    let nano = |times: &Times, calls: usize| format!("{:8.1} ({:6.1})", 1000.0 * times.least / calls as f64, 1000.0 * times.middle / calls as f64);
+    let mut pair = Pair::new(seed);
+    for (n, (kind, name)) in KINDS.into_iter().enumerate() {
+        must_be(pair.same(kind), name);
+        let (mut ours, mut rust) = (Vec::new(), Vec::new());
+        for _ in 0..rounds {
+            pair.before(kind);
+            ours.push(timed(|| kind.run(&mut pair.ours, &mut pair.our_reads)));
+            rust.push(timed(|| kind.run(&mut pair.rust, &mut pair.rust_reads)));
+        }
+        must_be(pair.same(kind), name);
+        let (ours, rust, calls) = (Times::of(ours), Times::of(rust), kind.calls());
+        let (our_count, rust_count) = (count(2 * n, calls), count(2 * n + 1, calls));
+        let (our_nano, rust_nano) = (nano(&ours, calls), nano(&rust, calls));
+        println!("| {:33} | {:>17} | {:>17} | {:6.3} | {:>7} | {:>7} |", name, our_nano, rust_nano, ours.least / rust.least, told(our_count), told(rust_count));
+    }
+    let mut buffers = Buffers::new(seed);
+    for (n, (name, run)) in ALONE.into_iter().enumerate() {
+        let times = Times::of((0..rounds).map(|_| timed(|| run(&mut buffers))).collect());
+        let told = told(count(2 * KINDS.len() + n, calls::RUN));
+        println!("| {:33} | {:>17} | {:>17} | {:>6} | {:>7} | {:>7} |", name, nano(&times, calls::RUN), "", "", told, "");
+    }
+    println!();
+    let mut games = games(seed);
+    let (mut ours, mut rust) = (Vec::new(), Vec::new());
+    for _ in 0..rounds {
+        ours.push(timed(|| games.ours()));
+        rust.push(timed(|| games.rust()));
+    }
+    must_be(games.same(), "a game's frame");
+    let (ours, rust) = (Times::of(ours), Times::of(rust));
+    let (our_count, rust_count) = (count(2 * KINDS.len() + ALONE.len(), 1), count(2 * KINDS.len() + ALONE.len() + 1, 1));
+    println!(
+        "bench: a game's frame, {} steps and {} port calls: ours {:.1} us, Rust {:.1} us, ratio {:.3} (of the medians {:.3}); instructions {} k, Rust {} k, ratio {}",
+        STEPS,
+        calls::PORT_CALLS,
+        ours.least,
+        rust.least,
+        ours.least / rust.least,
+        ours.middle / rust.middle,
+        thousands(our_count),
+        thousands(rust_count),
+        ratio(our_count, rust_count)
+    );
+}
+
 /// Marks that whoever counts from outside knows by name: one stands before each pass, the other behind it.
 #[no_mangle]
 #[inline(never)]
@@ -254,6 +339,22 @@ fn count(seed: u64, lines: usize) {
     counted(|| floor.store());
     let (_, mut pixels) = rows_and_pixels(seed);
     counted(|| pixels.pass());
+    if lines < LINES.len() {
+        return;
+    }
+    let mut pair = Pair::new(seed);
+    for (kind, _) in KINDS {
+        pair.before(kind);
+        counted(|| kind.run(&mut pair.ours, &mut pair.our_reads));
+        counted(|| kind.run(&mut pair.rust, &mut pair.rust_reads));
+    }
+    let mut buffers = Buffers::new(seed);
+    for (_, run) in ALONE {
+        counted(|| run(&mut buffers));
+    }
+    let mut games = games(seed);
+    counted(|| games.ours());
+    counted(|| games.rust());
 }
 
 fn main() {

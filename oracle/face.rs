@@ -24,6 +24,8 @@ mod raw {
             state: *const u8, state_len: usize, vram: *const u8, vram_len: usize, pixels: *mut u8, pixels_len: usize,
         ) -> u32;
         pub fn vdp_pixel(state: *const u8, state_len: usize, vram: *const u8, vram_len: usize, area: u8, row: u32, column: u32) -> u64;
+        pub fn vdp_write_tile(vram: *mut u8, vram_len: usize, tile: u16, codes: *const u8, codes_len: usize) -> u32;
+        pub fn vdp_read_tile(vram: *const u8, vram_len: usize, tile: u16, codes: *mut u8, codes_len: usize) -> u32;
         pub fn vdp_record_out(recording: *mut u8, recording_len: usize, used: usize, port: u8, value: u8) -> u32;
         pub fn vdp_record_input(recording: *mut u8, recording_len: usize, used: usize, port: u8) -> u32;
         pub fn vdp_record_step(recording: *mut u8, recording_len: usize, used: usize, area: u8) -> u32;
@@ -80,12 +82,24 @@ pub fn vdp_pixel(state: &[u8], vram: &[u8], area: u8, row: u32, column: u32) -> 
     unsafe { raw::vdp_pixel(state.as_ptr(), state.len(), vram.as_ptr(), vram.len(), area, row, column) }
 }
 
-#[allow(dead_code)] // the program `repair` alone calls it
+#[allow(dead_code)] // the programs `repair` and `bench` alone call it
 pub fn vdp_repair(block: &mut [u8], list: &mut [u8]) -> u32 {
     unsafe { raw::vdp_repair(block.as_mut_ptr(), block.len(), list.as_mut_ptr(), list.len()) }
 }
 
-// The program `records` alone calls these.
+// The bench alone calls these two.
+
+#[allow(dead_code)]
+pub fn vdp_write_tile(vram: &mut [u8], tile: u16, codes: &[u8]) -> u32 {
+    unsafe { raw::vdp_write_tile(vram.as_mut_ptr(), vram.len(), tile, codes.as_ptr(), codes.len()) }
+}
+
+#[allow(dead_code)]
+pub fn vdp_read_tile(vram: &[u8], tile: u16, codes: &mut [u8]) -> u32 {
+    unsafe { raw::vdp_read_tile(vram.as_ptr(), vram.len(), tile, codes.as_mut_ptr(), codes.len()) }
+}
+
+// The programs `records` and `bench` alone call these.
 
 #[allow(dead_code)]
 pub fn vdp_record_out(recording: &mut [u8], used: usize, port: u8, value: u8) -> u32 {

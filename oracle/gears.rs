@@ -69,6 +69,12 @@ pub fn video_is(vdp: &Vdp, video: &[u8]) -> bool {
     vdp.state.borrow().vram == video
 }
 
+/// A copy of the device's video memory.
+#[allow(dead_code)] // for bench/calls.rs
+pub fn video(vdp: &Vdp) -> Vec<u8> {
+    vdp.state.borrow().vram.to_vec()
+}
+
 /// Where the device's video memory stands.
 #[allow(dead_code)] // for bench/bus.rs, which watches it
 pub fn video_at(vdp: &Vdp) -> *const u8 {

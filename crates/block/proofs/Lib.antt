@@ -4,3 +4,4 @@ pub mod Whole
 pub mod RoundTrip
 pub mod Shapes
 pub mod Stores
+pub mod Made

@@ -1,11 +1,11 @@
 -- A device that is stored in a block is read back, and a well-formed block of bytes is the block of the device that it holds.
 -- Assumes nothing.
 use mathlib.Core.Path.{_≡_, refl, sym, ap, _∙_}
-use mathlib.Core.Bool.{Bool, true, false, _&&_}
+use mathlib.Core.Bool.{true, _&&_}
 use mathlib.Core.List.{List, [], _∷_, _++_}
 use Prim.Native.Nat.{ℕ, zero, suc, _+_, _*_, _/_, _%_, _<_, _≤_}
 use native.Mathlib.Omega.{arith}
-use borrow.Author.Tests.{eq-eqb, ne-eqb, eqb-true, leb-true}
+use borrow.Author.Tests.{eq-eqb, eqb-true, leb-true}
 use lib.Dec.{eqb, leb}
 use lib.ListN.{length, take, drop, length-append, length-take, length-drop, drop-of-length-le, List·getD-append}
 use lib.Seq.{take-at, drop-at, drop-drop, getD-take, getD-drop}
@@ -20,52 +20,18 @@ use Rattle.raster.specs.declared.LineTable.{LineTable}
 use Rattle.raster.specs.declared.LineTable.the-variants.{Steps261, Steps262}
 use Rattle.raster.specs.Raster.{lineTableNumber, lineTableFrom}
 use Rattle.vdp.specs.declared.VdpState.{VdpState}
-use Rattle.front.specs.declared.WriteDest.{WriteDest}
-use Rattle.front.specs.declared.WriteDest.the-variants.{None, Vram, Cram}
-use Rattle.front.specs.declared.Latch.{Latch}
-use Rattle.front.specs.declared.Latch.the-variants.{Empty, Held}
-use Rattle.block.specs.Block.{sized, markOf, fits, last, flagOf, flagFrom, chosenOf, chosenFrom, latchFlag, latchByte, latchFrom, head, small}
-use Rattle.block.specs.Block.{colourAt, colourBytes, coloursAt, blockOf, stateOf, marked, flagged, latchFits, wellFormed, decoded, Shape}
+use Rattle.inplace.specs.Fields.{flagFrom, chosenFrom, latchFlag, latchFrom, latchFits}
+use Rattle.inplace.proofs.Fields.{flag-back, flag-ok, flag-in, chosen-back, chosen-ok, chosen-in, latch-back, latch-ok, latch-flag-in, latch-byte-in}
+use Rattle.inplace.proofs.Fields.{byte-ok, address-back}
+use Rattle.block.specs.Block.{sized, markOf, fits, last, head, small, colourAt, colourBytes, coloursAt, blockOf, stateOf, marked, flagged}
+use Rattle.block.specs.Block.{wellFormed, Shape}
 use Rattle.block.proofs.Copies.{length-colourBytes, colour-byte}
 use Rattle.block.proofs.Whole.{length-small, last-old, last-new, length-last, fits-sized, length-of, long}
 
--- ---- the small fields
-flag-back : (t : Bool) → flagFrom (flagOf t) ≡ t
-flag-back true = refl
-flag-back false = refl
-
-flag-ok : (t : Bool) → leb (flagOf t) 1 ≡ true
-flag-ok true = refl
-flag-ok false = refl
-
-chosen-back : (w : WriteDest) → chosenFrom (chosenOf w) ≡ w
-chosen-back None = refl
-chosen-back Vram = refl
-chosen-back Cram = refl
-
-chosen-ok : (w : WriteDest) → leb (chosenOf w) 2 ≡ true
-chosen-ok None = refl
-chosen-ok Vram = refl
-chosen-ok Cram = refl
-
-latch-back : (l : Latch) → latchFrom (latchFlag l) (latchByte l) ≡ l
-latch-back Empty = refl
-latch-back (Held b) = refl
-
-latch-ok : (l : Latch) → leb (latchFlag l) 1 ≡ true
-latch-ok Empty = refl
-latch-ok (Held b) = refl
-
-byte-ok : (l : Latch) → latchFits (latchFlag l) (latchByte l) ≡ true
-byte-ok Empty = refl
-byte-ok (Held b) = refl
-
+-- ---- the table
 number-ok : (t : LineTable) → leb (lineTableNumber t) 1 ≡ true
 number-ok Steps261 = refl
 number-ok Steps262 = refl
-
-address-back : (a : ℕ) → a % 256 + 256 * (a / 256) ≡ a
-address-back a = omega arith
 
 -- ---- a device is read back
 module _ (n : ℕ) (s : VdpState) (g : Shape s) where
@@ -225,23 +191,7 @@ module _ (n : ℕ) (s : VdpState) (g : Shape s) where
         byte-ok (s .«cram_byte1»),
       ))
 
-  -- decode after encode
-  pub decoded-back : fits (s .raster .table) n ≡ true → decoded (blockOf n s) ≡ record { good = true; vdp = s }
-  unfolding decoded
-  decoded-back room = rw (good-block room, state-back room)
-
 -- ---- a well-formed block is the block of its device
-flag-in : (x : ℕ) → x ≤ 1 → flagOf (flagFrom x) ≡ x
-flag-in zero h = refl
-flag-in (suc zero) h = refl
-flag-in (suc (suc x)) h = absurd (omega arith)
-
-chosen-in : (x : ℕ) → x ≤ 2 → chosenOf (chosenFrom x) ≡ x
-chosen-in zero h = refl
-chosen-in (suc zero) h = refl
-chosen-in (suc (suc zero)) h = refl
-chosen-in (suc (suc (suc x))) h = absurd (omega arith)
-
 number-in : (x : ℕ) → x ≤ 1 → lineTableNumber (lineTableFrom x) ≡ x
 number-in zero h = refl
 number-in (suc zero) h = refl
@@ -251,15 +201,6 @@ one-left : (l : List ℕ) → length l ≡ 1 → l ≡ at l 0 ∷ []
 one-left [] h = absurd (omega arith)
 one-left (x ∷ []) h = refl
 one-left (x ∷ y ∷ l) h = absurd (omega arith)
-
-latch-flag-in : (f y : ℕ) → f ≤ 1 → latchFlag (latchFrom f y) ≡ f
-latch-flag-in zero y h = refl
-latch-flag-in (suc zero) y h = refl
-latch-flag-in (suc (suc f)) y h = absurd (omega arith)
-
-latch-byte-in : (f y : ℕ) → latchFits f y ≡ true → latchByte (latchFrom f y) ≡ y
-latch-byte-in zero y h = sym (eqb-true y 0 h)
-latch-byte-in (suc f) y h = rw (ne-eqb (suc f) 0 (λ e. omega arith))
 
 module _ (b : List ℕ) (w : wellFormed b ≡ true) where
   -- what well formed says, part by part
@@ -369,7 +310,7 @@ module _ (b : List ℕ) (w : wellFormed b ≡ true) (bytes : (i : ℕ) → at b 
       ∙ rw (number-in (at b 219) (said b w .table-219))
       (sym (one-left (drop 219 b) (simp length-drop (omega arith)) ∙ rw (getD-drop 219 b 0 0))))
 
-  -- encode after decode
+  -- the block of the device that a block holds
   pub block-back : blockOf (length b) (stateOf b) ≡ b
   unfolding blockOf stateOf
   block-back =

@@ -25,7 +25,8 @@ use Rattle.vdp.specs.Device.{device, made, frontOf, withFront, withPaletteByte,
 use Rattle.front.specs.Ports.{frontWrite, frontRead}
 use Rattle.vdp.specs.Ports.{oddPalette, paletteWrite, portWrite, portRead}
 use Rattle.front.proofs.Kept.{write-kept, read-registers}
-use Rattle.block.specs.Block.{latchByte, latchFrom, colourAt, coloursAt, wellFormed, stateOf, Shape}
+use Rattle.inplace.specs.Fields.{latchByte, latchFrom}
+use Rattle.block.specs.Block.{colourAt, coloursAt, wellFormed, stateOf, Shape}
 use Rattle.block.proofs.Copies.{length-coloursAt}
 use Rattle.block.proofs.Whole.{long}
 

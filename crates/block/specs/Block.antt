@@ -4,7 +4,7 @@
 use Prim.Native.Nat.{ℕ, _+_, _*_, _/_, _%_, _<_}
 use mathlib.Core.Path.{_≡_}
 use mathlib.Core.List.{List, [], _∷_, _++_}
-use mathlib.Core.Bool.{Bool, true, false, cond, not, _||_, _&&_}
+use mathlib.Core.Bool.{Bool, cond, _||_, _&&_}
 use lib.ListN.{length, take, drop, set}
 use lib.Seq.{paste}
 use lib.Dec.{leb, eqb}
@@ -16,12 +16,8 @@ use Rattle.raster.specs.declared.LineTable.{LineTable}
 use Rattle.raster.specs.declared.LineTable.the-variants.{Steps261, Steps262}
 use Rattle.raster.specs.Raster.{lineTableNumber, lineTableFrom}
 use Rattle.vdp.specs.declared.VdpState.{VdpState}
-use Rattle.front.specs.declared.WriteDest.{WriteDest}
-use Rattle.front.specs.declared.WriteDest.the-variants.{None, Vram, Cram}
-use Rattle.front.specs.declared.Latch.{Latch}
-use Rattle.front.specs.declared.Latch.the-variants.{Empty, Held}
-use Rattle.vdp.specs.Device.{fresh}
-use Rattle.block.specs.declared.Decoded.{Decoded}
+use Rattle.vdp.specs.Device.{made}
+use Rattle.inplace.specs.Fields.{flagOf, flagFrom, chosenOf, chosenFrom, latchFlag, latchByte, latchFrom, latchFits}
 
 -- R7.5: the bytes of the first version, which knows table 0 alone, and of the second; so its length n tells a block's version, and its mark
 abbrev pub oldSize : ℕ
@@ -40,33 +36,6 @@ markOf n = cond (eqb n oldSize) 0x53 0x54
 abbrev pub fits : LineTable → ℕ → Bool
 fits Steps261 n = sized n
 fits Steps262 n = eqb n blockSize
-
--- ---- the small fields: a flag is 0 or 1; the chosen memory has a number (R11.11); a latch is a flag and a byte, 0 under flag 0
-abbrev pub flagOf : Bool → ℕ
-flagOf true = 1
-flagOf false = 0
-
-abbrev pub flagFrom : ℕ → Bool
-flagFrom n = eqb n 1
-
-abbrev pub chosenOf : WriteDest → ℕ
-chosenOf None = 0
-chosenOf Vram = 1
-chosenOf Cram = 2
-
-abbrev pub chosenFrom : ℕ → WriteDest
-chosenFrom n = cond (eqb n 0) None (cond (eqb n 1) Vram Cram)
-
-abbrev pub latchFlag : Latch → ℕ
-latchFlag Empty = 0
-latchFlag (Held b) = 1
-
-abbrev pub latchByte : Latch → ℕ
-latchByte Empty = 0
-latchByte (Held b) = b
-
-abbrev pub latchFrom : ℕ → ℕ → Latch
-latchFrom flag byte = cond (eqb flag 0) Empty (Held byte)
 
 -- ---- the cache: the four bytes of each colour, and the colours that stand from place 91 on
 unfoldable pub colourBytes : List ℕ → List ℕ
@@ -136,19 +105,13 @@ marked b = eqb (at b 0) 0x56 && eqb (at b 1) (markOf (length b))
 abbrev pub flagged : List ℕ → Bool
 flagged b = leb (at b 15) 1 && leb (at b 20) 2 && leb (at b 21) 1 && leb (at b 23) 1 && leb (at b 26) 1 && leb (at b 219) 1
 
-abbrev pub latchFits : ℕ → ℕ → Bool
-latchFits flag byte = not (eqb flag 0) || eqb byte 0
-
 unfoldable pub wellFormed : List ℕ → Bool
 wellFormed b =
     sized (length b) && (marked b && flagged b && latchFits (at b 21) (at b 22) && latchFits (at b 23) (at b 24))
 
--- what reading a block gives, and what a device stored over b leaves: b's own version, or b as it is where it has no room for the device
-unfoldable pub decoded : List ℕ → Decoded
-decoded b = cond (wellFormed b) (record { good = true; vdp = stateOf b }) (record { good = false; vdp = fresh })
-
-unfoldable pub encoded : VdpState → List ℕ → List ℕ
-encoded s b = cond (fits (s .raster .table) (length b)) (blockOf (length b) s) b
+-- what a fresh device of table t leaves in b: b's own version, or b as it is where it has no room for it
+unfoldable pub freshIn : LineTable → List ℕ → List ℕ
+freshIn t b = cond (fits t (length b)) (blockOf (length b) (made t)) b
 
 -- a block with another status and raster (the table stays: no call changes it), and one with clean colours
 abbrev pub rasterStored : ℕ → Raster → List ℕ → List ℕ

@@ -1,83 +1,17 @@
 // The state block (R7.5): a device as 219 or 220 bytes, and back.
 ghost use mathlib.Core.Path.{_≡_};
 ghost use Prim.Native.Nat.{_+_, _*_, _≤_, _<_};
-ghost use lib.Dec.{leb};
 ghost use Rattle.laws.specs.Lists.{at};
-ghost use Rattle.raster.specs.Raster.{lineTableFrom};
-ghost use lib.ListN.{length, drop};
+ghost use lib.ListN.{length, drop, replicate};
 ghost use lib.Seq.{paste};
-ghost use Rattle.block.specs.Block.{oldSize, markOf, fits, stateOf, rasterStored, cacheStored, flagOf, chosenOf, chosenFrom, latchFlag, latchByte, latchFrom, wellFormed, colourAt, coloursAt, colourBytes, small, decoded, encoded};
-use front::Latch;
-use front::WriteDest;
+ghost use Rattle.block.specs.Block.{oldSize, markOf, fits, freshIn, stateOf, rasterStored, cacheStored, wellFormed, colourAt, coloursAt, colourBytes};
 use raster::LineTable;
 use raster::Raster;
-use vdp::VdpState;
 
 // The bytes of a block of the first version and of the second.
 pub const OLD_SIZE: usize = 219;
 
 pub const BLOCK_SIZE: usize = 220;
-
-// What a block holds: whether it is well formed, and its device (a fresh one where it is not).
-pub struct Decoded {
-    pub good: bool,
-    pub vdp: VdpState,
-}
-
-// The numbers of the small fields, and the fields of the numbers.
-fn flag_of(b: bool) -> u8
-    ensures { λ r. ⌜ r ≡ flagOf b ⌝ }
-{
-    if b { 1 } else { 0 }
-}
-
-fn chosen_of(d: WriteDest) -> u8
-    ensures { λ r. ⌜ r ≡ chosenOf d ⌝ }
-{
-    match d {
-        WriteDest::None => 0,
-        WriteDest::Vram => 1,
-        WriteDest::Cram => 2,
-    }
-}
-
-fn chosen_from(n: u8) -> WriteDest
-    ensures { λ r. ⌜ r ≡ chosenFrom n ⌝ }
-{
-    match n {
-        0 => WriteDest::None,
-        1 => WriteDest::Vram,
-        _ => WriteDest::Cram,
-    }
-}
-
-fn latch_flag(l: Latch) -> u8
-    ensures { λ r. ⌜ r ≡ latchFlag l ⌝ }
-{
-    match l {
-        Latch::Empty => 0,
-        Latch::Held(_) => 1,
-    }
-}
-
-fn latch_byte(l: Latch) -> u8
-    ensures { λ r. ⌜ r ≡ latchByte l ⌝ }
-{
-    match l {
-        Latch::Empty => 0,
-        Latch::Held(b) => b,
-    }
-}
-
-fn latch_from(flag: u8, byte: u8) -> Latch
-    ensures { λ r. ⌜ r ≡ latchFrom flag byte ⌝ }
-{
-    if flag == 0 {
-        Latch::Empty
-    } else {
-        Latch::Held(byte)
-    }
-}
 
 // The second byte of the mark, by the length.
 pub fn mark_of(len: usize) -> u8
@@ -119,17 +53,11 @@ fn copy(dst: &mut [u8], at: usize, src: &[u8], from: usize, n: usize)
     }
 }
 
-// A byte as a colour's part, and two bytes as an address.
+// A byte as a colour's part.
 fn wide(b: u8) -> u32
     ensures { λ r. ⌜ (r ≡ b) × (r < 256) ⌝ }
 {
     b as u32
-}
-
-fn word(low: u8, high: u8) -> u16
-    ensures { λ r. ⌜ r ≡ low + 256 * high ⌝ }
-{
-    (low as u16) + 256 * (high as u16)
 }
 
 // Four bytes of src, the lowest first.
@@ -197,86 +125,41 @@ pub fn well_formed(block: &[u8]) -> bool
     marked & flags & command & palette
 }
 
-// The device that a block holds.
-pub fn decode(block: &[u8]) -> Decoded
-    ensures { λ r. ⌜ r ≡ decoded (now (block .entry)) ⌝ }
+// Every byte 0.
+fn clear(block: &mut [u8])
+    ensures { λ _. ⌜ now (block .exit) ≡ replicate (length (now (block .entry))) 0 ⌝ }
 {
-    if !well_formed(block) {
-        return Decoded {
-            good: false,
-            vdp: VdpState::new(),
-        };
-    }
-    let vdp = VdpState {
-        status: block[2],
-        reg: registers(block),
-        raster: raster_in(block),
-        addr: word(block[17], block[18]),
-        vram_buffer: block[19],
-        dest: chosen_from(block[20]),
-        cram: palette_in(block),
-        cmd_byte1: latch_from(block[21], block[22]),
-        cram_byte1: latch_from(block[23], block[24]),
-        cram_dirty: block[26] == 1,
-        color_cache: cache_in(block),
-    };
-    Decoded {
-        good: true,
-        vdp: vdp,
+    let mut i = 0;
+    while i < block.len() {
+        block[i] = 0;
+        i += 1;
     }
 }
 
-// Bytes 14 to 26 of a block.
-fn small_of(state: VdpState) -> [u8; 13]
-    ensures { λ r. ⌜ r ≡ small state ⌝ }
+// A fresh device of this table into a block, in the version that its length tells; one that has no room for it is left as it is.
+pub fn fresh(block: &mut [u8], table: LineTable)
+    ensures { λ _. ⌜ now (block .exit) ≡ freshIn table (now (block .entry)) ⌝ }
 {
-    let raster = state.raster;
-    let dest = state.dest;
-    let cmd_byte1 = state.cmd_byte1;
-    let cram_byte1 = state.cram_byte1;
-    [
-        raster.v_counter,
-        flag_of(raster.v_counter_jumped),
-        raster.line_interrupt_counter,
-        (state.addr % 256) as u8,
-        (state.addr / 256) as u8,
-        state.vram_buffer,
-        chosen_of(dest),
-        latch_flag(cmd_byte1),
-        latch_byte(cmd_byte1),
-        latch_flag(cram_byte1),
-        latch_byte(cram_byte1),
-        raster.vertical_scroll,
-        flag_of(state.cram_dirty),
-    ]
-}
-
-// The device into a block, in the version that its length tells; one that has no room for it is left as it is.
-pub fn encode(state: VdpState, block: &mut [u8])
-    ensures { λ _. ⌜ now (block .exit) ≡ encoded state (now (block .entry)) ⌝ }
-{
-    let raster = state.raster;
-    let table = raster.table;
     let len = block.len();
     if !has_room(table, len) {
         return;
     }
-    let reg = state.reg;
-    let cram = state.cram;
-    let color_cache = state.color_cache;
-    let mark = [0x56, mark_of(len), state.status];
-    let small = small_of(state);
-    copy(block, 0, &mark, 0, 3);
-    copy(block, 3, &reg, 0, 11);
-    copy(block, 14, &small, 0, 13);
-    copy(block, 27, &cram, 0, 64);
-    put_colours(block, &color_cache);
+    clear(block);
+    block[0] = 0x56;
+    block[1] = mark_of(len);
+    block[5] = 0xFF;
+    block[6] = 0xFF;
+    block[7] = 0xFF;
+    block[8] = 0xFF;
+    block[9] = 0xFF;
+    block[13] = 1;
+    block[26] = 1;
     if OLD_SIZE < len {
         block[219] = raster::table_number(table);
     }
 }
 
-// ---- the parts of a block that a step reads and writes, each by itself
+// ---- the parts of a block that the calls read and write, each by itself
 
 // The registers.
 pub fn registers(block: &[u8]) -> [u8; 11]
@@ -326,7 +209,7 @@ pub fn store_raster(block: &mut [u8], status: u8, raster: Raster)
 {
     block[2] = status;
     block[14] = raster.v_counter;
-    block[15] = flag_of(raster.v_counter_jumped);
+    block[15] = inplace::flag_of(raster.v_counter_jumped);
     block[16] = raster.line_interrupt_counter;
     block[25] = raster.vertical_scroll;
 }

@@ -11,9 +11,10 @@ use Rattle.laws.specs.Lists.{at, written}
 use Rattle.laws.specs.Table.{table}
 use Rattle.colour.specs.Colour.{coloursOf}
 use Rattle.refusal.specs.declared.Refusal.the-variants.{BlockMalformed, ListLength}
-use Rattle.refusal.specs.Refusals.{Line, line, first, under}
 use Rattle.vdp.specs.Refusals.{size}
-use Rattle.block.specs.Block.{blockSize, sized, markOf, chosenFrom, stateOf}
+use Rattle.refusal.specs.Refusals.{Line, line, first, under}
+use Rattle.inplace.specs.Fields.{chosenFrom}
+use Rattle.block.specs.Block.{blockSize, sized, markOf, stateOf}
 use Rattle.block_repair.specs.declared.Repaired.{Repaired}
 
 -- R17.1: a flag, table or choice above the highest that there is becomes 0

@@ -90,9 +90,18 @@ use Rattle.home.proofs.dump_tileset as home-dump-tileset
 use Rattle.tile_codes.proofs.write_tile
 use Rattle.tile_codes.proofs.read_tile
 use Rattle.tile_codes.proofs.sheet
+use Rattle.inplace.proofs.flag_of
+use Rattle.inplace.proofs.latch_in
+use Rattle.inplace.proofs.address_in
+use Rattle.inplace.proofs.store_latch
+use Rattle.inplace.proofs.store_address
+use Rattle.inplace.proofs.store_colour
+use Rattle.inplace.proofs.write as write-in-place
+use Rattle.inplace.proofs.read as read-in-place
+use Rattle.block_ports.proofs.out as out-in-place
+use Rattle.block_ports.proofs.input as input-in-place
 use Rattle.block.proofs.well_formed
-use Rattle.block.proofs.decode
-use Rattle.block.proofs.encode
+use Rattle.block.proofs.fresh
 use Rattle.block.proofs.mark_of
 use Rattle.block.proofs.has_room
 use Rattle.block.proofs.colour_at
@@ -485,17 +494,14 @@ sheet-once κs a q z z′ w w′ e f = (e .0 .count ∙ sym (f .0 .count), λ i.
 pub well-formed-once : OneOutcome 1 well_formed.Kinds.ps well_formed.Kinds.r well_formed.Reads.Asked well_formed.Reads.Learnt
 well-formed-once κs a q z z′ w w′ e f = (e ∙ sym f, refl)
 
-pub decode-once : OneOutcome 1 decode.Kinds.ps decode.Kinds.r decode.Reads.Asked decode.Reads.Learnt
-decode-once κs a q z z′ w w′ e f = (e ∙ sym f, refl)
-
 pub mark-of-once : OneOutcome 0 mark_of.Kinds.ps mark_of.Kinds.r mark_of.Reads.Asked mark_of.Reads.Learnt
 mark-of-once κs a q z z′ w w′ e f = (e ∙ sym f, refl)
 
 pub has-room-once : OneOutcome 0 has_room.Kinds.ps has_room.Kinds.r has_room.Reads.Asked has_room.Reads.Learnt
 has-room-once κs a q z z′ w w′ e f = (e ∙ sym f, refl)
 
-pub encode-once : OneOutcome 1 encode.Kinds.ps encode.Kinds.r encode.Reads.Asked encode.Reads.Learnt
-encode-once κs a q z z′ w w′ e f = (refl, λ i. (tt, ((e ∙ sym f) i, w .1 .1)))
+pub fresh-once : OneOutcome 1 fresh.Kinds.ps fresh.Kinds.r fresh.Reads.Asked fresh.Reads.Learnt
+fresh-once κs a q z z′ w w′ e f = (refl, λ i. ((e ∙ sym f) i, w .1))
 
 pub colour-at-once : OneOutcome 1 colour_at.Kinds.ps colour_at.Kinds.r colour_at.Reads.Asked colour_at.Reads.Learnt
 colour-at-once κs a q z z′ w w′ e f = (e ∙ sym f, refl)
@@ -517,6 +523,43 @@ store-raster-once κs a q z z′ w w′ e f = (refl, λ i. ((e ∙ sym f) i, w .
 
 pub store-cache-once : OneOutcome 2 store_cache.Kinds.ps store_cache.Kinds.r store_cache.Reads.Asked store_cache.Reads.Learnt
 store-cache-once κs a q z z′ w w′ e f = (refl, λ i. ((e ∙ sym f) i, w .1))
+
+-- ---- the ports in place
+pub flag-of-once : OneOutcome 0 flag_of.Kinds.ps flag_of.Kinds.r flag_of.Reads.Asked flag_of.Reads.Learnt
+flag-of-once κs a q z z′ w w′ e f = (e ∙ sym f, refl)
+
+pub latch-in-once : OneOutcome 1 latch_in.Kinds.ps latch_in.Kinds.r latch_in.Reads.Asked latch_in.Reads.Learnt
+latch-in-once κs a q z z′ w w′ e f = (e ∙ sym f, refl)
+
+pub address-in-once : OneOutcome 1 address_in.Kinds.ps address_in.Kinds.r address_in.Reads.Asked address_in.Reads.Learnt
+address-in-once κs a q z z′ w w′ e f = (e ∙ sym f, refl)
+
+pub store-latch-once : OneOutcome 1 store_latch.Kinds.ps store_latch.Kinds.r store_latch.Reads.Asked store_latch.Reads.Learnt
+store-latch-once κs a q z z′ w w′ e f = (refl, λ i. ((e ∙ sym f) i, w .1))
+
+pub store-address-once : OneOutcome 1 store_address.Kinds.ps store_address.Kinds.r store_address.Reads.Asked store_address.Reads.Learnt
+store-address-once κs a q z z′ w w′ e f = (refl, λ i. ((e ∙ sym f) i, w .1))
+
+pub store-colour-once : OneOutcome 1 store_colour.Kinds.ps store_colour.Kinds.r store_colour.Reads.Asked store_colour.Reads.Learnt
+store-colour-once κs a q z z′ w w′ e f = (refl, λ i. ((e ∙ sym f) i, w .1))
+
+pub write-in-place-once : OneOutcome 2 write-in-place.Kinds.ps write-in-place.Kinds.r write-in-place.Reads.Asked write-in-place.Reads.Learnt
+write-in-place-once κs a q z z′ w w′ e f = (
+  λ i. record { refusal = (e .0 .refusal ∙ sym (f .0 .refusal)) i; palette = (e .0 .palette ∙ sym (f .0 .palette)) i },
+  λ i. ((e .0 .block ∙ sym (f .0 .block)) i, ((e .1 ∙ sym (f .1)) i, w .1 .1)),
+)
+
+pub read-in-place-once : OneOutcome 2 read-in-place.Kinds.ps read-in-place.Kinds.r read-in-place.Reads.Asked read-in-place.Reads.Learnt
+read-in-place-once κs a q z z′ w w′ e f =
+    (λ i. record { refusal = (e .refusal ∙ sym (f .refusal)) i; byte = (e .byte ∙ sym (f .byte)) i }, λ i. ((e .block ∙ sym (f .block)) i, w .1))
+
+pub out-in-place-once : OneOutcome 2 out-in-place.Kinds.ps out-in-place.Kinds.r out-in-place.Reads.Asked out-in-place.Reads.Learnt
+out-in-place-once κs a q z z′ w w′ e f =
+    (e .refusal ∙ sym (f .refusal), λ i. ((e .block ∙ sym (f .block)) i, ((e .memory ∙ sym (f .memory)) i, w .1 .1)))
+
+pub input-in-place-once : OneOutcome 2 input-in-place.Kinds.ps input-in-place.Kinds.r input-in-place.Reads.Asked input-in-place.Reads.Learnt
+input-in-place-once κs a q z z′ w w′ e f =
+    (λ i. record { refusal = (e .refusal ∙ sym (f .refusal)) i; byte = (e .byte ∙ sym (f .byte)) i }, λ i. ((e .block ∙ sym (f .block)) i, w .1))
 
 -- ---- salvage
 pub repair-once : OneOutcome 2 repair.Kinds.ps repair.Kinds.r repair.Reads.Asked repair.Reads.Learnt

@@ -1,7 +1,7 @@
 -- A call of the C face, from what its parts give.
 -- Assumes nothing.
 use mathlib.Core.Path.{_≡_, refl, sym, ap, _∙_}
-use mathlib.Core.Bool.{Bool, true, false, _&&_}
+use mathlib.Core.Bool.{true, false, _&&_}
 use mathlib.Core.List.{List, []}
 use Prim.Native.Nat.{ℕ, _+_, _*_, _<_, _≤_}
 use borrow.Author.Tests.{le-leb, lt-leb}
@@ -10,19 +10,17 @@ use lib.ListN.{length}
 use Rattle.laws.specs.Lists.{at}
 use Rattle.picture.specs.declared.Screen.{Screen}
 use Rattle.picture.specs.declared.RenderArea.{RenderArea}
-use Rattle.raster.specs.declared.Raster.{Raster}
 use Rattle.raster.specs.Raster.{lineTableFrom}
 use Rattle.vdp.specs.declared.VdpState.{VdpState}
-use Rattle.vdp.specs.declared.Written.{Written}
-use Rattle.vdp.specs.declared.ReadBack.{ReadBack}
 use Rattle.refusal.specs.declared.Refusal.{Refusal}
 use Rattle.refusal.specs.declared.Refusal.the-variants.{Accepted, BlockMalformed, UnknownArea}
 use Rattle.vdp.specs.Device.{made}
 use Rattle.refusal.specs.Refusals.{refusalNumber, Line}
-use Rattle.vdp.specs.Ports.{WriteLeaves, portRead}
-use Rattle.block.specs.declared.Decoded.{Decoded}
-use Rattle.block.specs.Block.{fits, wellFormed, stateOf, blockOf, decoded, encoded, Sized}
-use Rattle.block.proofs.Whole.{good-is, device-is, encoded-is, long}
+use Rattle.vdp.specs.Ports.{portRead}
+use Rattle.inplace.specs.declared.Got.{Got}
+use Rattle.block.specs.Block.{fits, freshIn, wellFormed, stateOf, blockOf, Sized}
+use Rattle.block.proofs.Whole.{long}
+use Rattle.block_ports.specs.InPlace.{OutInPlace, InputInPlace}
 use Rattle.block.proofs.RoundTrip.{block-back}
 use Rattle.block.proofs.Stores.{sized-state}
 use Rattle.step.specs.declared.Stepped.{Stepped}
@@ -33,10 +31,9 @@ use Rattle.step.specs.Step.{coloursNow, rowLines, frameLines, readingOf, cleane
 use Rattle.step.specs.Layers.{LayersLeave}
 use Rattle.step.proofs.Laws.{step-table}
 use Rattle.step.proofs.Steps.{row-joined, frame-joined, row-layers-joined, frame-layers-joined}
-use Rattle.step.proofs.Kept.{write-keeps, read-keeps}
 use Rattle.points.specs.declared.DrawnRow.{DrawnRow}
 use Rattle.points.specs.declared.DrawnRow.the-variants.{NoRow, Drawn}
-use Rattle.step.specs.Dump.{DumpLeaves}
+use Rattle.dump.specs.Sheet.{SheetLeaves}
 use Rattle.picture.specs.Area.{areaFrom, screenOf, columns}
 use Rattle.face.specs.Layers.{layerLines, layerOn, layerCall, layersLeft, LayerLeaves, LayerRowLeaves, LayerFrameLeaves}
 use Rattle.word.specs.Word.{stepWord}
@@ -63,77 +60,61 @@ module _ (b : List ℕ) (t : ℕ) where
   new-ten h en = rw en (leaves (sym (rw h)))
 
   pub new-done :
-      t ≤ 1 → fits (lineTableFrom t) (length b) ≡ true → {s : VdpState} {b′ : List ℕ} {n : ℕ} →
-      s ≡ made (lineTableFrom t) → b′ ≡ encoded s b → n ≡ refusalNumber Accepted → Leaves (newTableCall b t) n b′ []
-  unfolding newTableCall encoded
-  new-done h room {s} {b′} es eb en =
+      t ≤ 1 → fits (lineTableFrom t) (length b) ≡ true → {b′ : List ℕ} {n : ℕ} →
+      b′ ≡ freshIn (lineTableFrom t) b → n ≡ refusalNumber Accepted → Leaves (newTableCall b t) n b′ []
+  unfolding newTableCall freshIn
+  new-done h room {b′} eb en =
       let low = le-leb t 1 h in
-      let k : b′ ≡ blockOf (length b) (made (lineTableFrom t)) = eb ∙ rw (es, room) in
+      let k : b′ ≡ blockOf (length b) (made (lineTableFrom t)) = eb ∙ rw room in
       record { word = en ∙ rw (low, room); block = k ∙ rw (low, room); lent = rw (low, room) }
 
--- ---- the block is read first
-module _ (b : List ℕ) {d : Decoded} (e : d ≡ decoded b) where
-  pub told : {t : Bool} → d .good ≡ t → wellFormed b ≡ t
-  told g = sym (good-is b) ∙ ap (λ (x : Decoded). x .good) (sym e) ∙ g
+-- ---- the block is tested first
+module _ (b : List ℕ) where
+  ten : (x : List ℕ) (call : VdpState → Called) {n : ℕ} → wellFormed b ≡ false → n ≡ refusalNumber BlockMalformed → Leaves (onBlock b x call) n b x
+  ten x call w en = rw en (leaves (sym (rw w)))
 
-  pub device : d .good ≡ true → d .vdp ≡ stateOf b
-  device g = ap (λ (x : Decoded). x .vdp) e ∙ device-is b (told g)
+  on : (x : List ℕ) (call : VdpState → Called) → wellFormed b ≡ true → call (stateOf b) ≡ onBlock b x call
+  on x call w = sym (rw w)
 
-  pub ten : d .good ≡ false → (x : List ℕ) (call : VdpState → Called) {n : ℕ} → n ≡ refusalNumber BlockMalformed → Leaves (onBlock b x call) n b x
-  ten g x call en = rw en (leaves (sym (rw (told g))))
-
-  pub on : d .good ≡ true → (x : List ℕ) (call : VdpState → Called) → call (d .vdp) ≡ onBlock b x call
-  on g x call = ap call (device g) ∙ sym (rw (told g))
-
-  -- the device that a call leaves is stored in the block
-  pub kept : (g : d .good ≡ true) (s : VdpState) {b′ : List ℕ} → s .raster ≡ d .vdp .raster → b′ ≡ encoded s b → b′ ≡ blockOf (length b) s
-  kept g s er eb = eb ∙ encoded-is s b (told g) (ap (λ (x : Raster). x .table) er ∙ ap (λ (x : VdpState). x .raster .table) (device g))
-
-  pub out-ten : d .good ≡ false → (m : List ℕ) (p v : ℕ) {n : ℕ} → n ≡ refusalNumber BlockMalformed → Leaves (outCall b m p v) n b m
+  pub out-ten : (m : List ℕ) (p v : ℕ) {n : ℕ} → wellFormed b ≡ false → n ≡ refusalNumber BlockMalformed → Leaves (outCall b m p v) n b m
   unfolding outCall
-  out-ten g m p v en = ten g m (outOn m p v (length b)) en
+  out-ten m p v = ten m (outOn m p v (length b))
 
   pub out-done :
-      d .good ≡ true → (m : List ℕ) (p v : ℕ) {a : Written} {m′ b′ : List ℕ} {n : ℕ} → WriteLeaves (d .vdp) m p v a m′ → b′ ≡ encoded (a .vdp) b
-      → n ≡ refusalNumber (a .refusal) → Leaves (outCall b m p v) n b′ m′
+      (m : List ℕ) (p v : ℕ) {r : Refusal} {b′ m′ : List ℕ} {n : ℕ} → wellFormed b ≡ true → OutInPlace b m p v r b′ m′ → n ≡ refusalNumber r
+      → Leaves (outCall b m p v) n b′ m′
   unfolding outCall
-  out-done g m p v {a} l eb en =
-      along (on g m (outOn m p v (length b)))
-      (record {
-        word = en ∙ ap (λ (x : Written). refusalNumber (x .refusal)) (l .answer);
-        block = kept g (a .vdp) (ap (λ (x : Written). x .vdp .raster) (l .answer) ∙ write-keeps (d .vdp) m p v .raster) eb ∙ ap
-            (λ (x : Written). blockOf (length b) (x .vdp)) (l .answer);
-        lent = l .memory;
-      })
+  out-done m p v w l en =
+      along (on m (outOn m p v (length b)) w) (record { word = en ∙ ap refusalNumber (l .refusal); block = l .block; lent = l .memory })
 
-  pub input-ten : d .good ≡ false → (m : List ℕ) (p : ℕ) {n : ℕ} → n ≡ refusalNumber BlockMalformed → Leaves (inputCall b m p) n b []
+  pub input-ten : (m : List ℕ) (p : ℕ) {n : ℕ} → wellFormed b ≡ false → n ≡ refusalNumber BlockMalformed → Leaves (inputCall b m p) n b []
   unfolding inputCall
-  input-ten g m p en = ten g [] (inputOn m p (length b)) en
+  input-ten m p = ten [] (inputOn m p (length b))
 
   pub input-done :
-      d .good ≡ true → (m : List ℕ) (p : ℕ) {a : ReadBack} {b′ : List ℕ} {n : ℕ} → a ≡ portRead (d .vdp) m p → b′ ≡ encoded (a .vdp) b
-      → n ≡ refusalNumber (a .refusal) → Leaves (inputCall b m p) (n + 256 * a .byte) b′ []
+      (m : List ℕ) (p : ℕ) {r : Got} {b′ : List ℕ} {n : ℕ} → wellFormed b ≡ true → InputInPlace b m p r b′ → n ≡ refusalNumber (r .refusal)
+      → Leaves (inputCall b m p) (n + 256 * r .byte) b′ []
   unfolding inputCall
-  input-done g m p {a} ea eb en =
-      along (on g [] (inputOn m p (length b)))
+  input-done m p {r} w l en =
+      along (on [] (inputOn m p (length b)) w)
       (record {
-        word = ap (λ (x : ℕ). x + 256 * a .byte) en ∙ ap (λ (x : ReadBack). refusalNumber (x .refusal) + 256 * x .byte) ea;
-        block = kept g (a .vdp) (ap (λ (x : ReadBack). x .vdp .raster) ea ∙ read-keeps (d .vdp) m p .raster) eb ∙ ap
-            (λ (x : ReadBack). blockOf (length b) (x .vdp)) ea;
+        word = ap (λ (x : ℕ). x + 256 * r .byte) (en ∙ ap refusalNumber (l .refusal)) ∙ ap
+            (λ (x : ℕ). refusalNumber (portRead (stateOf b) m p .refusal) + 256 * x) (l .byte);
+        block = l .block;
         lent = refl;
       })
 
   -- ---- the dump
-  pub dump-ten : d .good ≡ false → (m pixels : List ℕ) {n : ℕ} → n ≡ refusalNumber BlockMalformed → Leaves (dumpCall b m pixels) n b pixels
+  pub dump-ten : (m pixels : List ℕ) {n : ℕ} → wellFormed b ≡ false → n ≡ refusalNumber BlockMalformed → Leaves (dumpCall b m pixels) n b pixels
   unfolding dumpCall
-  dump-ten g m pixels en = ten g pixels (dumpOn b m pixels) en
+  dump-ten m pixels = ten pixels (dumpOn b m pixels)
 
   pub dump-done :
-      d .good ≡ true → (m pixels : List ℕ) {r : Refusal} {pixels′ : List ℕ} {n : ℕ} → DumpLeaves (d .vdp) m pixels r pixels′ → n ≡ refusalNumber r
-      → Leaves (dumpCall b m pixels) n b pixels′
+      (m pixels : List ℕ) {reg cache : List ℕ} {r : Refusal} {pixels′ : List ℕ} {n : ℕ} → wellFormed b ≡ true → reg ≡ stateOf b .reg
+      → cache ≡ stateOf b .«color_cache» → SheetLeaves reg cache m pixels r pixels′ → n ≡ refusalNumber r → Leaves (dumpCall b m pixels) n b pixels′
   unfolding dumpCall
-  dump-done g m pixels l en =
-      along (on g pixels (dumpOn b m pixels)) (record { word = en ∙ ap refusalNumber (l .refusal); block = refl; lent = l .bytes })
+  dump-done m pixels w er ec l en =
+      along (on pixels (dumpOn b m pixels) w) (record { word = en ∙ ap refusalNumber (l .refusal); block = refl; lent = rw (er, ec) at (l .bytes) })
 
 -- ---- a step: the block is tested, the area number, and then the block's parts are read each by itself
 module _ (b m x : List ℕ) (n : ℕ) where

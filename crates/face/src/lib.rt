@@ -22,7 +22,6 @@ use points::Points;
 use refusal::Refusal;
 use trace_record::Record;
 use trace_record::Recorded;
-use vdp::VdpState;
 
 // A fresh device of this table into the block, in the version that the block's length tells.
 #[no_mangle]
@@ -36,7 +35,7 @@ pub extern "C" fn vdp_new_table(state: &mut [u8], table: u8) -> u32
     if !block::has_room(named, state.len()) {
         return word::number(Refusal::BlockMalformed);
     }
-    block::encode(VdpState::with_table(named), state);
+    block::fresh(state, named);
     word::number(Refusal::Accepted)
 }
 
@@ -53,16 +52,10 @@ pub extern "C" fn vdp_new(state: &mut [u8]) -> u32
 pub extern "C" fn vdp_out(state: &mut [u8], vram: &mut [u8], port: u16, value: u8) -> u32
     ensures { λ r. ⌜ Leaves (outCall (now (state .entry)) (now (vram .entry)) port value) r (now (state .exit)) (now (vram .exit)) ⌝ }
 {
-    let d = block::decode(state);
-    if !d.good {
+    if !block::well_formed(state) {
         return word::number(Refusal::BlockMalformed);
     }
-    let vdp = d.vdp;
-    let a = vdp.out(vram, port, value);
-    let next = a.vdp;
-    block::encode(next, state);
-    let refusal = a.refusal;
-    word::number(refusal)
+    word::number(block_ports::out(state, vram, port, value))
 }
 
 // A port read; its byte is in bits 8 to 15 of the answer.
@@ -70,16 +63,12 @@ pub extern "C" fn vdp_out(state: &mut [u8], vram: &mut [u8], port: u16, value: u
 pub extern "C" fn vdp_input(state: &mut [u8], vram: &[u8], port: u16) -> u32
     ensures { λ r. ⌜ Leaves (inputCall (now (state .entry)) (now (vram .entry)) port) r (now (state .exit)) [] ⌝ }
 {
-    let d = block::decode(state);
-    if !d.good {
+    if !block::well_formed(state) {
         return word::number(Refusal::BlockMalformed);
     }
-    let vdp = d.vdp;
-    let a = vdp.input(vram, port);
-    let next = a.vdp;
-    block::encode(next, state);
-    let refusal = a.refusal;
-    word::number(refusal) + 256 * (a.byte as u32)
+    let got = block_ports::input(state, vram, port);
+    let refusal = got.refusal;
+    word::number(refusal) + 256 * (got.byte as u32)
 }
 
 // The colours that a step of the block's device draws with.
@@ -234,12 +223,11 @@ pub extern "C" fn vdp_layer_row_step(
 pub extern "C" fn vdp_dump_tileset(state: &[u8], vram: &[u8], pixels: &mut [u8]) -> u32
     ensures { λ r. ⌜ Leaves (dumpCall (now (state .entry)) (now (vram .entry)) (now (pixels .entry))) r (now (state .entry)) (now (pixels .exit)) ⌝ }
 {
-    let d = block::decode(state);
-    if !d.good {
+    if !block::well_formed(state) {
         return word::number(Refusal::BlockMalformed);
     }
-    let vdp = d.vdp;
-    word::number(step::dump_tileset(vdp, vram, pixels))
+    let colours = block::cache_in(state);
+    word::number(dump::dump_tileset(block::registers(state), &colours, vram, pixels))
 }
 
 // The number of this face.

@@ -9,13 +9,13 @@ use refusal::Refusal;
 use small::VRAM_ADDRESSES;
 
 // The ports, known by their low byte (R3.3), and the bytes of video memory.
-const VDP_CMD: u16 = 0xBF;
+pub const VDP_CMD: u16 = 0xBF;
 
-const VDP_DATA: u16 = 0xBE;
+pub const VDP_DATA: u16 = 0xBE;
 
-const VCOUNTER_READ: u16 = 0x7E;
+pub const VCOUNTER_READ: u16 = 0x7E;
 
-const HCOUNTER_READ: u16 = 0x7F;
+pub const HCOUNTER_READ: u16 = 0x7F;
 
 // The memory that the data port reads and writes.
 pub enum WriteDest {

@@ -1,22 +1,35 @@
 -- `face::vdp_dump_tileset` meets its contract: all tiles into the pixels.
 use borrow.Author.Needs.{needs}
+use mathlib.Core.Path.{sym, _∙_}
 use borrow.Author.Tests.{not-true, not-false}
+use Rattle.block.proofs.Whole.{long}
 use Rattle.face.proofs.Laws.{dump-ten, dump-done}
 use Rattle.face.proofs.vdp_dump_tileset.Statement.{statement}
 use Rattle.face.proofs.vdp_dump_tileset.Tie as tie
 
-decode-requires : tie.Need-decode-requires
-decode-requires c κs = search needs
+well-formed-requires : tie.Need-well-formed-requires
+well-formed-requires c κs = search needs
 
 number-requires : tie.Need-number-requires
 number-requires c κs = search needs
 
 returns : tie.Need-returns
 returns c =
-    let at-decode = c .before .before .before in
-    let at-start = at-decode .before .before .before .before in
-    let a = at-start .args in
-    dump-ten (a .state .now) (at-decode .decode .ensures) (not-true _ (c .before .if1 .taken)) (a .vram .now) (a .pixels .now) (c .number .ensures .0)
+    let at-well-formed = c .before .before in
+    let at-start = at-well-formed .before .before .before .before in
+    dump-ten (at-start .args .state .now) (at-start .args .vram .now) (at-start .args .pixels .now)
+    (sym (at-well-formed .well-formed .ensures) ∙ not-true _ (c .before .if1 .taken)) (c .number .ensures .0)
+
+cache-in-requires : tie.Need-cache-in-requires
+cache-in-requires c κs =
+    let at-start = c .before .before .before .before .before in
+    long (at-start .args .state .now) (sym (c .before .well-formed .ensures) ∙ not-false _ (c .if1 .left))
+
+registers-requires : tie.Need-registers-requires
+registers-requires c κs =
+    let at-well-formed = c .before .before in
+    let at-start = at-well-formed .before .before .before .before in
+    long (at-start .args .state .now) (sym (at-well-formed .well-formed .ensures) ∙ not-false _ (c .before .if1 .left))
 
 dump-tileset-requires : tie.Need-dump-tileset-requires
 dump-tileset-requires c κs = search needs
@@ -30,20 +43,24 @@ same-length c = search needs
 returns-2 : tie.Need-returns-2
 returns-2 c =
     let at-dump-tileset = c .before .before .before in
-    let at-if1 = at-dump-tileset .before .before .before in
-    let at-decode = at-if1 .before .before in
-    let at-start = at-decode .before .before .before .before in
-    let a = at-start .args in
-    dump-done (a .state .now) (at-decode .decode .ensures) (not-false _ (at-if1 .if1 .left)) (a .vram .now) (a .pixels .now)
-    (at-dump-tileset .dump-tileset .ensures) (c .number2 .ensures .0)
+    let at-registers = at-dump-tileset .before .before .before in
+    let at-cache-in = at-registers .before in
+    let at-if1 = at-cache-in .before in
+    let at-well-formed = at-if1 .before in
+    let at-start = at-well-formed .before .before .before .before in
+    dump-done (at-start .args .state .now) (at-start .args .vram .now) (at-start .args .pixels .now)
+    (sym (at-well-formed .well-formed .ensures) ∙ not-false _ (at-if1 .if1 .left)) (at-registers .registers .ensures)
+    (at-cache-in .cache-in .ensures) (at-dump-tileset .dump-tileset .ensures) (c .number2 .ensures .0)
 
 pub vdp-dump-tileset-spec : {M : Type 1} → statement M
 vdp-dump-tileset-spec =
     tie.close
     (tie.spec
-    decode-requires
+    well-formed-requires
     number-requires
     returns
+    cache-in-requires
+    registers-requires
     dump-tileset-requires
     number-requires-2
     same-length

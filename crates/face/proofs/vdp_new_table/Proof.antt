@@ -1,8 +1,7 @@
 -- `face::vdp_new_table` meets its contract: a fresh device of this table into the block, in the version that the block's length tells.
 use borrow.Author.Needs.{needs}
-use mathlib.Core.Path.{sym, ap, _∙_}
+use mathlib.Core.Path.{sym, _∙_}
 use borrow.Author.Tests.{le-leb, lt-leb, not-true, not-false}
-use Rattle.vdp.specs.Device.{made}
 use Rattle.face.proofs.Laws.{new-ten, new-done}
 use Rattle.face.proofs.vdp_new_table.Statement.{statement}
 use Rattle.face.proofs.vdp_new_table.Tie as tie
@@ -35,11 +34,8 @@ returns-2 c =
     (rw (le-leb (at-start .args .table) 1 (at-if1 .if1 .left), ← at-table-from .table-from .ensures)
     (sym (at-has-room .has-room .ensures) ∙ not-true _ (c .before .if2 .taken))) (c .number2 .ensures .0)
 
-with-table-requires : tie.Need-with-table-requires
-with-table-requires c κs = search needs
-
-encode-requires : tie.Need-encode-requires
-encode-requires c κs = search needs
+fresh-requires : tie.Need-fresh-requires
+fresh-requires c κs = search needs
 
 number-requires-3 : tie.Need-number-requires-3
 number-requires-3 c κs = search needs
@@ -49,16 +45,15 @@ same-length c = search needs
 
 returns-3 : tie.Need-returns-3
 returns-3 c =
-    let at-encode = c .before .before .before in
-    let at-with-table = at-encode .before .before in
-    let at-if2 = at-with-table .before in
+    let at-fresh = c .before .before .before in
+    let at-if2 = at-fresh .before .before in
     let at-has-room = at-if2 .before in
     let at-table-from = at-has-room .before in
     let at-if1 = at-table-from .before in
     let at-start = at-if1 .before .before in
     new-done (at-start .args .state .now) (at-start .args .table) (at-if1 .if1 .left)
     (rw (← at-table-from .table-from .ensures) (sym (at-has-room .has-room .ensures) ∙ not-false _ (at-if2 .if2 .left)))
-    (at-with-table .with-table .ensures ∙ ap made (at-table-from .table-from .ensures)) (at-encode .encode .ensures) (c .number3 .ensures .0)
+    (rw (at-table-from .table-from .ensures) at (at-fresh .fresh .ensures)) (c .number3 .ensures .0)
 
 pub vdp-new-table-spec : {M : Type 1} → statement M
 vdp-new-table-spec =
@@ -70,8 +65,7 @@ vdp-new-table-spec =
     has-room-requires
     number-requires-2
     returns-2
-    with-table-requires
-    encode-requires
+    fresh-requires
     number-requires-3
     same-length
     returns-3)

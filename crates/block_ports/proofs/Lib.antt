@@ -1,0 +1,4 @@
+-- The laws of the ports in place.
+pub mod Front
+pub mod Palette
+pub mod Calls

@@ -1,0 +1,2 @@
+-- What the contracts of `block_ports` cite.
+pub mod InPlace

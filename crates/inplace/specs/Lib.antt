@@ -1,0 +1,3 @@
+-- What the contracts of `inplace` cite.
+pub mod Fields
+pub mod InPlace
