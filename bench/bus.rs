@@ -33,6 +33,26 @@ struct Part {
     block: Vec<u8>,
     video: Vec<u8>,
     calls: Vec<Call>,
+    /// and behind them, tiles written or read
+    tiles: Vec<TileCall>,
+}
+
+/// A tile written, of codes that are all the same, or read.
+#[derive(Clone, Copy)]
+struct TileCall {
+    writes: bool,
+    tile: u16,
+}
+
+impl TileCall {
+    /// What it may load of video memory: to write a tile nothing; to read one four bytes for each code, which R11.12 names as an exception.
+    fn least(&self) -> usize {
+        if self.writes || self.tile > 511 {
+            0
+        } else {
+            64 * 4
+        }
+    }
 }
 
 impl Part {
@@ -52,7 +72,7 @@ const COUNTER: usize = 14;
 /// The pass of `make bench`.
 fn pass(area: Area, list: List, seed: u64) -> Part {
     let (block, video) = workload::make(list, seed);
-    Part { block, video, calls: vec![Call::step(area); STEPS] }
+    Part { block, video, calls: vec![Call::step(area); STEPS], tiles: vec![] }
 }
 
 /// So many visible rows from row 0 on, of the workload of `make bench` with this done to it.
@@ -60,7 +80,7 @@ fn rows(count: usize, seed: u64, change: impl Fn(&mut [u8], &mut [u8])) -> Part 
     let (mut block, mut video) = workload::make(List::Each(8), seed);
     block[COUNTER] = 23;
     change(&mut block, &mut video);
-    Part { block, video, calls: vec![Call::step(Area::Visible); count] }
+    Part { block, video, calls: vec![Call::step(Area::Visible); count], tiles: vec![] }
 }
 
 /// A workload by its name.
@@ -89,7 +109,16 @@ fn workload_named(name: &str, seed: u64) -> Option<Vec<Part>> {
         }
         "dump" => {
             let (block, video) = workload::make(List::Each(8), seed);
-            vec![Part { block, video, calls: vec![Call::dump()] }]
+            vec![Part { block, video, calls: vec![Call::dump()], tiles: vec![] }]
+        }
+        // tiles written and read, each of some and the last, and one that there is not
+        "tiles" => {
+            let (block, video) = workload::make(List::Each(8), seed);
+            let tiles = (0..40)
+                .map(|n| if n < 38 { random.below(512) as u16 } else { 511 + (n - 38) as u16 })
+                .flat_map(|tile| [true, false].map(|writes| TileCall { writes, tile }))
+                .collect();
+            vec![Part { block, video, calls: vec![], tiles }]
         }
         // states made by hand where the rules meet, with a call of any kind but the dump on each
         "any" => (0..150)
@@ -104,7 +133,7 @@ fn workload_named(name: &str, seed: u64) -> Option<Vec<Part>> {
                     sessions::spoil(&mut random, &mut call);
                     sessions::spoil_layers(&mut random, &mut call);
                 }
-                Part { block, video, calls: vec![call] }
+                Part { block, video, calls: vec![call], tiles: vec![] }
             })
             .collect(),
         _ => return None,
@@ -113,6 +142,7 @@ fn workload_named(name: &str, seed: u64) -> Option<Vec<Part>> {
 
 const NEW_PART: u8 = 0;
 const CALL: u8 = 1;
+const TILE: u8 = 2;
 const KINDS: [Kind; 7] = [Kind::New, Kind::NewTable, Kind::Out, Kind::Input, Kind::Step, Kind::RowStep, Kind::Dump];
 
 /// Stands for the length of a layer buffer where there is none.
@@ -133,6 +163,10 @@ fn write(parts: &[Part]) -> Vec<u8> {
                 bytes.extend_from_slice(&(length as u32).to_le_bytes());
             }
         }
+        for call in &part.tiles {
+            bytes.extend_from_slice(&[TILE, call.writes as u8]);
+            bytes.extend_from_slice(&call.tile.to_le_bytes());
+        }
     }
     bytes
 }
@@ -143,6 +177,8 @@ trait Side {
     fn load(&mut self, block: &[u8], video: &[u8]);
     fn video_at(&self) -> *const u8;
     fn call(&mut self, call: &Call, pixels: &mut [u8], layers: &mut [u8]);
+    /// A tile written or read; no other side but ours has these calls.
+    fn tile(&mut self, _: TileCall, _: &mut [u8; 64]) {}
 }
 
 /// The library. Blocks and video memories of other lengths are parts of longer ones.
@@ -173,6 +209,14 @@ impl Side for Ours {
             Kind::RowStep => face::vdp_row_step(block, video, pixels, call.value),
             Kind::Dump => face::vdp_dump_tileset(block, video, pixels),
         };
+    }
+    fn tile(&mut self, call: TileCall, codes: &mut [u8; 64]) {
+        let video = &mut self.video[..VIDEO_SIZE];
+        if call.writes {
+            face::vdp_write_tile(video, call.tile, codes);
+        } else {
+            face::vdp_read_tile(video, call.tile, codes);
+        }
     }
 }
 
@@ -240,6 +284,7 @@ fn rust() -> Option<Box<dyn Side>> {
 fn run(side: &mut dyn Side, bytes: &[u8]) {
     let mut pixels = vec![0; 1 << 18];
     let mut layers = vec![0; 256 + EXTRA];
+    let mut codes = [7; 64];
     // addresses that nothing else ever stores to
     let [before, behind] = Box::leak(Box::new([0u64; 2]));
     let video = side.video_at() as usize;
@@ -252,6 +297,14 @@ fn run(side: &mut dyn Side, bytes: &[u8]) {
             let (block, video) = record[1..].split_at(record[0] as usize);
             side.load(block, &video[..VIDEO_SIZE]);
             at += 2 + block.len() + VIDEO_SIZE;
+            continue;
+        }
+        if bytes[at] == TILE {
+            let call = TileCall { writes: record[0] == 1, tile: u16::from_le_bytes([record[1], record[2]]) };
+            at += 4;
+            unsafe { write_volatile(before, 1) };
+            side.tile(call, &mut codes);
+            unsafe { write_volatile(behind, 1) };
             continue;
         }
         let call = Call {
@@ -296,6 +349,9 @@ fn main() {
                     let kept = block.len().min(part.block.len());
                     part.block[..kept].copy_from_slice(&block[..kept]);
                     part.video[..call.video_len.min(VIDEO_SIZE)].copy_from_slice(&video[..call.video_len.min(VIDEO_SIZE)]);
+                }
+                for call in &part.tiles {
+                    println!("{}", call.least());
                 }
             }
         }

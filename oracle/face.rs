@@ -82,21 +82,19 @@ pub fn vdp_pixel(state: &[u8], vram: &[u8], area: u8, row: u32, column: u32) -> 
     unsafe { raw::vdp_pixel(state.as_ptr(), state.len(), vram.as_ptr(), vram.len(), area, row, column) }
 }
 
-#[allow(dead_code)] // the programs `repair` and `bench` alone call it
-pub fn vdp_repair(block: &mut [u8], list: &mut [u8]) -> u32 {
-    unsafe { raw::vdp_repair(block.as_mut_ptr(), block.len(), list.as_mut_ptr(), list.len()) }
-}
-
-// The bench alone calls these two.
-
-#[allow(dead_code)]
+#[allow(dead_code)] // the programs of the bench alone call it
 pub fn vdp_write_tile(vram: &mut [u8], tile: u16, codes: &[u8]) -> u32 {
     unsafe { raw::vdp_write_tile(vram.as_mut_ptr(), vram.len(), tile, codes.as_ptr(), codes.len()) }
 }
 
-#[allow(dead_code)]
+#[allow(dead_code)] // the programs of the bench alone call it
 pub fn vdp_read_tile(vram: &[u8], tile: u16, codes: &mut [u8]) -> u32 {
     unsafe { raw::vdp_read_tile(vram.as_ptr(), vram.len(), tile, codes.as_mut_ptr(), codes.len()) }
+}
+
+#[allow(dead_code)] // the programs `repair` and `bench` alone call it
+pub fn vdp_repair(block: &mut [u8], list: &mut [u8]) -> u32 {
+    unsafe { raw::vdp_repair(block.as_mut_ptr(), block.len(), list.as_mut_ptr(), list.len()) }
 }
 
 // The programs `records` and `bench` alone call these.

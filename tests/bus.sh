@@ -22,9 +22,9 @@ least() {
     [ "${more:-1}" -eq 0 ] && [ "${turns:-0}" -gt 0 ]
     tell "$1, $2 $3: ${turns:-no} turns in ${calls:-no} calls, the least is ${least:-unknown}" $?
 }
-for workload in visible effective empty unscrolled ended ninth layers dump; do least optimised $workload 1; done
+for workload in visible effective empty unscrolled ended ninth layers dump tiles; do least optimised $workload 1; done
 for seed in 1 2 3; do least optimised any $seed; done
-for workload in ended any; do least plain $workload 1; done
+for workload in ended any tiles; do least plain $workload 1; done
 
 # A copy of the library whose look through the list loads each byte twice.
 sed -E '/^define .*"sprites::next_on"/,/^}/s/^ *%(r[0-9]+) = load i8, (ptr %r[0-9]+), align 1, !noundef !1$/%once.\1 = load volatile i8, \2\n%twice.\1 = load volatile i8, \2\n%\1 = and i8 %once.\1, %twice.\1/' build/native/vdp.ll >$bus/twice.ll

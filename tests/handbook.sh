@@ -38,14 +38,14 @@ sh $work/shown.sh | cmp $work/1.trace -
 tell 'the trace that is shown with printf is the first' $?
 
 # The theorems, each on one line.
-theorems=$(for file in crates/demands/proofs/*.antt; do awk '/^ / { sub(/^ +/, " "); printf "%s", $0; next } { printf "\n%s", $0 }' "$file"; done)
+theorems=$(for file in crates/demands*/proofs/*.antt; do awk '/^ / { sub(/^ +/, " "); printf "%s", $0; next } { printf "\n%s", $0 }' "$file"; done)
 # proved THEOREM STATEMENT: there is one of this name, of this statement.
 proved() { grep -qE "^pub $1 : .*→ $2 " <<<"$theorems"; }
 
 # The theorems by which 7 is struck.
 for both in 'never-seven NeverSeven' 'face-never-seven FaceNeverSeven' 'never-seven-home NeverSeven'; do
     read -r theorem statement <<<"$both"
-    grep -q "\`$theorem\`" $book && proved "$theorem" "$statement" && grep -q "^pub record $statement " crates/demands/specs/Seven.antt
+    grep -q "\`$theorem\`" $book && proved "$theorem" "$statement" && grep -q "^pub record $statement " crates/demands*/specs/Seven.antt
     tell "$theorem is proved by that name" $?
 done
 

@@ -7,10 +7,10 @@ use mathlib.Core.List.{List, [], _∷_, _++_, append-nil}
 use Prim.Native.Nat.{ℕ, zero, suc, _+_, _*_, _/_, _%_, _≤_, _<_}
 use native.Mathlib.Nat.{mod-lt, mod-eq-of-lt}
 use native.Mathlib.Omega.{arith}
-use borrow.Author.Tests.{eq-eqb, ne-eqb, eqb-true, eqb-false, le-leb, lt-ltb, ltb-true}
+use borrow.Author.Tests.{eq-eqb, ne-eqb, eqb-true, eqb-false, le-leb, lt-ltb, ltb-true, ltb-false}
 use lib.Dec.{eqb, ltb}
-use lib.ListN.{length, List·getD-eq-default}
-use lib.Seq.{ext-getD}
+use lib.ListN.{length, length-append, List·getD-append, List·getD-eq-default}
+use lib.Seq.{ext-getD, getD-append-seam}
 use Rattle.laws.specs.Lists.{at}
 use Rattle.laws.specs.Table.{table, tableFrom}
 use Rattle.laws.proofs.Parts.{part-table}
@@ -18,11 +18,14 @@ use Rattle.laws.proofs.Tests.{split, both, clash, either}
 use Rattle.front.specs.declared.WriteDest.{WriteDest}
 use Rattle.front.specs.declared.WriteDest.the-variants.{None, Vram, Cram}
 use Rattle.vdp.specs.Refusals.{size}
-use Rattle.inplace.specs.Fields.{flagFrom, chosenFrom, latchFits}
-use Rattle.block.specs.Block.{sized, markOf, colourAt, coloursAt, stateOf, wellFormed}
+use Rattle.block.specs.Block.{sized, markOf}
+use Rattle.inplace.specs.Fields.{flagFrom, chosenFrom}
+use Rattle.block.specs.Block.{colourAt, coloursAt, stateOf}
+use Rattle.inplace.specs.Fields.{latchFits}
+use Rattle.block.specs.Block.{wellFormed}
 use Rattle.block.proofs.Whole.{sized-low}
 use Rattle.block.proofs.RoundTrip.{Said, said}
-use Rattle.block_repair.specs.Repair.{within, held, choice, address, matching, dirty, mendedAt, mended, differing}
+use Rattle.block_repair.specs.Repair.{within, held, choice, address, matching, dirty, mendedAt, mended, differing, changes}
 use Rattle.block_repair.specs.Salvaged.{nothingWrong, among, Salvaged}
 use Rattle.block_repair.proofs.Laws.{within-low, length-mended, at-mended}
 
@@ -315,6 +318,55 @@ module _ (f g : ℕ → ℕ) where
       rw (ne-eqb (f n) (g n) (subst (λ (x : ℕ). f x ≢ g x) (sym last) ne), t) (or-true (among k (differing n f g))))
       (λ t. rw (back n k (omega (arith, eqb-false n k t)) ne))
 
+  -- a list with n behind it: of numbers below n, and rising
+  end-low : (l : List ℕ) (n : ℕ) → ((i : ℕ) → i < length l → at l i < n) → (i : ℕ) → i < length (l ++ (n ∷ [])) → at (l ++ (n ∷ [])) i < suc n
+  end-low l n f i h =
+      split (ltb i (length l))
+      (λ t.
+      let h′ : i < length l = ltb-true i (length l) t in
+      rw (List·getD-append l (n ∷ []) 0 i h′) (omega (arith, f i h′)))
+      (λ t.
+      let end : i ≡ length l = omega (arith, ltb-false i (length l) t, length-append l (n ∷ [])) in
+      rw (end, getD-append-seam l n [] 0) (omega arith))
+
+  end-rising :
+      (l : List ℕ) (n : ℕ) → ((i : ℕ) → i < length l → at l i < n) → ((i j : ℕ) → i < j → j < length l → at l i < at l j) →
+      (i j : ℕ) → i < j → j < length (l ++ (n ∷ [])) → at (l ++ (n ∷ [])) i < at (l ++ (n ∷ [])) j
+  end-rising l n f u i j h k =
+      let early : i < length l = omega (arith, length-append l (n ∷ [])) in
+      split (ltb j (length l))
+      (λ t.
+      let h′ : j < length l = ltb-true j (length l) t in
+      rw (List·getD-append l (n ∷ []) 0 i early, List·getD-append l (n ∷ []) 0 j h′) (u i j h h′))
+      (λ t.
+      let end : j ≡ length l = omega (arith, ltb-false j (length l) t, length-append l (n ∷ [])) in
+      rw (List·getD-append l (n ∷ []) 0 i early, end, getD-append-seam l n [] 0) (f i early))
+
+  -- each offset is below n, and higher than those before it
+  each-low : (n i : ℕ) → i < length (differing n f g) → at (differing n f g) i < n
+  unfolding differing
+  each-low zero i h = absurd (omega arith)
+  each-low (suc n) i h =
+      split (eqb (f n) (g n))
+      (λ t.
+      let e : differing n f g ++ cond (eqb (f n) (g n)) [] (n ∷ []) ≡ differing n f g = rw t (append-nil (differing n f g)) in
+      rw e (omega (arith, each-low n i (rw e at h))))
+      (λ t.
+      let e : differing n f g ++ cond (eqb (f n) (g n)) [] (n ∷ []) ≡ differing n f g ++ (n ∷ []) = rw t in
+      rw e (end-low (differing n f g) n (each-low n) i (rw e at h)))
+
+  rising : (n i j : ℕ) → i < j → j < length (differing n f g) → at (differing n f g) i < at (differing n f g) j
+  unfolding differing
+  rising zero i j h k = absurd (omega arith)
+  rising (suc n) i j h k =
+      split (eqb (f n) (g n))
+      (λ t.
+      let e : differing n f g ++ cond (eqb (f n) (g n)) [] (n ∷ []) ≡ differing n f g = rw t (append-nil (differing n f g)) in
+      rw e (rising n i j h (rw e at k)))
+      (λ t.
+      let e : differing n f g ++ cond (eqb (f n) (g n)) [] (n ∷ []) ≡ differing n f g ++ (n ∷ []) = rw t in
+      rw e (end-rising (differing n f g) n (each-low n) (rising n) i j h (rw e at k)))
+
 -- ---- all of it
 module _ (b : List ℕ) (s : sized (length b) ≡ true) (bytes : (i : ℕ) → at b i < 256) where
   pub salvaged : Salvaged b
@@ -324,9 +376,23 @@ module _ (b : List ℕ) (s : sized (length b) ≡ true) (bytes : (i : ℕ) → a
         sound = sound b s;
         twice = stays-so (mended b) (sound b s) (t .0) (t .1);
         stays = (λ e. subst (λ (x : List ℕ). nothingWrong x ≡ true) e (sound b s), λ w. stays-so b w (bytes 17) (bytes 18));
-        empty = λ w. none b w (bytes 17) (bytes 18) (length b);
+        empty = (λ e. subst (λ (x : List ℕ). nothingWrong x ≡ true) (nothing-listed e) (sound b s), λ w. none b w (bytes 17) (bytes 18) (length b));
         listed = λ k. (
           λ e. let p = there (at b) (mendedAt b) (length b) k e in (p .0, λ q. p .1 (sym q ∙ at-mended b k (p .0))),
           λ p. back (at b) (mendedAt b) (length b) k (p .0) (λ q. p .1 (at-mended b k (p .0) ∙ sym q)),
         );
+        rising = rising (at b) (mendedAt b) (length b);
       }
+    where
+      -- with nothing in the list no byte has changed
+      nothing-listed : changes b ≡ [] → mended b ≡ b
+      nothing-listed e =
+          ext-getD 0 (mended b) b (length-mended b)
+          (λ k h.
+          let k-in : k < length b = rw (length-mended b) at h in
+          at-mended b k k-in
+          ∙ split (eqb (mendedAt b k) (at b k)) (λ t. eqb-true (mendedAt b k) (at b k) t)
+          (λ t.
+          clash
+          (sym (back (at b) (mendedAt b) (length b) k k-in (λ q. eqb-false (mendedAt b k) (at b k) t (sym q)))
+          ∙ ap (among k) e)))

@@ -27,8 +27,9 @@ pub record Salvaged (b : List ℕ) : Type 0 where
   pub sound : nothingWrong (mended b) ≡ true
   -- repairing twice changes nothing more
   pub twice : mended (mended b) ≡ mended b
-  -- a block stays as it is exactly where nothing is wrong with it, and then the list is empty
+  -- a block stays as it is exactly where nothing is wrong with it, and exactly then the list is empty
   pub stays : (mended b ≡ b) ↔ (nothingWrong b ≡ true)
-  pub empty : nothingWrong b ≡ true → changes b ≡ []
-  -- the list has exactly the offsets whose bytes differ
+  pub empty : (changes b ≡ []) ↔ (nothingWrong b ≡ true)
+  -- the list has exactly the offsets whose bytes differ, each higher than those before it, and so none twice
   pub listed : (k : ℕ) → (among k (changes b) ≡ true) ↔ ((k < length b) × (at (mended b) k ≢ at b k))
+  pub rising : (i j : ℕ) → i < j → j < length (changes b) → at (changes b) i < at (changes b) j

@@ -26,8 +26,7 @@ Within J T false c = c < J
 Within J T true c = (T ≤ c) × (c < 256)
 
 abbrev pub placeOf : (J T : ℕ) → Bool → ℕ → ℕ
-placeOf J T false c = c
-placeOf J T true c = c + (J - T)
+placeOf J T b c = cond b (c + (J - T)) c
 
 -- what a step at place p leaves: a counter in its bounds, and the next place of a pass of J + (256 - T)
 pub record Ticked (J T p : ℕ) (jumped : Bool) (c : ℕ) : Type 0 where

@@ -20,8 +20,8 @@ use Rattle.points.specs.declared.DrawnRow.the-variants.{Drawn}
 use Rattle.points.specs.Points.{rowOn}
 use Rattle.points.proofs.Rows.{row-low, row-line, row-at}
 use Rattle.demands.specs.Machine.{Machine, register, lineOf}
-use Rattle.demands.specs.Pass.{History, pass, Between, Run, deviceAfter, then, stepCall, until, through, ready, answer, lineSet, frameAt}
-use Rattle.demands.specs.Pass.{latched, coloursAt, pictureAt, rowAtEnd, LineInterruptsEvery, ForLine, Demand3}
+use Rattle.demands.specs.Pass.{History, pass, Between, Run, watched, deviceAfter, then, stepCall, until, through, ready, answer, lineSet}
+use Rattle.demands.specs.Pass.{frameAt, latched, coloursAt, pictureAt, rowAtEnd, LineInterruptsEvery, ForLine, Demand3}
 use Rattle.demands.specs.Rows.{RowsDrawn}
 use Rattle.demands.specs.Interrupts.{AllSo, here, call, step}
 use Rattle.demands.proofs.Counter.{line}
@@ -68,7 +68,7 @@ module _ {M : Machine} (ok : Lawful M) {a : M .Area} (r : Run M a) where
   unfolding ready until
   raster-next i = then-raster ok (r .table) (r .between (suc i)) (through r i) ∙ ap (M .raster) (after-step i) ∙ raster-left i
 
-  ready-sound : (i : ℕ) → Sound M (dev i)
+  pub ready-sound : (i : ℕ) → Sound M (dev i)
   unfolding ready
   ready-sound i = sound ok (r .table) (until r i)
 
@@ -84,7 +84,7 @@ module _ {M : Machine} (ok : Lawful M) {a : M .Area} (r : Run M a) where
       ∙ sym (ap (λ (d : M .Device). M .raster d .«vertical_scroll») (after-step i))
       ∙ scroll-is ok (r .table) (through r i)
 
-  pub line-of : (i : ℕ) → lineSet r i ≡ line (M .raster (dev i))
+  pub line-of : (i : ℕ) → lineSet (watched r) i ≡ line (M .raster (dev i))
   unfolding ticked counted advanced
   line-of i = ap (λ (x : Raster). x .«v_counter») (raster-left i)
 
@@ -96,23 +96,23 @@ module _ {M : Machine} (ok : Lawful M) {a : M .Area} (r : Run M a) where
   no-other i y e = row-low shown (line (M .raster (dev i))) y (sym (row-on i) ∙ e)
 
   -- each line but those that the jump goes back over is set by exactly one step of a pass, those by two
-  pub lines : (q : ℕ) → (q < jumpTo) ⊎ (jumpLine (r .table) ≤ q) → q < 256 → ExactlyOnce (pass r) (λ i. line (M .raster (dev i)) ≡ q)
+  pub lines : (q : ℕ) → (q < jumpTo) ⊎ (jumpLine (r .table) ≤ q) → q < 256 → ExactlyOnce (pass (watched r)) (λ i. line (M .raster (dev i)) ≡ q)
   lines q out h = line-once (λ i. M .raster (dev i)) (λ i. register M (dev i)) raster-next (r .table) (table-at 0) (ready-sound 0 .within) q out h
 
-  lines-twice : (q : ℕ) → jumpTo ≤ q → q < jumpLine (r .table) → ExactlyTwice (pass r) (λ i. line (M .raster (dev i)) ≡ q)
+  lines-twice : (q : ℕ) → jumpTo ≤ q → q < jumpLine (r .table) → ExactlyTwice (pass (watched r)) (λ i. line (M .raster (dev i)) ≡ q)
   lines-twice q l h = line-twice (λ i. M .raster (dev i)) (λ i. register M (dev i)) raster-next (r .table) (table-at 0) (ready-sound 0 .within) q l h
 
   -- and so in the pass that begins one step later
-  pub lines-later : (q : ℕ) → q < jumpTo → ExactlyOnce (pass r) (λ i. line (M .raster (dev (suc i))) ≡ q)
+  pub lines-later : (q : ℕ) → q < jumpTo → ExactlyOnce (pass (watched r)) (λ i. line (M .raster (dev (suc i))) ≡ q)
   lines-later q h =
       line-once (λ i. M .raster (dev (suc i))) (λ i. register M (dev (suc i))) (λ i. raster-next (suc i)) (r .table) (table-at 1)
       (ready-sound 1 .within) q (inl h) (omega arith)
 
   -- until the next step the counter reads the line that a step set
-  pub still : (i : ℕ) → lineOf M (dev (suc i)) ≡ lineSet r i
+  pub still : (i : ℕ) → lineOf M (dev (suc i)) ≡ lineSet (watched r) i
   still i = ap (λ (x : Raster). x .«v_counter») (raster-next i ∙ sym (raster-left i))
 
-  end-once : ExactlyOnce (pass r) (λ i. answer r i .report ≢ NoDisplay)
+  end-once : ExactlyOnce (pass (watched r)) (λ i. answer r i .report ≢ NoDisplay)
   unfolding answer
   end-once =
       once-iff (λ i. ok .frame-report a (r .vram i) (length (r .frame)) (dev i) (r .accepted i (dev i))) (lines 193 (inl (omega arith)) (omega arith))
@@ -130,11 +130,11 @@ module _ {M : Machine} (ok : Lawful M) {a : M .Area} (r : Run M a) where
   -- the row that step i draws, in the frame just after it
   just-drawn :
       (i y : ℕ) → answer r i .row ≡ Drawn y →
-      rowOf (rowSize shown) y (frameAt r (suc i)) ≡ rowBytes (coloursAt r i) (columns shown) (pictureAt r i y)
+      rowOf (rowSize shown) y (frameAt r (suc i)) ≡ rowBytes (coloursAt (watched r) i) (columns shown) (pictureAt (watched r) i y)
   unfolding frameAt
   just-drawn i y e =
       ok .frame-here a (r .vram i) (dev i) (frameAt r i) y (rw (same-length i) (r .accepted i (dev i))) (ready-sound i .clean) (sym (row-on i) ∙ e)
-      ∙ ap (λ (s : ℕ). rowBytes (coloursAt r i) (columns shown) (pictureOf shown (M .registers (dev i)) s (r .vram i) y)) (scroll-at i)
+      ∙ ap (λ (s : ℕ). rowBytes (coloursAt (watched r) i) (columns shown) (pictureOf shown (M .registers (dev i)) s (r .vram i) y)) (scroll-at i)
 
   -- a row that n steps from step i on do not draw
   undrawn :
@@ -152,21 +152,22 @@ module _ {M : Machine} (ok : Lawful M) {a : M .Area} (r : Run M a) where
 
   -- a row ends as the last step that drew it left it
   last-bytes :
-      (i y : ℕ) → i < pass r → answer r i .row ≡ Drawn y → ((j : ℕ) → i < j → j < pass r → answer r j .row ≢ Drawn y) →
-      rowAtEnd r y ≡ rowBytes (coloursAt r i) (columns shown) (pictureAt r i y)
+      (i y : ℕ) → i < pass (watched r) → answer r i .row ≡ Drawn y → ((j : ℕ) → i < j → j < pass (watched r) → answer r j .row ≢ Drawn y) →
+      rowAtEnd (watched r) y ≡ rowBytes (coloursAt (watched r) i) (columns shown) (pictureAt (watched r) i y)
   last-bytes i y h e later =
-      let L : ℕ = pass r in
+      let L : ℕ = pass (watched r) in
       let whole : suc i + (L - suc i) ≡ L = omega arith in
       subst (λ (n : ℕ). rowOf (rowSize shown) y (frameAt r n) ≡ rowOf (rowSize shown) y (frameAt r (suc i))) whole
       (undrawn y (suc i) (L - suc i) (λ j l u. later j (omega arith) (omega arith)))
       ∙ just-drawn i y e
 
-  pub rows-drawn : RowsDrawn r
+  pub rows-drawn : RowsDrawn (watched r)
   rows-drawn =
       record {
         twice = λ y h l u. twice-iff (row-iff y h) (lines-twice (y + firstLine shown) l (omega arith));
         once = λ y h out. once-iff (row-iff y h) (lines (y + firstLine shown) out (omega (arith, lines-end shown)));
         no-other = no-other;
+        at-line = λ i y h. (λ e. line-of i ∙ row-iff y h i .1 e, λ e. row-iff y h i .0 (sym (line-of i) ∙ e));
         last-bytes = last-bytes;
       }
 
@@ -188,26 +189,26 @@ module _ {M : Machine} (ok : Lawful M) {a : M .Area} (r : Run M a) where
         (rw (after-step (i + k)) (step (so-far k (omega arith)) (every k (omega arith)) (stepCall r (i + k)) (answer r (i + k)) (step-is (i + k))))
         (r .between (suc (i + k))))
 
-    reads-ff : lineSet r i ≡ 0 → lineOf M (dev i) ≡ 0xFF
+    reads-ff : lineSet (watched r) i ≡ 0 → lineOf M (dev i) ≡ 0xFF
     reads-ff b = before-0 (M .raster (dev i)) (ready-sound i .within) (sym (line-of i) ∙ b)
 
-    line-interrupts : lineSet r i ≡ 0 → (k : ℕ) → k ≤ 193 → ForLine M N k (answer r (i + k))
+    line-interrupts : lineSet (watched r) i ≡ 0 → (k : ℕ) → k ≤ 193 → ForLine M N k (answer r (i + k))
     line-interrupts b k h =
         from-line-0 ok N (dev i) (reads-ff b) .to-193 k h (dev (i + k)) (stepCall r (i + k)) (answer r (i + k)) (so-far k h) (every k h)
         (step-is (i + k))
 
   module _ (once : firstLine shown + rows shown ≤ jumpTo) where
-    row-once : (y : ℕ) → y < rows shown → ExactlyOnce (pass r) (λ i. answer r i .row ≡ Drawn y)
+    row-once : (y : ℕ) → y < rows shown → ExactlyOnce (pass (watched r)) (λ i. answer r i .row ≡ Drawn y)
     row-once y h = rows-drawn .once y h (inl (omega arith))
 
     row-bytes :
-        (i y : ℕ) → i < pass r → answer r i .row ≡ Drawn y →
-        rowAtEnd r y ≡ rowBytes (coloursAt r i) (columns shown) (pictureAt r i y)
+        (i y : ℕ) → i < pass (watched r) → answer r i .row ≡ Drawn y →
+        rowAtEnd (watched r) y ≡ rowBytes (coloursAt (watched r) i) (columns shown) (pictureAt (watched r) i y)
     row-bytes i y h e =
         let o = row-once y (no-other i y e) in
         last-bytes i y h e (λ j l u f. omega (arith, o .only j u f, o .only i h e))
 
-    pub demand3 : Demand3 r
+    pub demand3 : Demand3 (watched r)
     demand3 =
         record {
           row-once = row-once;

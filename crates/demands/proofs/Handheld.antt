@@ -1,7 +1,7 @@
 -- The handheld is a lawful machine, and what the demands say of it.
 -- Assumes nothing.
 use mathlib.Core.Path.{_≡_, refl, sym, _∙_, ap, subst}
-use mathlib.Core.Logic.{_↔_, _≢_, _⊎_, inl, inr, ⊎-elim}
+use mathlib.Core.Logic.{_↔_, _≢_, inl, inr, ⊎-elim}
 use mathlib.Core.Bool.{Bool, true, false, not, _&&_}
 use mathlib.Core.List.{List, [], _∷_}
 use Prim.Native.Nat.{ℕ, suc, _+_, _*_, _%_, _≤_, _<_}
@@ -9,7 +9,7 @@ use native.Mathlib.Omega.{arith}
 use lib.Dec.{eqb, ltb}
 use lib.ListN.{length, set, List·getD-eq-default}
 use lib.Seq.{getD-set-other}
-use borrow.Author.Tests.{ltb-true, ltb-false}
+use borrow.Author.Tests.{lt-ltb, ltb-true, ltb-false}
 use Rattle.laws.specs.Bits.{bit}
 use Rattle.laws.specs.Lists.{at, rowOf}
 use Rattle.laws.proofs.Tests.{split}
@@ -21,6 +21,7 @@ use Rattle.picture.specs.Area.{screenOf, columns, rows, firstLine, rowSize, pic
 use Rattle.raster.specs.declared.LineTable.{LineTable}
 use Rattle.raster.specs.declared.LineTable.the-variants.{Steps261, Steps262}
 use Rattle.raster.specs.Raster.{jumpLine, jumpTo, advanced, lineInterrupt, ticked}
+use Rattle.raster.proofs.Tables.{jump-back, pass-is}
 use Rattle.vdp.specs.declared.VdpState.{VdpState}
 use Rattle.refusal.specs.declared.Refusal.the-variants.{Accepted, NoPaletteByte, LayerLength}
 use Rattle.vdp.specs.Device.{frontOf}
@@ -28,8 +29,8 @@ use Rattle.refusal.specs.Refusals.{Line, line as refusalLine}
 use Rattle.front.specs.Lines.{isPort, isPalette, isEmpty}
 use Rattle.vdp.specs.Ports.{portWrite, portRead}
 use Rattle.vdp.proofs.Exact.{write-exact, read-exact}
-use Rattle.front.proofs.Invariant.{front-write-inside, front-read-inside}
 use Rattle.vdp.proofs.Invariant.{Aimed, write-aimed, read-aimed}
+use Rattle.front.proofs.Invariant.{front-write-inside, front-read-inside}
 use Rattle.refusal.proofs.Tables.{Refusing, refuses, under-either}
 use Rattle.pixel.specs.Pixel.{pixelLines}
 use Rattle.step.specs.declared.Stepped.{Stepped}
@@ -42,26 +43,29 @@ use Rattle.step.specs.Frame.{frameAfter, FrameStepLeaves}
 use Rattle.points.specs.Bytes.{alsoLayers}
 use Rattle.dump.specs.Sheet.{dumpLines}
 use Rattle.step.proofs.Kept.{write-keeps, read-keeps}
-use Rattle.points.proofs.Laws.{row-refusing, frame-refusing}
 use Rattle.step.proofs.Laws.{stepped-row, stepped-report, stepped-raster, stepped-addr, stepped-dest, stepped-interrupt}
+use Rattle.points.proofs.Laws.{row-refusing, frame-refusing}
+use Rattle.step.proofs.Laws.{step-accepted, step-exact, dump-exact}
 use Rattle.points.proofs.Laws.{frame-fits, frame-memory}
-use Rattle.step.proofs.Laws.{step-accepted, step-exact, dump-exact, frame-step-length, frame-step-other, frame-step-here}
+use Rattle.step.proofs.Laws.{frame-step-length, frame-step-other, frame-step-here}
 use Rattle.step.proofs.Pixels.{pixel-exact}
 use Rattle.face.proofs.Exact.{none}
 use Rattle.tile_codes.specs.Calls.{readTileLines, writeTileLines, readTileRefusal, writeTileRefusal}
 use Rattle.demands.specs.Machine.{Told}
 use Rattle.demands.specs.Handheld.{Call, out, input, frame-step, row-step, layer-frame-step, layer-row-step, dump-tileset, pixel-at, write-tile}
 use Rattle.demands.specs.Handheld.{read-tile, layerFrameStep, layerRowStep, after, refusalOf, told, Steps, handheld}
-use Rattle.demands.specs.Pass.{NoStepOn, Run, pass, ready, answer, lineSet, frameAt, Demand3}
+use Rattle.demands.specs.Pass.{History, NoStepOn, Run, watched, pass, ready, answer, lineSet, frameAt, rowAtEnd, pictureAt, Demand3}
+use Rattle.demands.specs.Chart.{chartLine, Charted, comesAt, placeSet}
 use Rattle.demands.specs.Rows.{lastTwice, EffectiveRows}
-use Rattle.demands.specs.Split.{Moment, Split, ColourSplit, Ninety, OnlyColour, Twins, Changed}
+use Rattle.demands.specs.Split.{Moment, NewRows, Split, ColourSplit, Ninety, OnlyColour, Twins, Changed}
 use Rattle.demands.specs.Shows.{SameUntil, WriteShows}
 use Rattle.demands.proofs.Counter.{line}
 use Rattle.demands.proofs.Lines.{line-next}
 use Rattle.demands.proofs.Lawful.{stays, ticks, Clean, Left, Lawful}
 use Rattle.demands.proofs.Answers.{NotSeven, without, line-alone, end-line}
 use Rattle.demands.proofs.Demand3.{line-of, same-length, rows-drawn, demand3}
-use Rattle.demands.proofs.Split.{goes-on, set-row, colour-split, changed}
+use Rattle.demands.proofs.Chart.{charted, in-chart, order, own-place, in-order}
+use Rattle.demands.proofs.Split.{set-row, later, drawn-later, new-rows, colour-split, changed}
 use Rattle.demands.proofs.Shows.{write-shows}
 use Rattle.demands.proofs.Steps.{colours-now, stepped-clean, is-stepped, refused-raster, frame-taken}
 
@@ -254,16 +258,20 @@ unfolding answer
 by-contract {a} r i s leaves =
     ap told (leaves .answer) ∙ ap (λ (n : ℕ). told (frameStep a (r .vram i) n (ready r i))) (same-length handheld-lawful r i)
 
+-- its counter goes by the chart
+pub charted-handheld : (t : LineTable) (h : History handheld) → Charted handheld t h
+charted-handheld = charted handheld-lawful
+
 -- the visible area: 144 rows of 640 bytes, from line 24
-pub demand3-visible : (r : Run handheld VisibleOnly) → Demand3 r
+pub demand3-visible : (r : Run handheld VisibleOnly) → Demand3 (watched r)
 demand3-visible r = demand3 handheld-lawful r (omega arith)
 
 -- the same with true edges
-pub demand3-edges : (r : Run handheld TrueEdges) → Demand3 r
+pub demand3-edges : (r : Run handheld TrueEdges) → Demand3 (watched r)
 demand3-edges r = demand3 handheld-lawful r (omega arith)
 
 -- the effective area: rows 213 to 217 or to 218 twice, every other once
-pub effective-rows : (r : Run handheld EffectiveArea) → EffectiveRows r
+pub effective-rows : (r : Run handheld EffectiveArea) → EffectiveRows (watched r)
 effective-rows r =
     record {
       twice = λ y l u. rows-drawn handheld-lawful r .twice y (omega (arith, to-jump (r .table))) (omega arith) (omega (arith, to-jump (r .table)));
@@ -277,43 +285,76 @@ effective-rows r =
 visible-once : firstLine VisibleOnly + rows VisibleOnly ≤ jumpTo
 visible-once = omega arith
 
-pub colour-split-visible : {r : Run handheld VisibleOnly} {L : ℕ} {old new : List ℕ} (s : Split r L old new) → ColourSplit s
-colour-split-visible s = colour-split handheld-lawful s visible-once
+-- which rows a change at any place of any pass reaches
+pub new-rows-visible : (t : LineTable) → NewRows t (screenOf VisibleOnly)
+new-rows-visible t = new-rows t (screenOf VisibleOnly) visible-once
+
+pub new-rows-edges : (t : LineTable) → NewRows t (screenOf TrueEdges)
+new-rows-edges t = new-rows t (screenOf TrueEdges) visible-once
+
+pub colour-split-visible : (r : Run handheld VisibleOnly) {L : ℕ} {old new : List ℕ} (s : Split (watched r) L old new) → ColourSplit s
+colour-split-visible r s = colour-split handheld-lawful r s visible-once
 
 pub changed-visible :
-    {r r₀ : Run handheld VisibleOnly} {L : ℕ} {old new : List ℕ} → Twins r r₀ → Split r L old new → ((i : ℕ) → i < pass r → ready r₀ i .cram ≡ old) →
-    (c : ℕ) → OnlyColour handheld c old new → Changed r r₀ L c old new
-changed-visible t s kept c only = changed handheld-lawful t visible-once s kept c only
+    (r r₀ : Run handheld VisibleOnly) {L : ℕ} {old new : List ℕ} → Twins (watched r) (watched r₀) → (s : Split (watched r) L old new) →
+    ((i : ℕ) → i < pass (watched r) → ready r₀ i .cram ≡ old) →
+    (c : ℕ) → OnlyColour handheld c old new → Changed s (watched r₀) c
+changed-visible r r₀ t s kept c only = changed handheld-lawful r r₀ t visible-once s kept c only
 
 -- the same with true edges
-pub colour-split-edges : {r : Run handheld TrueEdges} {L : ℕ} {old new : List ℕ} (s : Split r L old new) → ColourSplit s
-colour-split-edges s = colour-split handheld-lawful s visible-once
+pub colour-split-edges : (r : Run handheld TrueEdges) {L : ℕ} {old new : List ℕ} (s : Split (watched r) L old new) → ColourSplit s
+colour-split-edges r s = colour-split handheld-lawful r s visible-once
 
 pub changed-edges :
-    {r r₀ : Run handheld TrueEdges} {L : ℕ} {old new : List ℕ} → Twins r r₀ → Split r L old new → ((i : ℕ) → i < pass r → ready r₀ i .cram ≡ old) →
-    (c : ℕ) → OnlyColour handheld c old new → Changed r r₀ L c old new
-changed-edges t s kept c only = changed handheld-lawful t visible-once s kept c only
+    (r r₀ : Run handheld TrueEdges) {L : ℕ} {old new : List ℕ} → Twins (watched r) (watched r₀) → (s : Split (watched r) L old new) →
+    ((i : ℕ) → i < pass (watched r) → ready r₀ i .cram ≡ old) →
+    (c : ℕ) → OnlyColour handheld c old new → Changed s (watched r₀) c
+changed-edges r r₀ t s kept c only = changed handheld-lawful r r₀ t visible-once s kept c only
 
 -- the author's own line
-pub ninety : {r : Run handheld VisibleOnly} {old new : List ℕ} (s : Split r 90 old new) → Ninety s
-ninety {r} s =
-    let c = colour-split-visible s in
-    let out : (lineSet r 0 ≤ 90) ⊎ (91 < lineSet r 0) = ⊎-elim (λ o. inl (o .1)) (λ o. inr (omega (arith, o .0))) (s .moment .from-top) in
-    let on : s .moment .step + 1 < pass r = goes-on handheld-lawful r (s .moment .step) 90 91 (s .moment .in-pass) (s .moment .sets) (omega arith)
-    (omega arith) out in
-    let n : suc (s .moment .step) < pass r = omega arith in
-    let next : lineSet r (suc (s .moment .step)) ≡ 91 =
-    line-of handheld-lawful r (suc (s .moment .step)) ∙ line-next (ready r (suc (s .moment .step)) .raster) 90 (c .reads) (omega arith) in
-    record {
-      row-66 = c .keeps (s .moment .step) 66 (s .moment .in-pass) (set-row handheld-lawful r (s .moment .step) 66 (omega arith) (s .moment .sets))
-          (omega arith);
-      row-67 = c .changes (suc (s .moment .step)) 67 n (set-row handheld-lawful r (suc (s .moment .step)) 67 (omega arith) next) (omega arith);
-    }
+pub ninety : (r : Run handheld VisibleOnly) {old new : List ℕ} (s : Split (watched r) 90 old new) → Ninety s
+ninety r {old} {new} s = record { row-66 = row-66; row-67 = row-67 }
+  where
+    c : ColourSplit s
+    c = colour-split-visible r s
+
+    drew : answer r (s .moment .step) .row ≡ Drawn 66
+    drew = set-row handheld-lawful r (s .moment .step) 66 (omega arith) (s .moment .sets)
+
+    row-66 : rowAtEnd (watched r) 66 ≡ rowBytes (coloursOf old) 160 (pictureAt (watched r) (s .moment .step) 66)
+    row-66 =
+        c .keeps (s .moment .step) 66 (s .moment .in-pass) drew
+        (λ n. omega (arith, later handheld-lawful r (s .moment) visible-once (s .moment .step) 66 (s .moment .in-pass) drew n))
+
+    -- the pass goes on to line 91, unless it began with it
+    goes-on : lineSet (watched r) 0 ≢ 91 → suc (s .moment .step) < pass (watched r)
+    goes-on begins =
+        let t = r .table in
+        let b : ℕ = placeSet (watched r) 0 in
+        let at-90 : placeSet (watched r) (s .moment .step) ≡ 90 = own-place handheld-lawful r (s .moment .step) 90 (omega arith) (s .moment .sets) in
+        let comes : comesAt t b 90 ≡ s .moment .step =
+        subst (λ (p : ℕ). comesAt t b p ≡ s .moment .step) at-90 (order handheld-lawful r (s .moment .step) (s .moment .in-pass)) in
+        let not-91 : b ≢ 91 = λ e.
+        begins (in-order handheld-lawful r .line 0 ∙ ap (chartLine t) e ∙ rw (lt-ltb 91 (jumpLine t) (omega (arith, jump-back t)))) in
+        let long : 91 < pass (watched r) = omega (arith, pass-is t, jump-back t) in
+        let within : b < pass (watched r) = in-chart handheld-lawful r 0 in
+        split (ltb 90 b)
+        (λ f. let e = rw f at comes in omega (arith, e, ltb-true 90 b f))
+        (λ f. let e = rw f at comes in omega (arith, e, ltb-false 90 b f))
+
+    row-67 : lineSet (watched r) 0 ≢ 91 → rowAtEnd (watched r) 67 ≡ rowBytes (coloursOf new) 160 (pictureAt (watched r) (suc (s .moment .step)) 67)
+    row-67 begins =
+        let n = goes-on begins in
+        let next : lineSet (watched r) (suc (s .moment .step)) ≡ 91 =
+        line-of handheld-lawful r (suc (s .moment .step)) ∙ line-next (ready r (suc (s .moment .step)) .raster) 90 (c .reads) (omega arith) in
+        let drawn = set-row handheld-lawful r (suc (s .moment .step)) 67 (omega arith) next in
+        c .changes (suc (s .moment .step)) 67 n drawn (drawn-later handheld-lawful r (s .moment) visible-once (suc (s .moment .step)) 67 n drawn
+        (omega arith))
 
 -- a write
-pub write-shows-visible : {r : Run handheld VisibleOnly} {L : ℕ} (m : Moment r L) (r₀ : Run handheld VisibleOnly) → SameUntil r r₀ (m .step) →
-    WriteShows m r₀
-write-shows-visible m r₀ same = write-shows handheld-lawful m r₀ same (omega arith)
+pub write-shows-visible : (r : Run handheld VisibleOnly) {L : ℕ} (m : Moment (watched r) L) (r₀ : Run handheld VisibleOnly) → SameUntil (watched r)
+    (watched r₀) (m .step) → WriteShows m (watched r₀)
+write-shows-visible r m r₀ same = write-shows handheld-lawful r m r₀ same (omega arith)
 
 -- ---- colours
 -- the two palette bytes of colour c make no other colour

@@ -1,11 +1,10 @@
 -- The home machine is a lawful machine, and what the demands say of it.
 -- Assumes nothing.
 use mathlib.Core.Path.{_≡_, refl, sym, _∙_, ap, subst}
-use mathlib.Core.Logic.{_↔_, _≢_, inl}
+use mathlib.Core.Logic.{_↔_, _≢_, inl, inr, ⊎-elim}
 use mathlib.Core.Bool.{true, false}
 use mathlib.Core.List.{List}
 use Prim.Native.Nat.{ℕ, suc, _+_, _≤_, _<_}
-use native.Mathlib.Nat.{add-zero, zero-add}
 use native.Mathlib.Omega.{arith}
 use lib.Dec.{ltb}
 use lib.ListN.{length, set, List·getD-eq-default}
@@ -31,7 +30,6 @@ use Rattle.points.specs.Points.{rowOn, rowLines, frameLines}
 use Rattle.dump.specs.Sheet.{dumpLines}
 use Rattle.points.proofs.Laws.{row-refusing, frame-refusing}
 use Rattle.step.proofs.Laws.{dump-exact}
-use Rattle.points.proofs.Rows.{row-line}
 use Rattle.home.specs.declared.HomeState.{HomeState}
 use Rattle.home.specs.declared.HomeStepped.{HomeStepped}
 use Rattle.home.specs.Home.{made}
@@ -47,17 +45,20 @@ use Rattle.face.proofs.Exact.{none, never}
 use Rattle.demands.specs.Machine.{Told}
 use Rattle.demands.specs.Home.{Call, out, input, frame-step, row-step, dump-tileset, write-tile, read-tile, after, refusalOf, told, Steps, home}
 use Rattle.demands.specs.Home.{NeverSix}
-use Rattle.demands.specs.Pass.{NoStepOn, Run, pass, ready, answer, frameAt, Demand3}
-use Rattle.demands.specs.Rows.{HomeRows}
+use Rattle.demands.specs.Pass.{History, NoStepOn, Run, watched, pass, ready, answer, frameAt, Demand3}
+use Rattle.demands.specs.Chart.{TableKept, Charted}
+use Rattle.demands.specs.Rows.{RowsDrawn}
 use Rattle.demands.specs.Interrupts.{FromLine0, FirstPass}
-use Rattle.demands.specs.Split.{Moment, Split, ColourSplit, FirstAtHome, OnlyColour, Twins, Changed}
+use Rattle.demands.specs.Split.{Moment, firstNew, NewRows, Split, ColourSplit, FirstAtHome, OnlyColour, Twins, Changed}
 use Rattle.demands.specs.Shows.{SameUntil, WriteShows}
 use Rattle.demands.proofs.Counter.{line}
 use Rattle.demands.proofs.Lawful.{stays, ticks, Clean, Left, Lawful}
 use Rattle.demands.proofs.Answers.{NotSeven, without, line-alone, end-line}
+use Rattle.demands.proofs.Sound.{table-kept}
 use Rattle.demands.proofs.Interrupts.{from-line-0, first-pass}
-use Rattle.demands.proofs.Demand3.{line-of, row-on, same-length, rows-drawn, demand3}
-use Rattle.demands.proofs.Split.{set-row, colour-split, changed}
+use Rattle.demands.proofs.Demand3.{same-length, rows-drawn, demand3}
+use Rattle.demands.proofs.Chart.{charted}
+use Rattle.demands.proofs.Split.{new-rows, colour-split, changed}
 use Rattle.demands.proofs.Shows.{write-shows}
 
 -- ---- a call
@@ -222,38 +223,56 @@ by-contract-home r i s leaves = ap told (leaves .answer) ∙ ap (λ (n : ℕ). t
 home-once : firstLine Home + rows Home ≤ jumpTo
 home-once = omega arith
 
-pub demand3-home : (r : Run home tt) → Demand3 r
+pub demand3-home : (r : Run home tt) → Demand3 (watched r)
 demand3-home r = demand3 home-lawful r home-once
 
-pub rows-home : (r : Run home tt) → HomeRows r
-rows-home r =
-    record {
-      at-line = λ i y h. (
-        λ e. line-of home-lawful r i ∙ row-line Home (line (ready r i .raster)) y (sym (row-on home-lawful r i) ∙ e) ∙ zero-add y,
-        λ e. set-row home-lawful r i y h (e ∙ sym (add-zero y)),
-      );
-      once = λ y h. rows-drawn home-lawful r .once y h (inl (omega arith));
-      no-other = rows-drawn home-lawful r .no-other;
-    }
+pub rows-home : (r : Run home tt) → RowsDrawn (watched r)
+rows-home r = rows-drawn home-lawful r
+
+-- which rows a change at any place of any pass reaches; from line 0, and from line 1
+pub new-rows-home : (t : LineTable) → NewRows t Home
+new-rows-home t = new-rows t Home home-once
 
 pub first-new-home : FirstAtHome
 first-new-home =
     record {
       next-row = λ L h. rw (lt-ltb L 192 (omega arith)) (omega arith);
       none = λ L h. split (ltb L 192) (λ t. rw t (omega (arith, ltb-true L 192 t))) (λ t. rw t);
+      from-0 = λ t L y l h.
+          let b = new-rows-home t .from-top 0 L y (omega arith) (omega arith) l h in
+          (λ n. below L y h .0 (b .0 n), λ f. b .1 (below L y h .1 f));
+      first-pass = λ t L y o l h.
+          let b = new-rows-home t .begun 1 L y o l h in (
+            λ n. ⊎-elim (λ f. inl (below L y h .0 f)) (λ f. inr (omega arith)) (b .0 n),
+            λ f. b .1 (⊎-elim (λ g. inl (below L y h .1 g)) (λ g. inr (omega arith)) f),
+          );
     }
+  where
+    below : (L y : ℕ) → y < 192 → (firstNew Home L ≤ y) ↔ (L < y)
+    below L y h =
+        split (ltb L 192) (λ t. rw t (λ f. omega arith, λ f. omega arith))
+        (λ t. rw t (λ f. absurd (omega arith), λ f. absurd (omega (arith, ltb-false L 192 t))))
 
-pub colour-split-home : {r : Run home tt} {L : ℕ} {old new : List ℕ} (s : Split r L old new) → ColourSplit s
-colour-split-home s = colour-split home-lawful s home-once
+pub colour-split-home : (r : Run home tt) {L : ℕ} {old new : List ℕ} (s : Split (watched r) L old new) → ColourSplit s
+colour-split-home r s = colour-split home-lawful r s home-once
 
 pub changed-home :
-    {r r₀ : Run home tt} {L : ℕ} {old new : List ℕ} → Twins r r₀ → Split r L old new → ((i : ℕ) → i < pass r → ready r₀ i .cram ≡ old) →
-    (c : ℕ) → OnlyColour home c old new → Changed r r₀ L c old new
-changed-home t s kept c only = changed home-lawful t home-once s kept c only
+    (r r₀ : Run home tt) {L : ℕ} {old new : List ℕ} → Twins (watched r) (watched r₀) → (s : Split (watched r) L old new) →
+    ((i : ℕ) → i < pass (watched r) → ready r₀ i .cram ≡ old) →
+    (c : ℕ) → OnlyColour home c old new → Changed s (watched r₀) c
+changed-home r r₀ t s kept c only = changed home-lawful r r₀ t home-once s kept c only
 
 -- a write
-pub write-shows-home : {r : Run home tt} {L : ℕ} (m : Moment r L) (r₀ : Run home tt) → SameUntil r r₀ (m .step) → WriteShows m r₀
-write-shows-home m r₀ same = write-shows home-lawful m r₀ same home-once
+pub write-shows-home : (r : Run home tt) {L : ℕ} (m : Moment (watched r) L) (r₀ : Run home tt) → SameUntil (watched r) (watched r₀) (m .step) →
+    WriteShows m (watched r₀)
+write-shows-home r m r₀ same = write-shows home-lawful r m r₀ same home-once
+
+-- no call changes its table, and its counter goes by the chart
+pub table-kept-home : TableKept home
+table-kept-home = table-kept home-lawful
+
+pub charted-home : (t : LineTable) (h : History home) → Charted home t h
+charted-home = charted home-lawful
 
 -- the line interrupts over any calls, and those of the first pass
 pub from-line-0-home : (N : ℕ) (start : HomeState) (reads : lineOf start ≡ 0xFF) → FromLine0 home N start reads

@@ -64,8 +64,7 @@ module _ {M : Machine} (ok : Lawful M) (N m p₀ : ℕ) (Z : Raster → Type 0) 
         t : Takes N m p (register M d) (M .raster d)
         t =
             subst (λ (q : ℕ). Takes N m q (register M d) (M .raster d)) (goal-is n)
-            (takes n (register M d) (M .raster d) (state n d w (omega (arith, goal-is n))) (so .every)
-            (rw (table-so n d w) (omega (arith, goal-is n))))
+            (takes n (register M d) (M .raster d) (state n d w (omega (arith, goal-is n))) (so .every) (rw (table-so n d w) (omega (arith, goal-is n))))
 
         pub line-set : p < jumpTo → lineOf M (s .device) ≡ p
         unfolding ticked counted advanced

@@ -1,7 +1,7 @@
 -- What a layer tells, and that layers change nothing else, proved.
 -- Assumes nothing.
 use mathlib.Core.Path.{_≡_, refl, sym, ap, _∙_}
-use mathlib.Core.Logic.{_⊎_, inl, inr}
+use mathlib.Core.Logic.{_↔_, _⊎_, inl, inr, ⊎-elim}
 use mathlib.Core.Bool.{Bool, true, false, _&&_, _||_}
 use mathlib.Core.List.{List, [], _∷_}
 use Prim.Native.Nat.{ℕ, _+_, _-_, _<_, _≤_}
@@ -11,7 +11,7 @@ use lib.ListN.{length, drop}
 use lib.Seq.{drop-at}
 use borrow.Author.Tests.{eqb-true, lt-ltb}
 use Rattle.laws.specs.Table.{table}
-use Rattle.laws.proofs.Tests.{split, both}
+use Rattle.laws.proofs.Tests.{split, both, clash}
 use Rattle.laws.proofs.Tables.{length-table}
 use Rattle.picture.specs.declared.RenderArea.{RenderArea}
 use Rattle.picture.specs.View.{View}
@@ -33,7 +33,7 @@ use Rattle.points.specs.Bytes.{alsoLayers}
 use Rattle.step.specs.Layers.{layersAfter}
 use Rattle.points.proofs.Laws.{row-refusing, frame-refusing}
 use Rattle.points.proofs.Steps.{under-also, not-last}
-use Rattle.demands.specs.Layers.{standsAt, laidOn, columnAt, codeIn, heldAt, some, OneOf, Owned, Aside}
+use Rattle.demands.specs.Layers.{standsAt, laidOn, columnAt, codeIn, heldAt, NoneDrawn, LastDrawn, some, OneOf, Owned, Aside}
 
 -- ---- the sprites of a line, laid in turn on any canvas c with any layers `own`, at column x
 module _ (m g : ℕ → ℕ) (v : View) (x : ℕ) where
@@ -175,6 +175,42 @@ module _ (m g : ℕ → ℕ) (v : View) (x : ℕ) where
       not-held true e = e
       not-held false e = refl
 
+  -- sprite n is the last one drawn, or none is and the layer was its already
+  module _ (n : ℕ) where
+    abbrev Last : List ℕ → Canvas → (ℕ → ℕ) → Type 0
+    Last ns c own = LastDrawn m g v x n ns c ⊎ (NoneDrawn m g v x ns c × (own x ≡ 64 + n))
+
+    -- a sprite that is not drawn leaves whether the layer is sprite n's
+    left-so : (k : ℕ) (c : Canvas) (own : ℕ → ℕ) → here k c ≡ false → (ones k c own x ≡ 64 + n) ↔ (own x ≡ 64 + n)
+    left-so k c own e =
+        split (heldAt m g v x k && eqb (own x) 0)
+        (λ t.
+        let a = after k c own e t in
+        (λ q. absurd (omega (arith, a .1 .1)), λ q. absurd (omega (arith, a .0))))
+        (λ t. let a = one-left k c own e t in (λ q. sym a ∙ q, λ q. a ∙ q))
+
+    last-one : (k : ℕ) (ns : List ℕ) (c : Canvas) (own : ℕ → ℕ) → Last ns (one k c) (ones k c own) ↔ Last (k ∷ ns) c own
+    last-one k ns c own =
+        split (here k c)
+        (λ e.
+        let d = one-drawn k c own e .0 in (
+          ⊎-elim (λ l. inl (inl l)) (λ q. inl (inr (omega (arith, d, q .1), e, q .0))),
+          ⊎-elim (⊎-elim (λ l. inl l) (λ q. inr (q .2, d ∙ ap (λ (y : ℕ). 64 + y) (q .0)))) (λ q. clash (sym e ∙ q .0 .0)),
+        ))
+        (λ e.
+        let s = left-so k c own e in (
+          ⊎-elim (λ l. inl (inl l)) (λ q. inr ((e, q .0), s .0 (q .1))),
+          ⊎-elim (⊎-elim (λ l. inl l) (λ q. clash (sym (q .1) ∙ e))) (λ q. inr (q .0 .1, s .1 (q .1))),
+        ))
+
+    last-all : (ns : List ℕ) (c : Canvas) (own : ℕ → ℕ) → (told ns c own ≡ 64 + n) ↔ Last ns c own
+    unfolding layersWith
+    last-all [] c own = (λ h. inr (tt, h), ⊎-elim (λ l. absurd l) (λ q. q .1))
+    last-all (k ∷ ns) c own =
+        let w = last-all ns (one k c) (ones k c own) in
+        let u = last-one k ns c own in
+        (λ h. u .0 (w .0 h), λ h. w .1 (u .1 h))
+
 -- R15.1: of every column of every row, in any view
 pub owned-tells : (m g : ℕ → ℕ) (v : View) (x : ℕ) → Owned m g v x
 unfolding layers picture bare
@@ -185,6 +221,9 @@ owned-tells m g v x =
       kind = kind-all m g v x (OneOf ns) ns c (λ k. 0) (λ n o. o) (inl (omega arith));
       behind = λ h. behind-all m g v x ns c (λ k. 0) h .1;
       sprite = λ n h. shown-all m g v x n ns c (λ k. 0) (λ z. absurd (omega arith)) h;
+      last = λ n.
+          let w = last-all m g v x n ns c (λ k. 0) in
+          (λ h. ⊎-elim (λ l. l) (λ q. absurd (omega (arith, q .1))) (w .0 h), λ l. w .1 (inl l));
       held = λ h. elim (held-all m g v x ns c (λ k. 0) h) [ inl z ↦ absurd (omega arith) | inr z ↦ z ];
       none = λ h. none-all m g v x ns c (λ k. 0) h .1;
     }

@@ -5,13 +5,13 @@ pub mod Lawful
 pub mod Sound
 pub mod Interrupts
 pub mod Demand3
+pub mod Chart
 pub mod Split
 pub mod Shows
 pub mod Steps
 pub mod Answers
 pub mod Handheld
 pub mod Home
-pub mod Always
 pub mod Seven
 pub mod Author
 pub mod Layers

@@ -16,8 +16,8 @@ use Rattle.raster.specs.Raster.{up, jumps, starts, jumpLine, jumpTo, passLength
 use Rattle.raster.proofs.Tables.{jump-back}
 use Rattle.points.specs.Points.{rowOn}
 use Rattle.demands.specs.Machine.{Machine, register}
-use Rattle.demands.specs.Pass.{Run, pass, through, ready, latched, answer, lineSet, rowAtEnd, pictureAt}
-use Rattle.demands.specs.Split.{firstNew, Moment}
+use Rattle.demands.specs.Pass.{Run, watched, pass, through, ready, latched, answer, lineSet, rowAtEnd, pictureAt}
+use Rattle.demands.specs.Split.{Moment, New}
 use Rattle.demands.specs.Shows.{SameUntil, WriteShows, CountWaits}
 use Rattle.demands.proofs.Counter.{line}
 use Rattle.demands.proofs.Lines.{starts-at}
@@ -26,8 +26,8 @@ use Rattle.demands.proofs.Demand3.{line-of, row-on, raster-next, scroll
 use Rattle.demands.proofs.Split.{no-later, later}
 
 -- ---- two runs that are one so far
-module _ {M : Machine} (ok : Lawful M) {a : M .Area} (r r₀ : Run M a) (s : ℕ) (same : SameUntil r r₀ s) where
-  in-both : (i : ℕ) → i < pass r → i < pass r₀
+module _ {M : Machine} (ok : Lawful M) {a : M .Area} (r r₀ : Run M a) (s : ℕ) (same : SameUntil (watched r) (watched r₀) s) where
+  in-both : (i : ℕ) → i < pass (watched r) → i < pass (watched r₀)
   in-both i h = subst (λ (u : LineTable). i < passLength u) (same .table) h
 
   same-row : (i : ℕ) → i ≤ s → answer r i .row ≡ answer r₀ i .row
@@ -37,7 +37,7 @@ module _ {M : Machine} (ok : Lawful M) {a : M .Area} (r r₀ : Run M a) (s : ℕ
   same-scroll i l =
       sym (scroll-at ok r i) ∙ ap (λ (d : M .Device). advanced (register M d) (M .raster d) .«vertical_scroll») (same .device i l) ∙ scroll-at ok r₀ i
 
-  same-picture : (i y : ℕ) → i ≤ s → pictureAt r i y ≡ pictureAt r₀ i y
+  same-picture : (i y : ℕ) → i ≤ s → pictureAt (watched r) i y ≡ pictureAt (watched r₀) i y
   same-picture i y l = rw (same-scroll i l, same .device i l, same .memory i l)
 
 -- ---- the scroll
@@ -52,49 +52,50 @@ no-start x n =
     (λ t. t)
 
 module _ {M : Machine} (ok : Lawful M) {a : M .Area} (r : Run M a) where
-  scroll-next : (i : ℕ) → lineSet r (suc i) ≢ 0 → latched M (r .table) (through r (suc i)) ≡ latched M (r .table) (through r i)
+  scroll-next : (i : ℕ) → lineSet (watched r) (suc i) ≢ 0 → latched M (r .table) (through r (suc i)) ≡ latched M (r .table) (through r i)
   unfolding advanced ticked counted
   scroll-next i n =
       sym (scroll-at ok r (suc i))
       ∙ rw (no-start (M .raster (ready r (suc i))) (λ z. n (line-of ok r (suc i) ∙ z)))
       (ap (λ (x : Raster). x .«vertical_scroll») (raster-next ok r i) ∙ scroll-at ok r i)
 
-  scroll-on : (s n : ℕ) → ((j : ℕ) → s < j → j ≤ s + n → lineSet r j ≢ 0) → latched M (r .table) (through r (s + n)) ≡ latched M (r .table)
+  scroll-on : (s n : ℕ) → ((j : ℕ) → s < j → j ≤ s + n → lineSet (watched r) j ≢ 0) → latched M (r .table) (through r (s + n)) ≡ latched M (r .table)
       (through r s)
   scroll-on s zero h = rw (add-zero s)
   scroll-on s (suc n) h =
       rw (add-suc s n)
       (scroll-next (s + n) (h (suc (s + n)) (omega arith) (omega arith)) ∙ scroll-on s n (λ j l u. h j l (omega arith)))
 
-  pub scroll-taken : (i : ℕ) → lineSet r i ≡ 0 → latched M (r .table) (through r i) ≡ register M (ready r i) 9
+  pub scroll-taken : (i : ℕ) → lineSet (watched r) i ≡ 0 → latched M (r .table) (through r i) ≡ register M (ready r i) 9
   unfolding advanced
   scroll-taken i e = sym (scroll-at ok r i) ∙ rw (starts-at (M .raster (ready r i)) (sym (line-of ok r i) ∙ e))
 
   pub scroll-waits :
-      (s i : ℕ) → s ≤ i → ((j : ℕ) → s < j → j ≤ i → lineSet r j ≢ 0) → latched M (r .table) (through r i) ≡ latched M (r .table) (through r s)
+      (s i : ℕ) → s ≤ i → ((j : ℕ) → s < j → j ≤ i → lineSet (watched r) j ≢ 0) → latched M (r .table) (through r i) ≡ latched M (r .table)
+      (through r s)
   scroll-waits s i l h =
       let e : s + (i - s) ≡ i = omega arith in
       subst (λ (n : ℕ). latched M (r .table) (through r n) ≡ latched M (r .table) (through r s)) e
       (scroll-on s (i - s) (λ j l u. h j l (omega arith)))
 
 -- ---- the write
-module _ {M : Machine} (ok : Lawful M) {a : M .Area} {r : Run M a} {L : ℕ} (m : Moment r L) (r₀ : Run M a) (same : SameUntil r r₀ (m .step))
-    (once : firstLine (M .screen a) + rows (M .screen a) ≤ jumpTo) where
-  stays : (y : ℕ) → y < rows (M .screen a) → y < firstNew (M .screen a) L → rowAtEnd r y ≡ rowAtEnd r₀ y
+module _ {M : Machine} (ok : Lawful M) {a : M .Area} (r : Run M a) {L : ℕ} (m : Moment (watched r) L) (r₀ : Run M a)
+    (same : SameUntil (watched r) (watched r₀) (m .step)) (once : firstLine (M .screen a) + rows (M .screen a) ≤ jumpTo) where
+  stays : (y : ℕ) → y < rows (M .screen a) → (New m y → ⊥) → rowAtEnd (watched r) y ≡ rowAtEnd (watched r₀) y
   stays y h l =
       let o = demand3 ok r once .row-once y h in
       let i : ℕ = o .at in
-      let by : i ≤ m .step = no-later ok m once i y (o .below) (o .holds) l in
+      let by : i ≤ m .step = no-later ok r m once i y (o .below) (o .holds) l in
       demand3 ok r once .row-bytes i y (o .below) (o .holds)
-      ∙ ap (λ (d : M .Device). rowBytes (M .coloursOf (M .palette d)) (columns (M .screen a)) (pictureAt r i y)) (same .device i by)
+      ∙ ap (λ (d : M .Device). rowBytes (M .coloursOf (M .palette d)) (columns (M .screen a)) (pictureAt (watched r) i y)) (same .device i by)
       ∙ ap (rowBytes (M .coloursOf (M .palette (ready r₀ i))) (columns (M .screen a))) (same-picture ok r r₀ (m .step) same i y by)
       ∙ sym (demand3 ok r₀ once .row-bytes i y (in-both ok r r₀ (m .step) same i (o .below)) (sym (same-row ok r r₀ (m .step) same i by) ∙ o .holds))
 
-  pub write-shows : WriteShows m r₀
+  pub write-shows : WriteShows m (watched r₀)
   write-shows =
       record {
         stays = stays;
-        shows = λ i y h e l. (later ok m once i y h e l, demand3 ok r once .row-bytes i y h e);
+        shows = λ i y h e l. (later ok r m once i y h e l, demand3 ok r once .row-bytes i y h e);
         scroll-waits = scroll-waits ok r (m .step);
         scroll-taken = scroll-taken ok r;
       }

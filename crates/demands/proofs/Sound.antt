@@ -13,8 +13,8 @@ use Rattle.raster.specs.declared.LineTable.{LineTable}
 use Rattle.raster.specs.Raster.{up, jumps, starts, jumpLine, advanced, counted, ticked}
 use Rattle.raster.proofs.Tables.{jump-back}
 use Rattle.demands.specs.Machine.{Machine}
-use Rattle.demands.specs.Pass.{History, deviceAfter, latched, Between, then}
-use Rattle.demands.specs.Always.{TableKept}
+use Rattle.demands.specs.Pass.{History, deviceAfter, latchedAlong, latched, Between, then}
+use Rattle.demands.specs.Chart.{TableKept}
 use Rattle.demands.proofs.Counter.{InPass, tick, line}
 use Rattle.demands.proofs.Lines.{starts-at, same-table}
 use Rattle.demands.proofs.Lawful.{Moved, stays, ticks, Clean, Aimed, Lawful}
@@ -82,7 +82,7 @@ module _ {M : Machine} (ok : Lawful M) where
   -- ---- the scroll
   -- the scroll in the record is the one latched when the counter last became 0
   pub scroll-is : (t : LineTable) (h : History M) → M .raster (deviceAfter M t h) .«vertical_scroll» ≡ latched M t h
-  unfolding deviceAfter latched
+  unfolding deviceAfter latchedAlong
   scroll-is t [] = ap (λ (x : Raster). x .«vertical_scroll») (ok .made-raster t)
   scroll-is t (c ∷ h) =
       moved-scroll (latched M t h) (ok .left c (deviceAfter M t h) .moved) (scroll-is t h)

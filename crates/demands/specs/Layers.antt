@@ -2,7 +2,7 @@
 -- R15.1, R15.2: said of any view, so of every area. R15.3, R15.4: of every device, memory and buffer.
 -- Assumes nothing.
 use mathlib.Core.Path.{_≡_}
-use mathlib.Core.Logic.{_≢_, _⊎_}
+use mathlib.Core.Logic.{_↔_, _≢_, _⊎_}
 use mathlib.Core.Bool.{Bool, true, false, _&&_, _||_}
 use mathlib.Core.List.{List, [], _∷_}
 use Prim.Native.Nat.{ℕ, _+_, _-_, _*_, _<_, _≤_}
@@ -11,7 +11,7 @@ use lib.ListN.{length, take, drop}
 use Rattle.picture.specs.declared.Stand.{Stand}
 use Rattle.picture.specs.declared.RenderArea.{RenderArea}
 use Rattle.picture.specs.View.{View}
-use Rattle.picture.specs.Picture.{back, front, bare, tableAt, listed, solid, spriteCode, picture}
+use Rattle.picture.specs.Picture.{Canvas, back, front, bare, tableAt, listed, solid, drawn, spriteCode, withSprite, picture}
 use Rattle.picture.specs.Area.{screenOf, columns}
 use Rattle.picture.specs.Layers.{stopped, layers}
 use Rattle.vdp.specs.declared.VdpState.{VdpState}
@@ -42,6 +42,22 @@ module _ (m g : ℕ → ℕ) (v : View) where
   abbrev pub heldAt : ℕ → ℕ → Bool
   heldAt x n = leb (standsAt n .x) x && stopped (standsAt n) (spriteCode m g (v .line) n) (front m g v) (bare (back m g v)) (columnAt n x)
 
+  -- the canvas with sprite n laid on it, and whether sprite n is drawn at column x on what was laid before it (R5.11)
+  abbrev pub laidBy : ℕ → Canvas → Canvas
+  laidBy n c = withSprite m g (v .stand) (v .line) (front m g v) n c
+
+  abbrev pub drawnAt : ℕ → Canvas → ℕ → Bool
+  drawnAt x c n = leb (standsAt n .x) x && drawn (standsAt n) (spriteCode m g (v .line) n) (front m g v) c (columnAt n x)
+
+  -- of the sprites ns, laid in turn on canvas c, none is drawn at column x; sprite n is the last one that is
+  abbrev pub NoneDrawn : ℕ → List ℕ → Canvas → Type 0
+  NoneDrawn x [] c = Unit {0}
+  NoneDrawn x (k ∷ ns) c = (drawnAt x c k ≡ false) × NoneDrawn x ns (laidBy k c)
+
+  abbrev pub LastDrawn : (x n : ℕ) → List ℕ → Canvas → Type 0
+  LastDrawn x n [] c = ⊥
+  LastDrawn x n (k ∷ ns) c = LastDrawn x n ns (laidBy k c) ⊎ ((k ≡ n) × (drawnAt x c k ≡ true) × NoneDrawn x ns (laidBy k c))
+
 -- one of a list has p; n is one of a list
 abbrev pub some : List ℕ → (ℕ → Bool) → Bool
 some [] p = false
@@ -61,6 +77,8 @@ pub record Owned (m g : ℕ → ℕ) (v : View) (x : ℕ) : Type 0 where
   pub sprite : (n : ℕ) → layers m g v x ≡ 64 + n
       → (picture m g v .colour x ≡ 16 + codeIn m g v n x)
       × (solid (standsAt m g v n .start) (standsAt m g v n .end) (spriteCode m g (v .line) n) (columnAt m g v n x) ≡ true)
+  -- it is 64 + n exactly where sprite n is the last one drawn there: so of two sprites with the same code at one column there is one answer
+  pub last : (n : ℕ) → (layers m g v x ≡ 64 + n) ↔ LastDrawn m g v x n (laidOn m g v) (bare (back m g v))
   -- 1: priority held back a sprite's pixel there; 0: it held back none
   pub held : layers m g v x ≡ 1 → some (laidOn m g v) (heldAt m g v x) ≡ true
   pub none : layers m g v x ≡ 0 → some (laidOn m g v) (heldAt m g v x) ≡ false

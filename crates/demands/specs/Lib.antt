@@ -5,7 +5,6 @@ pub mod Home
 pub mod Pass
 pub mod Rows
 pub mod Interrupts
-pub mod Always
 pub mod Seven
 pub mod Split
 pub mod Shows

@@ -29,13 +29,17 @@ unfoldable pub deviceAfter : (M : Machine) → LineTable → History M → M .De
 deviceAfter M t [] = M .made t
 deviceAfter M t (c ∷ h) = M .after c (deviceAfter M t h)
 
--- R13.5: the scroll that the counter's last 0 latched: register 9 at that call, and 0 before there was one
+-- R13.5: the scroll that the counter's last 0 latched: register 9 at that call, and 0 before there was one. (Of any calls, the last one first, where `dev`
+-- gives the device after them.)
 abbrev pub becomesZero : (M : Machine) → M .Device → M .Device → Bool
 becomesZero M d d′ = not (eqb (lineOf M d) 0) && eqb (lineOf M d′) 0
 
-unfoldable pub latched : (M : Machine) → LineTable → History M → ℕ
-latched M t [] = 0
-latched M t (c ∷ h) = cond (becomesZero M (deviceAfter M t h) (deviceAfter M t (c ∷ h))) (register M (deviceAfter M t h) 9) (latched M t h)
+unfoldable pub latchedAlong : (M : Machine) {C : Type 0} → (List C → M .Device) → List C → ℕ
+latchedAlong M dev [] = 0
+latchedAlong M dev (c ∷ h) = cond (becomesZero M (dev h) (dev (c ∷ h))) (register M (dev h) 9) (latchedAlong M dev h)
+
+abbrev pub latched : (M : Machine) → LineTable → History M → ℕ
+latched M t = latchedAlong M (deviceAfter M t)
 
 -- ---- R13.3: accepted steps on one frame, one after another, with calls between them that do not write it
 -- On device d, call c is no accepted step.
@@ -72,10 +76,6 @@ then [] h = h
 then (c ∷ cs) h = then cs (c .call ∷ h)
 
 module _ {M : Machine} {a : M .Area} where
-  -- R4.8: the steps of its pass
-  abbrev pub pass : Run M a → ℕ
-  pass r = passLength (r .table)
-
   -- step i as a call, all calls until just before it, and all up to its end
   abbrev pub stepCall : Run M a → ℕ → M .Call
   stepCall r i = M .frame-step a (r .vram i) (length (r .frame))
@@ -94,25 +94,55 @@ module _ {M : Machine} {a : M .Area} where
   unfoldable pub answer : Run M a → ℕ → Told (M .Device)
   answer r i = M .frameStep a (r .vram i) (length (r .frame)) (ready r i)
 
-  -- the line that step i sets
-  abbrev pub lineSet : Run M a → ℕ → ℕ
-  lineSet r i = lineOf M (answer r i .device)
-
   -- the frame after n steps
   unfoldable pub frameAt : Run M a → ℕ → List ℕ
   frameAt r zero = r .frame
   frameAt r (suc i) = M .frameAfter a (r .vram i) (ready r i) (frameAt r i)
 
-  -- row y of it at the end of the pass
-  abbrev pub rowAtEnd : Run M a → ℕ → List ℕ
-  rowAtEnd r y = rowOf (rowSize (M .screen a)) y (frameAt r (pass r))
+-- ---- What there is to watch of accepted steps on one frame, step by step. The demands are said of it: of a run on a record, and of one through the C face
+-- (crates/demands_face), alike.
+pub record Watched (M : Machine) (a : M .Area) : Type 0 where
+  pub table : LineTable
+  -- the device just before step i, and what step i answers
+  pub ready : ℕ → M .Device
+  pub answer : ℕ → Told (M .Device)
+  -- the video memory lent to step i, and R13.5 the scroll that is latched as it draws
+  pub vram : ℕ → List ℕ
+  pub scroll : ℕ → ℕ
+  -- the frame after n steps
+  pub frame : ℕ → List ℕ
+
+abbrev pub watched : {M : Machine} {a : M .Area} → Run M a → Watched M a
+watched {M} r =
+    record {
+      table = r .table;
+      ready = ready r;
+      answer = answer r;
+      vram = r .vram;
+      scroll = λ i. latched M (r .table) (through r i);
+      frame = frameAt
+          r;
+    }
+
+module _ {M : Machine} {a : M .Area} where
+  -- R4.8: the steps of its pass
+  abbrev pub pass : Watched M a → ℕ
+  pass w = passLength (w .table)
+
+  -- the line that step i sets
+  abbrev pub lineSet : Watched M a → ℕ → ℕ
+  lineSet w i = lineOf M (w .answer i .device)
+
+  -- row y of the frame at the end of the pass
+  abbrev pub rowAtEnd : Watched M a → ℕ → List ℕ
+  rowAtEnd w y = rowOf (rowSize (M .screen a)) y (w .frame (pass w))
 
   -- R13.5: the colours of the palette, and the picture of row y, by what there is at step i
-  abbrev pub coloursAt : Run M a → ℕ → List ℕ
-  coloursAt r i = M .coloursOf (M .palette (ready r i))
+  abbrev pub coloursAt : Watched M a → ℕ → List ℕ
+  coloursAt w i = M .coloursOf (M .palette (w .ready i))
 
-  abbrev pub pictureAt : Run M a → ℕ → ℕ → Row
-  pictureAt r i y = pictureOf (M .screen a) (M .registers (ready r i)) (latched M (r .table) (through r i)) (r .vram i) y
+  abbrev pub pictureAt : Watched M a → ℕ → ℕ → Row
+  pictureAt w i y = pictureOf (M .screen a) (M .registers (w .ready i)) (w .scroll i) (w .vram i) y
 
 -- R13.6: the registers under which it counts
 pub record LineInterruptsEvery (N : ℕ) (g : ℕ → ℕ) : Type 0 where
@@ -129,21 +159,21 @@ abbrev pub ForLine : (M : Machine) (N k : ℕ) → Told (M .Device) → Type 0
 ForLine M N k s = (lineOf M (s .device) ≡ k) × InterruptsWhen s (N + 1 ∣ k + 2)
 
 -- ---- the demand
-pub record Demand3 {M : Machine} {a : M .Area} (r : Run M a) : Type 0 where
+pub record Demand3 {M : Machine} {a : M .Area} (w : Watched M a) : Type 0 where
   -- R13.3: every row once, and no other
-  pub row-once : (y : ℕ) → y < rows (M .screen a) → ExactlyOnce (pass r) (λ i. answer r i .row ≡ Drawn y)
-  pub no-other : (i y : ℕ) → answer r i .row ≡ Drawn y → y < rows (M .screen a)
+  pub row-once : (y : ℕ) → y < rows (M .screen a) → ExactlyOnce (pass w) (λ i. w .answer i .row ≡ Drawn y)
+  pub no-other : (i y : ℕ) → w .answer i .row ≡ Drawn y → y < rows (M .screen a)
   -- a step that does not draw row y leaves row y as it is (the rows are all of the frame)
-  pub row-kept : (i y : ℕ) → answer r i .row ≢ Drawn y → rowOf (rowSize (M .screen a)) y (frameAt r (suc i)) ≡ rowOf (rowSize (M .screen a)) y
-      (frameAt r i)
+  pub row-kept : (i y : ℕ) → w .answer i .row ≢ Drawn y → rowOf (rowSize (M .screen a)) y (w .frame (suc i)) ≡ rowOf (rowSize (M .screen a)) y
+      (w .frame i)
   -- R13.4: one end of the screen
-  pub end-once : ExactlyOnce (pass r) (λ i. answer r i .report ≢ NoDisplay)
+  pub end-once : ExactlyOnce (pass w) (λ i. w .answer i .report ≢ NoDisplay)
   -- R13.5: at the end row y is as its own step i drew it
   pub row-bytes :
-      (i y : ℕ) → i < pass r → answer r i .row ≡ Drawn y →
-      rowAtEnd r y ≡ rowBytes (coloursAt r i) (columns (M .screen a)) (pictureAt r i y)
+      (i y : ℕ) → i < pass w → w .answer i .row ≡ Drawn y →
+      rowAtEnd w y ≡ rowBytes (coloursAt w i) (columns (M .screen a)) (pictureAt w i y)
   -- R13.6: where the registers stay so from step i, which sets line 0, to the one that sets line 193, the step of line k reports an interrupt
   -- exactly where N + 1 divides k + 2 (a case of FromLine0, Interrupts.antt, which says it of any calls on any device)
   pub line-interrupts :
-      (i N : ℕ) → lineSet r i ≡ 0 → ((k : ℕ) → k ≤ 193 → LineInterruptsEvery N (register M (ready r (i + k)))) →
-      (k : ℕ) → k ≤ 193 → ForLine M N k (answer r (i + k))
+      (i N : ℕ) → lineSet w i ≡ 0 → ((k : ℕ) → k ≤ 193 → LineInterruptsEvery N (register M (w .ready (i + k)))) →
+      (k : ℕ) → k ≤ 193 → ForLine M N k (w .answer (i + k))

@@ -13,22 +13,23 @@ use Rattle.raster.specs.Raster.{jumpLine, jumpTo}
 use Rattle.points.specs.declared.DrawnRow.the-variants.{Drawn}
 use Rattle.demands.specs.Machine.{Machine}
 use Rattle.demands.specs.Handheld.{handheld}
-use Rattle.demands.specs.Home.{home}
-use Rattle.demands.specs.Pass.{Run, pass, coloursAt, answer, lineSet, rowAtEnd, pictureAt}
+use Rattle.demands.specs.Pass.{Watched, pass, coloursAt, lineSet, rowAtEnd, pictureAt}
 
-pub record RowsDrawn {M : Machine} {a : M .Area} (r : Run M a) : Type 0 where
+pub record RowsDrawn {M : Machine} {a : M .Area} (r : Watched M a) : Type 0 where
   -- a row whose line the jump goes back over, D5 to D9 or to DA, is drawn exactly twice
   pub twice :
       (y : ℕ) → y < rows (M .screen a) → jumpTo ≤ y + firstLine (M .screen a) → y + firstLine (M .screen a) < jumpLine (r .table) → ExactlyTwice
-      (pass r) (λ i. answer r i .row ≡ Drawn y)
+      (pass r) (λ i. r .answer i .row ≡ Drawn y)
   -- every other exactly once
   pub once :
       (y : ℕ) → y < rows (M .screen a) → (y + firstLine (M .screen a) < jumpTo) ⊎ (jumpLine (r .table) ≤ y + firstLine (M .screen a)) → ExactlyOnce
-      (pass r) (λ i. answer r i .row ≡ Drawn y)
-  pub no-other : (i y : ℕ) → answer r i .row ≡ Drawn y → y < rows (M .screen a)
+      (pass r) (λ i. r .answer i .row ≡ Drawn y)
+  pub no-other : (i y : ℕ) → r .answer i .row ≡ Drawn y → y < rows (M .screen a)
+  -- row y is drawn by the steps that set line y + 24 (in the effective area, and at home, line y), and by no other
+  pub at-line : (i y : ℕ) → y < rows (M .screen a) → (r .answer i .row ≡ Drawn y) ↔ (lineSet r i ≡ y + firstLine (M .screen a))
   -- each ends as the picture rule gives it at the last step that draws it, step i
   pub last-bytes :
-      (i y : ℕ) → i < pass r → answer r i .row ≡ Drawn y → ((j : ℕ) → i < j → j < pass r → answer r j .row ≢ Drawn y) →
+      (i y : ℕ) → i < pass r → r .answer i .row ≡ Drawn y → ((j : ℕ) → i < j → j < pass r → r .answer j .row ≢ Drawn y) →
       rowAtEnd r y ≡ rowBytes (coloursAt r i) (columns (M .screen a)) (pictureAt r i y)
 
 -- In numbers, of the effective area: rows 213 to 217 by table 0, and 213 to 218 by table 1, are drawn twice a pass, and every other row once.
@@ -36,12 +37,6 @@ abbrev pub lastTwice : LineTable → ℕ
 lastTwice Steps261 = 217
 lastTwice Steps262 = 218
 
-pub record EffectiveRows (r : Run handheld EffectiveArea) : Type 0 where
-  pub twice : (y : ℕ) → 213 ≤ y → y ≤ lastTwice (r .table) → ExactlyTwice (pass r) (λ i. answer r i .row ≡ Drawn y)
-  pub once : (y : ℕ) → y < 224 → (y < 213) ⊎ (lastTwice (r .table) < y) → ExactlyOnce (pass r) (λ i. answer r i .row ≡ Drawn y)
-
--- In numbers, of the home machine (R20.1): row y, 0 to 191, is drawn by the step that sets line y, once a pass, and no other row is drawn.
-pub record HomeRows (r : Run home tt) : Type 0 where
-  pub at-line : (i y : ℕ) → y < 192 → (answer r i .row ≡ Drawn y) ↔ (lineSet r i ≡ y)
-  pub once : (y : ℕ) → y < 192 → ExactlyOnce (pass r) (λ i. answer r i .row ≡ Drawn y)
-  pub no-other : (i y : ℕ) → answer r i .row ≡ Drawn y → y < 192
+pub record EffectiveRows (r : Watched handheld EffectiveArea) : Type 0 where
+  pub twice : (y : ℕ) → 213 ≤ y → y ≤ lastTwice (r .table) → ExactlyTwice (pass r) (λ i. r .answer i .row ≡ Drawn y)
+  pub once : (y : ℕ) → y < 224 → (y < 213) ⊎ (lastTwice (r .table) < y) → ExactlyOnce (pass r) (λ i. r .answer i .row ≡ Drawn y)

@@ -1,4 +1,4 @@
--- R13.9, WHEN A WRITE SHOWS: whatever an author writes while the counter reads L, to a port or to video memory, the rows that it changes.
+-- R13.9, WHEN A WRITE SHOWS: whatever an author writes while the counter reads L, to a port or to video memory, the rows that it changes, in any pass.
 -- Assumes nothing.
 use mathlib.Core.Path.{_≡_}
 use mathlib.Core.Logic.{_≢_}
@@ -8,28 +8,28 @@ use Rattle.raster.specs.declared.Raster.{Raster}
 use Rattle.raster.specs.Raster.{ticked}
 use Rattle.points.specs.declared.DrawnRow.the-variants.{Drawn}
 use Rattle.demands.specs.Machine.{Machine, register}
-use Rattle.demands.specs.Pass.{Run, pass, through, ready, answer, lineSet, latched, coloursAt, rowAtEnd, pictureAt}
-use Rattle.demands.specs.Split.{firstNew, Moment}
+use Rattle.demands.specs.Pass.{Watched, pass, lineSet, coloursAt, rowAtEnd, pictureAt}
+use Rattle.demands.specs.Split.{Moment, New}
 
 -- Two runs that are one up to step s: one table, and just before each of these steps the same device and the same video memory.
-pub record SameUntil {M : Machine} {a : M .Area} (r r₀ : Run M a) (s : ℕ) : Type 0 where
+pub record SameUntil {M : Machine} {a : M .Area} (r r₀ : Watched M a) (s : ℕ) : Type 0 where
   pub table : r .table ≡ r₀ .table
-  pub device : (i : ℕ) → i ≤ s → ready r i ≡ ready r₀ i
+  pub device : (i : ℕ) → i ≤ s → r .ready i ≡ r₀ .ready i
   pub memory : (i : ℕ) → i ≤ s → r .vram i ≡ r₀ .vram i
 
 -- r is the run with the write, r₀ the one without.
-pub record WriteShows {M : Machine} {a : M .Area} {r : Run M a} {L : ℕ} (m : Moment r L) (r₀ : Run M a) : Type 0 where
-  -- a row that was drawn before the write never changes: each row before the first new one ends as it ends without the write
-  pub stays : (y : ℕ) → y < rows (M .screen a) → y < firstNew (M .screen a) L → rowAtEnd r y ≡ rowAtEnd r₀ y
-  -- each row from that one on is drawn after the write, by the palette, the registers and the video memory that there are then
+pub record WriteShows {M : Machine} {a : M .Area} {r : Watched M a} {L : ℕ} (m : Moment r L) (r₀ : Watched M a) : Type 0 where
+  -- a row that was drawn before the write never changes: each row that is not new ends as it ends without the write
+  pub stays : (y : ℕ) → y < rows (M .screen a) → (New m y → ⊥) → rowAtEnd r y ≡ rowAtEnd r₀ y
+  -- each new row is drawn after the write, by the palette, the registers and the video memory that there are then
   pub shows :
-      (i y : ℕ) → i < pass r → answer r i .row ≡ Drawn y → firstNew (M .screen a) L ≤ y →
+      (i y : ℕ) → i < pass r → r .answer i .row ≡ Drawn y → New m y →
       (m .step < i) × (rowAtEnd r y ≡ rowBytes (coloursAt r i) (columns (M .screen a)) (pictureAt r i y))
   -- register 9 alone waits: the scroll that rows are drawn with stays until the counter becomes 0, and is then what register 9 has
   pub scroll-waits :
       (i : ℕ) → m .step ≤ i → ((j : ℕ) → m .step < j → j ≤ i → lineSet r j ≢ 0) →
-      latched M (r .table) (through r i) ≡ latched M (r .table) (through r (m .step))
-  pub scroll-taken : (i : ℕ) → lineSet r i ≡ 0 → latched M (r .table) (through r i) ≡ register M (ready r i) 9
+      r .scroll i ≡ r .scroll (m .step)
+  pub scroll-taken : (i : ℕ) → lineSet r i ≡ 0 → r .scroll i ≡ register M (r .ready i) 9
 
 -- Register 10 waits too, for the line count: on a line up to 192 the count goes down whatever register 10 has, until it is 0; from 0, and on a later line,
 -- it is register 10's.

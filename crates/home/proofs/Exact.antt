@@ -8,7 +8,7 @@ use mathlib.Core.List.{List, []}
 use native.Mathlib.Omega.{arith}
 use Rattle.laws.proofs.Tests.{either, cond-in}
 use Rattle.refusal.specs.declared.Refusal.the-variants.{Accepted}
-use Rattle.refusal.specs.Refusals.{first}
+use Rattle.refusal.specs.Refusals.{refusalNumber, first}
 use Rattle.front.specs.Ports.{frontWrite}
 use Rattle.front.proofs.Exact.{front-write-exact, front-read-exact}
 use Rattle.front.proofs.Behind.{front-write-behind, front-read-behind}
@@ -20,7 +20,7 @@ use Rattle.home.specs.declared.HomeWritten.{HomeWritten}
 use Rattle.home.specs.declared.HomeRead.{HomeRead}
 use Rattle.home.specs.Home.{withFront}
 use Rattle.home.specs.Ports.{After, portWrite, portRead, deviceLeft, writeLines, readLines}
-use Rattle.home.specs.Promises.{NeverSix, OutsideOnly}
+use Rattle.home.specs.Promises.{OutsideOnly}
 
 -- ---- the first line that holds
 module _ (h : HomeState) (m : List ℕ) (p : ℕ) where
@@ -66,7 +66,7 @@ module _ (h : HomeState) where
       record { device = λ n. ap (withFront h) (b .front n); zero = b .zero }
 
 -- ---- 6 and 7
-pub never-six : NeverSix
+pub never-six : (h : HomeState) (m : List ℕ) (p v : ℕ) → refusalNumber (portWrite h m p v .answer .refusal) ≢ 6
 never-six h m p v =
     rw (write-exact h m p v)
     (first-not 6 (λ z. omega arith) (writeLines h m p v)

@@ -1,4 +1,4 @@
--- R20.3: refusal 6 never comes of a write here, and 7 only where the address lies outside its memory.
+-- R20.3: refusal 7 comes only where the address lies outside its memory. (That 6 never comes, of no call: `NeverSix`, crates/demands/specs/Home.antt.)
 -- Assumes nothing.
 use Prim.Native.Nat.{ℕ, _<_}
 use mathlib.Core.Logic.{_≢_}
@@ -8,10 +8,6 @@ use Rattle.front.specs.Lines.{sizeOf}
 use Rattle.home.specs.declared.HomeState.{HomeState}
 use Rattle.home.specs.Home.{paletteSize}
 use Rattle.home.specs.Ports.{portWrite, portRead}
-
--- any record, memory, port and value
-abbrev pub NeverSix : Type 0
-NeverSix = (h : HomeState) (vram : List ℕ) (port value : ℕ) → refusalNumber (portWrite h vram port value .answer .refusal) ≢ 6
 
 -- the address lies in the memory that is chosen
 abbrev pub Aimed : HomeState → Type 0

@@ -1,0 +1,6 @@
+-- The demands through the C face, as statements.
+pub mod Face
+pub mod Calls
+pub mod Seven
+pub mod Author
+pub mod Kept
