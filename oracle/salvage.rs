@@ -75,7 +75,7 @@ pub fn written(input: &[u8]) -> (Vec<u8>, String) {
     let mut told = String::new();
     for (at, name) in FIELDS {
         if at < block.len() && block[at] != input[at] {
-            told += &format!("repair: byte {}, {}: {:02x} -> {:02x}\n", at, name, input[at], block[at]);
+            told += &format!("repair: byte {}, {}: {:02X} -> {:02X}\n", at, name, input[at], block[at]);
         }
     }
     (block, told)

@@ -29,10 +29,10 @@ fn main() {
     let taken = program::input(
         b"home-snapshot",
         b"usage: home-snapshot [FILE] > PICTURE.ppm\n\
-            Runs the trace in FILE, or on standard input, on a fresh home device (262 steps to a pass), and writes what its steps drew. The area byte of LS is 0.\n\
+            Runs the trace in FILE, or on standard input (no FILE, or -), on a fresh home device (262 steps to a pass), and writes what its steps drew. The area byte of LS is 0.\n\
             The picture is a binary PPM of 256 x 192 pixels, black where nothing was drawn; tools/ppm2png.py makes a PNG of it.\n\
             Of a trace that is bad or too long it writes only a line, as home-trace does: 'bad' and an offset, or 'long'.\n\
-            The exit status is always 0: what cannot be read or written is told on standard error.\n",
+            What cannot be read or written is told on standard error. The exit status is 1 then, and for 'bad' and 'long'; otherwise 0.\n",
         &mut input,
     );
     if !taken.ready {

@@ -20,10 +20,10 @@ fn main() {
     let taken = program::input(
         b"home-trace",
         b"usage: home-trace [FILE]\n\
-            Runs the trace in FILE, or on standard input, on a fresh home device (262 steps to a pass), and prints a line for each call.\n\
+            Runs the trace in FILE, or on standard input (no FILE, or -), on a fresh home device (262 steps to a pass), and prints a line for each call.\n\
             A trace has at most 65,535 bytes. Its records: PW port value, PR port, LS area (docs/TRACES.md). The area byte of LS is 0.\n\
             The last line is 'end' and the number of records; or 'bad' and the offset of a bad record; or 'long'.\n\
-            The exit status is always 0: what cannot be read or written is told on standard error.\n",
+            What cannot be read or written is told on standard error. The exit status is 1 then, and for 'bad' and 'long'; otherwise 0.\n",
         &mut input,
     );
     if !taken.ready {

@@ -27,10 +27,10 @@ fn main() {
     let taken = program::input(
         b"layers",
         b"usage: layers [FILE] > PICTURE.ppm\n\
-            Runs the trace in FILE, or on standard input, as snapshot does, and colours each pixel by the layer that owns it.\n\
+            Runs the trace in FILE, or on standard input (no FILE, or -), as snapshot does, and colours each pixel by the layer that owns it.\n\
             Background 32,32,32; background that holds a sprite back 255,0,255; sprite n 4n,255-4n,128; black where nothing was drawn.\n\
             Of a trace that is bad or too long it writes only a line, as trace does: 'bad' and an offset, or 'long'.\n\
-            The exit status is always 0: what cannot be read or written is told on standard error.\n",
+            What cannot be read or written is told on standard error. The exit status is 1 then, and for 'bad' and 'long'; otherwise 0.\n",
         &mut input,
     );
     if !taken.ready {

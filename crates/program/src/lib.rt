@@ -66,14 +66,16 @@ fn read_from(fd: i32, name: &[u8], what: &[u8], buf: &mut [u8]) -> Taken
     start(true, done, buf)
 }
 
-// Writes all of the output to standard output.
-pub fn output(name: &[u8], bytes: &[u8]) {
+// Writes all of the output to standard output, and answers whether it could.
+pub fn output(name: &[u8], bytes: &[u8]) -> bool {
     if !io::write_all(STDOUT_FILENO, bytes) {
         tell(name, b"standard output");
+        return false;
     }
+    true
 }
 
-// Fills buf from the file that the first argument names, with no argument from standard input. `--help` is answered here, with the help text.
+// Fills buf from the file that the first argument names; with no argument, or one that is `-`, from standard input. `--help` is answered here, with the help text.
 pub fn input(name: &[u8], help: &[u8], buf: &mut [u8]) -> Taken
     ensures { λ r. ⌜ Counts (r .len) (now (buf .exit)) ⌝ }
 {
@@ -96,6 +98,9 @@ pub fn input(name: &[u8], help: &[u8], buf: &mut [u8]) -> Taken
     if same(path, b"--help") {
         output(name, help);
         return start(false, 0, buf);
+    }
+    if same(path, b"-") {
+        return read_from(STDIN_FILENO, name, b"standard input", buf);
     }
     let fd = os::open_read(path);
     if fd < 0 {

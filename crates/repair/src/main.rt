@@ -21,6 +21,17 @@ fn tell_field(at: usize) -> bool {
     }
 }
 
+// A hexadecimal digit, as the trace programs print it.
+fn hex_digit(d: u8) -> u8 {
+    let digit = d % 16;
+    if digit < 10 { 48 + digit } else { 55 + digit }
+}
+
+// A byte in two of them.
+fn tell_byte(byte: u8) {
+    io::write_all(STDERR_FILENO, &[hex_digit(byte / 16), hex_digit(byte)]);
+}
+
 // One byte that has changed, on a line: its offset in decimal, then what stands there, and the byte before and after in hexadecimal.
 fn tell_change(at: usize, old: u8, new: u8) {
     io::write_all(STDERR_FILENO, b"repair: byte ");
@@ -28,9 +39,9 @@ fn tell_change(at: usize, old: u8, new: u8) {
     io::write_all(STDERR_FILENO, b", ");
     tell_field(at);
     io::write_all(STDERR_FILENO, b": ");
-    io::print_hex(STDERR_FILENO, old as u64, 2);
+    tell_byte(old);
     io::write_all(STDERR_FILENO, b" -> ");
-    io::print_hex(STDERR_FILENO, new as u64, 2);
+    tell_byte(new);
     io::write_all(STDERR_FILENO, b"\n");
 }
 
@@ -47,15 +58,16 @@ fn tell_changes(old: &[u8], new: &[u8]) {
     }
 }
 
-// Writes the block mended, and tells what has changed since it was `old`.
+// Writes the block mended, and tells what has changed since it was `old`; where it cannot be written, that alone is told.
 fn mend(old: &[u8], block: &mut [u8]) {
     let mut list = [0u8; 220];
     let done = block_repair::repair(block, &mut list);
     let refusal = done.refusal;
     match refusal {
         Refusal::Accepted => {
-            program::output(b"repair", block);
-            tell_changes(old, block);
+            if program::output(b"repair", block) {
+                tell_changes(old, block);
+            }
         }
         _ => {
             program::output(b"repair", b"bad\n");
@@ -69,10 +81,10 @@ fn main() {
     let taken = program::input(
         b"repair",
         b"usage: repair [FILE]\n\
-            Reads a state block of 219 or 220 bytes from FILE, or from standard input, and writes it mended (docs/SAVES.md).\n\
+            Reads a state block of 219 or 220 bytes from FILE, or from standard input (no FILE, or -), and writes it mended (docs/SAVES.md).\n\
             Each byte that has changed is told on standard error, in a line; of a block with nothing wrong, nothing is.\n\
             For an input of any other length it writes the line 'bad' and nothing more.\n\
-            The exit status is always 0: what cannot be read or written is told on standard error.\n",
+            The exit status is 0 where nothing was wrong, and 1 where something is told, for 'bad', and where it cannot be read or written.\n",
         &mut block,
     );
     if !taken.ready {

@@ -22,10 +22,10 @@ fn main() {
     let taken = program::input(
         b"sheet",
         b"usage: sheet [FILE]\n\
-            Reads a sheet of 1 to 256 tiles from FILE, or from standard input: 64 codes a tile, row by row, one byte a code, 0 to 15.\n\
+            Reads a sheet of 1 to 256 tiles from FILE, or from standard input (no FILE, or -): 64 codes a tile, row by row, one byte a code, 0 to 15.\n\
             Writes 32 bytes a tile, as they stand in video memory (docs/TILES.md).\n\
             For a sheet of any other length, or with a code above 15, it writes the line 'bad' and nothing more.\n\
-            The exit status is always 0: what cannot be read or written is told on standard error.\n",
+            What cannot be read or written is told on standard error. The exit status is 1 then, and for 'bad'; otherwise 0.\n",
         &mut input,
     );
     if !taken.ready {

@@ -31,10 +31,10 @@ fn main() {
     let taken = program::input(
         b"snapshot-261",
         b"usage: snapshot-261 [FILE] > PICTURE.ppm\n\
-            Runs the trace in FILE, or on standard input, on a fresh device (261 steps to a pass; snapshot has 262), and writes what its visible steps drew.\n\
+            Runs the trace in FILE, or on standard input (no FILE, or -), on a fresh device (261 steps to a pass; snapshot has 262), and writes what its visible steps drew.\n\
             The picture is a binary PPM of 160 x 144 pixels, black where nothing was drawn; tools/ppm2png.py makes a PNG of it.\n\
             Of a trace that is bad or too long it writes only a line, as trace does: 'bad' and an offset, or 'long'.\n\
-            The exit status is always 0: what cannot be read or written is told on standard error.\n",
+            What cannot be read or written is told on standard error. The exit status is 1 then, and for 'bad' and 'long'; otherwise 0.\n",
         &mut input,
     );
     if !taken.ready {

@@ -21,10 +21,10 @@ fn main() {
     let taken = program::input(
         b"trace-261",
         b"usage: trace-261 [FILE]\n\
-            Runs the trace in FILE, or on standard input, on a fresh device (261 steps to a pass; trace has 262), and prints a line for each call.\n\
+            Runs the trace in FILE, or on standard input (no FILE, or -), on a fresh device (261 steps to a pass; trace has 262), and prints a line for each call.\n\
             A trace has at most 65,535 bytes. Its records: PW port value, PR port, LS area (docs/TRACES.md).\n\
             The last line is 'end' and the number of records; or 'bad' and the offset of a bad record; or 'long'.\n\
-            The exit status is always 0: what cannot be read or written is told on standard error.\n",
+            What cannot be read or written is told on standard error. The exit status is 1 then, and for 'bad' and 'long'; otherwise 0.\n",
         &mut input,
     );
     if !taken.ready {
