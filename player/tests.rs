@@ -13,7 +13,9 @@ pub mod vdp;
 #[cfg(test)]
 mod tests {
     use crate::io::Device;
-    use crate::vdp::{DisplayRefresh, RenderArea, Vdp, VdpInt, GG_VISIBLE_PIXEL_HEIGHT, GG_VISIBLE_PIXEL_WIDTH};
+    use crate::vdp::{
+        refusal_text, DisplayRefresh, RenderArea, Save, Vdp, VdpInt, GG_VISIBLE_PIXEL_HEIGHT, GG_VISIBLE_PIXEL_WIDTH,
+    };
 
     const COMMAND: u16 = 0xBF;
     const DATA: u16 = 0xBE;
@@ -397,5 +399,154 @@ mod tests {
             assert_eq!(recording.bytes, whole[..[0, 0, 0, 0, 4, 4, 4, 4, 8, 8, 8, 11][room]]);
             assert_eq!(recording.whole, room == 11);
         }
+    }
+
+    /// A scene with a solid sprite, number 0, at column 12 of row 0, in palette 1's colour 15, white; the background is colour 0, red.
+    fn scene() -> Vdp {
+        let vdp = Vdp::new();
+        commands(&vdp, &[0x20, 0x40]);
+        writes(&vdp, &[0xFF; 32]);
+        commands(&vdp, &[0x00, 0x7F]);
+        writes(&vdp, &[23, 0xD0]);
+        commands(&vdp, &[0x80, 0x7F]);
+        writes(&vdp, &[60, 1]);
+        commands(&vdp, &[0x00, 0x86]);
+        commands(&vdp, &[0x3E, 0xC0]);
+        writes(&vdp, &[0xFF, 0x0F]);
+        commands(&vdp, &[0x00, 0xC0]);
+        writes(&vdp, &[0x0F, 0x00]);
+        vdp
+    }
+
+    /// A save brings back the device and its video memory; what goes on from it is what went on before, on any device, and in the first version too.
+    #[test]
+    fn saves() {
+        let vdp = scene();
+        steps(&vdp, 30);
+        let save = vdp.save();
+        assert_eq!((save.block.len(), save.vram.len()), (220, 16_384));
+        let mut frames = vec![vec![0; VISIBLE]; 2];
+        for _ in 0..300 {
+            vdp.step(&mut frames[0], RenderArea::VisibleOnly);
+        }
+        writes(&vdp, &[1, 2, 3]);
+        let after = vdp.save();
+        assert_ne!(after, save);
+        let other = Vdp::with_table(0).unwrap();
+        assert_eq!(other.load(&save), Ok(()));
+        assert_eq!(other.save(), save);
+        for _ in 0..300 {
+            other.step(&mut frames[1], RenderArea::VisibleOnly);
+        }
+        writes(&other, &[1, 2, 3]);
+        assert!(frames[0] == frames[1]);
+        assert_eq!(other.save(), after);
+        // the first version, 219 bytes, stays what it is
+        let mut old = Vdp::with_table(0).unwrap().save();
+        old.block.pop();
+        old.block[1] = 0x53;
+        assert_eq!(other.load(&old), Ok(()));
+        steps(&other, 261);
+        assert_eq!(other.input(LINE, 0), Ok(0));
+        assert_eq!(other.save().block.len(), 219);
+    }
+
+    /// What no call would take is refused, and the device stays.
+    #[test]
+    fn saves_that_are_refused() {
+        let vdp = scene();
+        let before = vdp.save();
+        let refused = |save: &Save, number| {
+            assert_eq!(vdp.load(save), Err(number));
+            assert_eq!(vdp.last_refusal(), number);
+            assert_eq!(vdp.save(), before);
+        };
+        let mut short = before.clone();
+        short.block.pop();
+        refused(&short, 10);
+        let mut flag = before.clone();
+        flag.block[26] = 2;
+        flag.vram.pop();
+        refused(&flag, 10);
+        flag.block[26] = 1;
+        refused(&flag, 8);
+        // a save that is loaded ends a recording
+        vdp.start_recording(100);
+        assert_eq!(vdp.input(LINE, 0), Ok(0));
+        assert_eq!(vdp.load(&before), Ok(()));
+        assert_eq!(vdp.input(LINE, 0), Ok(0));
+        let recording = vdp.take_recording().unwrap();
+        assert_eq!((&recording.bytes[..], recording.whole), (&b"PR\x7E"[..], false));
+    }
+
+    #[test]
+    fn repairs() {
+        let good = scene().save();
+        let mut save = good.clone();
+        assert_eq!(save.repair(), Ok(vec![]));
+        save.block[0] = 0x57;
+        save.block[20] = 9;
+        assert_eq!(Vdp::new().load(&save), Err(10));
+        assert_eq!(save.repair(), Ok(vec![0, 20]));
+        assert_eq!((save.block[0], save.block[20]), (0x56, 0));
+        assert_eq!(save.vram, good.vram);
+        assert_eq!(Vdp::new().load(&save), Ok(()));
+        save.block.push(0);
+        let longer = save.clone();
+        assert_eq!(save.repair(), Err(10));
+        assert_eq!(save, longer);
+    }
+
+    #[test]
+    fn layers_and_pixels() {
+        let (plain, layered) = (scene(), scene());
+        let mut frames = vec![vec![7; VISIBLE]; 2];
+        let mut layers = vec![9; 161];
+        for step in 0..262 {
+            let told = plain.step(&mut frames[0], RenderArea::VisibleOnly);
+            let (interrupt, refresh, row) = layered.layer_step(&mut frames[1], &mut layers, RenderArea::VisibleOnly);
+            assert_eq!(format!("{:?}", told), format!("{:?}", (interrupt, refresh)));
+            let expected = if (23..167).contains(&step) { Some((step - 23) as u8) } else { None };
+            assert_eq!((row, layered.last_refusal()), (expected, 0));
+            if row == Some(0) {
+                assert_eq!(layers[11..21], [0, 64, 64, 64, 64, 64, 64, 64, 64, 0]);
+            }
+        }
+        assert!(frames[0] == frames[1] && layers[160] == 9);
+        assert_eq!(plain.save(), layered.save());
+        // one byte too few, on a line that draws nothing too
+        for _ in 0..262 {
+            layered.layer_step(&mut frames[1], &mut layers[..159], RenderArea::VisibleOnly);
+            assert_eq!(layered.last_refusal(), 16);
+        }
+        assert_eq!(plain.save(), layered.save());
+        // pixels: those of the row, and none outside
+        for (row, column) in [(0, 11), (0, 12), (0, 19), (0, 20), (8, 12), (143, 159)] {
+            let at = 4 * (160 * row as usize + column as usize);
+            assert_eq!(plain.pixel(RenderArea::VisibleOnly, row, column).unwrap()[..], frames[0][at..at + 4]);
+        }
+        assert_eq!(plain.pixel(RenderArea::VisibleOnly, 0, 12), Some([0xFF; 4]));
+        assert_eq!(plain.pixel(RenderArea::TrueEdges, 0, 11), Some([0xFF, 0, 0, 0xFF]));
+        assert_eq!(plain.pixel(RenderArea::EffectiveArea, 24, 60), Some([0xFF; 4]));
+        for (row, column) in [(144, 0), (0, 160), (u32::MAX, u32::MAX)] {
+            assert_eq!(plain.pixel(RenderArea::VisibleOnly, row, column), None);
+            assert_eq!(plain.last_refusal(), 0);
+        }
+        assert_eq!(plain.save(), layered.save());
+    }
+
+    /// The words of a refusal are those of the header.
+    #[test]
+    fn words() {
+        let header = include_str!("../include/vdp.h");
+        let part = header.split("*vdp_refusal_text(").nth(1).and_then(|rest| rest.split("};").next()).unwrap();
+        let texts: Vec<&str> = part.split('"').skip(1).step_by(2).collect();
+        assert_eq!(texts.len(), 19);
+        for (number, text) in texts.iter().enumerate() {
+            assert_eq!(refusal_text(number as u8), *text);
+        }
+        assert_eq!(refusal_text(19), "unknown refusal");
+        let vdp = Vdp::new();
+        assert!(vdp.input(0x7F, 0).unwrap_err().contains(texts[2]));
     }
 }

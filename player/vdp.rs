@@ -1,5 +1,5 @@
 //! The video chip for the player, over the C face of libvdp.a (include/vdp.h): this file takes the place of the player's own src/vdp.rs.
-//! The public names are the same, and the player links libvdp.a (`-L` names its folder). What differs:
+//! The public names are the same, and the player has libvdp.a in it (README.md beside this file says how to build it). What differs:
 //! - No call stops the player. What the library refuses is refused by a number (docs/RULES.md, R2.1), and `last_refusal` tells the one
 //!   of the last call, 0 where it was accepted.
 //! - A refused port call is an error with a text; so are those at which the file before panicked (horizontal counter, register above
@@ -9,7 +9,8 @@
 //!   160 x 144 (or 256 x 224) x 4 bytes, the tile sheet exactly 131,072.
 //! - `Vdp::new` goes by the line table of the counter chart, 262 steps to a pass; `Vdp::with_table(0)` by the one of the file before, 261.
 //! - New: `start_recording` records what is asked of the chip, and `take_recording` hands over a trace that build/bin/trace runs
-//!   (docs/TRACES.md).
+//!   (docs/TRACES.md); `save` and `load` keep a device and bring it back, and `Save::repair` mends a damaged one (docs/SAVES.md); `layer_step`
+//!   tells what owns each pixel of the row, and `pixel` the colour of one, for a debugger.
 //! - A sprite at X 41 to 48 under the early clock no longer stops the player, and nothing is drawn past the right edge.
 
 use crate::io;
@@ -20,12 +21,13 @@ pub const GG_VISIBLE_PIXEL_WIDTH: usize = 160;
 
 const BLOCK_SIZE: usize = 220;
 const VRAM_SIZE: usize = 16 * 1024;
+const LIST_SIZE: usize = 220;
 
 /// The longest recording that the trace programs run.
 pub const LONGEST_RECORDING: usize = 65_535;
 
 // A slice is a pointer and a length. The answer has the refusal in its low byte.
-#[link(name = "vdp")]
+#[link(name = "vdp", kind = "static")]
 extern "C" {
     fn vdp_new(state: *mut u8, state_len: usize) -> u32;
     fn vdp_new_table(state: *mut u8, state_len: usize, table: u8) -> u32;
@@ -48,6 +50,27 @@ extern "C" {
         pixels: *mut u8,
         pixels_len: usize,
     ) -> u32;
+    fn vdp_layer_step(
+        state: *mut u8,
+        state_len: usize,
+        vram: *const u8,
+        vram_len: usize,
+        frame: *mut u8,
+        frame_len: usize,
+        layers: *mut u8,
+        layers_len: usize,
+        area: u8,
+    ) -> u32;
+    fn vdp_pixel(
+        state: *const u8,
+        state_len: usize,
+        vram: *const u8,
+        vram_len: usize,
+        area: u8,
+        row: u32,
+        column: u32,
+    ) -> u64;
+    fn vdp_repair(block: *mut u8, block_len: usize, list: *mut u8, list_len: usize) -> u32;
     fn vdp_record_out(recording: *mut u8, recording_len: usize, used: usize, port: u8, value: u8) -> u32;
     fn vdp_record_input(recording: *mut u8, recording_len: usize, used: usize, port: u8) -> u32;
     fn vdp_record_step(recording: *mut u8, recording_len: usize, used: usize, area: u8) -> u32;
@@ -74,11 +97,41 @@ pub enum DisplayRefresh {
     ScreenDoneNoRefresh,
 }
 
-/// What the library is lent at each call.
-#[derive(Debug)]
-struct Lent {
-    block: [u8; BLOCK_SIZE],
-    vram: Vec<u8>,
+impl RenderArea {
+    /// Its number in the C face.
+    fn number(self) -> u8 {
+        match self {
+            RenderArea::VisibleOnly => 0,
+            RenderArea::EffectiveArea => 1,
+            RenderArea::TrueEdges => 2,
+        }
+    }
+}
+
+/// A device as it stands, to be kept in a file: its state block of 220 bytes, or 219 of the first version, and its video memory of 16,384. It is also what
+/// the library is lent at each call.
+#[derive(Debug, Clone, PartialEq, Eq)]
+pub struct Save {
+    pub block: Vec<u8>,
+    pub vram: Vec<u8>,
+}
+
+impl Save {
+    fn zeros() -> Self {
+        Save { block: vec![0; BLOCK_SIZE], vram: vec![0; VRAM_SIZE] }
+    }
+
+    /// Mends a damaged block, and answers the offsets of the bytes that have changed; one whose length is no block's is refused by 10, and stays.
+    pub fn repair(&mut self) -> Result<Vec<u8>, u8> {
+        let mut list = vec![0; LIST_SIZE];
+        // Sound: two live slices that do not overlap.
+        let answer = unsafe { vdp_repair(self.block.as_mut_ptr(), self.block.len(), list.as_mut_ptr(), list.len()) };
+        list.truncate((answer >> 8 & 0xFF) as usize);
+        match refusal(answer) {
+            0 => Ok(list),
+            number => Err(number),
+        }
+    }
 }
 
 /// What was asked of the chip since recording was switched on, as a trace.
@@ -86,7 +139,7 @@ struct Lent {
 pub struct Recording {
     /// The records, one behind the other.
     pub bytes: Vec<u8>,
-    /// Whether all that was asked is there; where it is not, the room was used up, and the recording ends before the first call that had none.
+    /// Whether all that was asked is there; where it is not, the recording ends before the first call that had no room, or before a save was loaded.
     pub whole: bool,
 }
 
@@ -112,14 +165,14 @@ impl Recorder {
 
 #[derive(Debug)]
 pub struct Vdp {
-    lent: RefCell<Lent>,
+    lent: RefCell<Save>,
     refused: Cell<u8>,
     recorder: RefCell<Option<Recorder>>,
 }
 
 impl Vdp {
     pub fn new() -> Self {
-        let mut lent = Lent { block: [0; BLOCK_SIZE], vram: vec![0; VRAM_SIZE] };
+        let mut lent = Save::zeros();
         // Sound: the block is live, and as long as we say.
         let answer = unsafe { vdp_new(lent.block.as_mut_ptr(), lent.block.len()) };
         Vdp { lent: RefCell::new(lent), refused: Cell::new(refusal(answer)), recorder: RefCell::new(None) }
@@ -127,7 +180,7 @@ impl Vdp {
 
     /// A device that goes by this line table: 0, whose pass has 261 steps, or 1, the chart's, of 262; there is no other.
     pub fn with_table(table: u8) -> Option<Self> {
-        let mut lent = Lent { block: [0; BLOCK_SIZE], vram: vec![0; VRAM_SIZE] };
+        let mut lent = Save::zeros();
         // Sound: the block is live, and as long as we say.
         let answer = unsafe { vdp_new_table(lent.block.as_mut_ptr(), lent.block.len(), table) };
         match refusal(answer) {
@@ -164,15 +217,34 @@ impl Vdp {
         }
     }
 
+    /// The device as it stands. It goes on.
+    pub fn save(&self) -> Save {
+        self.lent.borrow().clone()
+    }
+
+    /// Goes on from a save. One that no call would take is refused, by 10 where its block is malformed (`Save::repair` mends it) and by 8 where its video
+    /// memory has not 16,384 bytes, and then the device stays. A recording that is on ends before it: a trace begins with a fresh device.
+    pub fn load(&self, save: &Save) -> Result<(), u8> {
+        // Sound: two live slices. The question for a pixel changes nothing, and is refused where the block or the video memory is no good.
+        let answer = unsafe {
+            vdp_pixel(save.block.as_ptr(), save.block.len(), save.vram.as_ptr(), save.vram.len(), 0, 0, 0)
+        };
+        self.refused.set(refusal(answer as u32));
+        if self.last_refusal() != 0 {
+            return Err(self.last_refusal());
+        }
+        *self.lent.borrow_mut() = save.clone();
+        if let Some(recorder) = self.recorder.borrow_mut().as_mut() {
+            recorder.whole = false;
+        }
+        Ok(())
+    }
+
     /// One line: draws its row in the frame, if it has one. Refused, it does and reports nothing.
     pub fn step(&self, pixels: &mut [u8], render_area: RenderArea) -> (VdpInt, DisplayRefresh) {
         let mut lent = self.lent.borrow_mut();
         let lent = &mut *lent;
-        let area = match render_area {
-            RenderArea::VisibleOnly => 0,
-            RenderArea::EffectiveArea => 1,
-            RenderArea::TrueEdges => 2,
-        };
+        let area = render_area.number();
         // Sound: three live slices that do not overlap.
         let answer = unsafe {
             vdp_step(
@@ -185,12 +257,45 @@ impl Vdp {
                 area,
             )
         };
+        self.stepped(answer, area)
+    }
+
+    /// The same line, with the layers of its row at the start of `layers` (at least 160 or 256 bytes): 0 background, 1 background that holds a sprite back,
+    /// 64 + n sprite n. Answers also the row that was drawn, if one was.
+    pub fn layer_step(
+        &self,
+        pixels: &mut [u8],
+        layers: &mut [u8],
+        render_area: RenderArea,
+    ) -> (VdpInt, DisplayRefresh, Option<u8>) {
+        let mut lent = self.lent.borrow_mut();
+        let lent = &mut *lent;
+        let area = render_area.number();
+        // Sound: four live slices that do not overlap.
+        let answer = unsafe {
+            vdp_layer_step(
+                lent.block.as_mut_ptr(),
+                lent.block.len(),
+                lent.vram.as_ptr(),
+                lent.vram.len(),
+                pixels.as_mut_ptr(),
+                pixels.len(),
+                layers.as_mut_ptr(),
+                layers.len(),
+                area,
+            )
+        };
+        let (interrupt, refresh) = self.stepped(answer, area);
+        (interrupt, refresh, if answer >> 24 & 1 == 1 { Some((answer >> 16) as u8) } else { None })
+    }
+
+    /// What a step answered, kept and recorded. A refused step's answer has no bit but those of its refusal.
+    fn stepped(&self, answer: u32, area: u8) -> (VdpInt, DisplayRefresh) {
         self.refused.set(refusal(answer));
         if refusal(answer) == 0 {
             // Sound: one live slice.
             self.record(|at, len, used| unsafe { vdp_record_step(at, len, used, area) });
         }
-        // A refused step's answer has no bit but those of its refusal.
         let interrupt = if answer >> 8 & 1 == 1 { VdpInt::InterruptGenerated } else { VdpInt::NoInterrupt };
         let refresh = match answer >> 9 & 3 {
             0 => DisplayRefresh::NoDisplay,
@@ -198,6 +303,29 @@ impl Vdp {
             _ => DisplayRefresh::ScreenDoneNoRefresh,
         };
         (interrupt, refresh)
+    }
+
+    /// Red, green, blue and 255 of one pixel, as its row would be drawn now; nothing where the area has no such pixel. Nothing changes.
+    pub fn pixel(&self, render_area: RenderArea, row: u32, column: u32) -> Option<[u8; 4]> {
+        let lent = self.lent.borrow();
+        // Sound: two live slices.
+        let answer = unsafe {
+            vdp_pixel(
+                lent.block.as_ptr(),
+                lent.block.len(),
+                lent.vram.as_ptr(),
+                lent.vram.len(),
+                render_area.number(),
+                row,
+                column,
+            )
+        };
+        self.refused.set(refusal(answer as u32));
+        if answer >> 24 & 1 == 1 {
+            Some(((answer >> 32) as u32).to_le_bytes())
+        } else {
+            None
+        }
     }
 
     /// Draws all tiles, as background and as sprites, on a sheet of 128 x 256 pixels; refused, it leaves the sheet.
@@ -262,9 +390,10 @@ fn refusal(answer: u32) -> u8 {
     answer as u8
 }
 
-/// A refusal in words.
-fn refusal_text(number: u8) -> &'static str {
+/// A refusal in words, as `vdp_refusal_text` of include/vdp.h has them.
+pub fn refusal_text(number: u8) -> &'static str {
     match number {
+        0 => "accepted",
         1 => "unknown port",
         2 => "the horizontal counter is not there",
         3 => "no such register",
