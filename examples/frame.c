@@ -30,7 +30,7 @@ static void out(uint16_t port, uint8_t value)
 {
     uint32_t answer = vdp_out(state, sizeof state, vram, sizeof vram, port, value);
     if (vdp_refusal(answer) != VDP_OK) {
-        printf("FAIL  write of %02X to port %02X: refusal %u\n", value, port, vdp_refusal(answer));
+        printf("FAIL  write of %02X to port %02X: refusal %u, %s\n", value, port, vdp_refusal(answer), vdp_refusal_text(vdp_refusal(answer)));
         mistakes++;
     }
 }

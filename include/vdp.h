@@ -1,20 +1,26 @@
-/* vdp.h: the C face of libvdp, the video chip of the handheld.
+/* vdp.h: the C face of libvdp, the video chip of the handheld. For C99 and C++11, or later.
  *
- * The library keeps nothing of its own. The caller owns and lends
+ * The library keeps nothing of its own and asks nothing of a system. The caller owns and lends
  *   - the state block: 220 bytes, or 219 of the first version: the whole device but its video memory (layout below);
  *   - the video memory: exactly 16,384 bytes;
  *   - a frame, a row or a tile sheet that a call draws into; the layers of a row; the codes of a tile; a recording.
- * A lent buffer is a pointer and a length in bytes. The buffers of one call must not overlap, and each must be
- * readable (and writable, where it is not const) over its whole length. A buffer of length 0 may have any pointer.
+ * A lent buffer is a pointer and a length in bytes; no alignment is needed. The buffers of one call must not overlap, and each
+ * must be readable (and writable, where it is not const) over its whole length. A buffer of length 0 may have any pointer.
+ *
+ * A save is the state block and the video memory: keep both, and put both back. (docs/SAVES.md tells what stands in a block.)
+ * A reset is vdp_new, or vdp_new_table, on the same block. Neither touches the video memory: clear it, or leave it, as the
+ * machine does that you play. What the command bytes are is told in section 3 of docs/RULES.md; what the registers do, and how
+ * the video memory is laid out (map, tiles, sprites), in section 5; lines and interrupts are in section 4.
  *
  * Every call ends, for any bytes in any of them, and answers one 32-bit word (vdp_pixel, see there, one of 64 bits):
- *   bits 0 to 7    refusal (VDP_OK and so on, below)
+ *   bits 0 to 7    refusal (VDP_OK and so on, below; vdp_refusal_text has them in words)
  *   vdp_input:     bits 8 to 15   the byte that was read, 0 on a refusal
  *   the steps:     bit 8          interrupt
  *                  bits 9, 10     display report (VDP_NO_DISPLAY and so on)
  *                  bits 16 to 23  the number of the row that was drawn, 0 if none
  *                  bit 24         a row was drawn
- *   all other bits are 0. (vdp_repair and the calls on a recording, see there, have answers of their own.)
+ *   all other bits are 0, and of a refused call all bits but those of its refusal. (vdp_repair and the calls on a recording,
+ *   see there, have answers of their own.)
  *
  * How long an interrupt stays up: bit 8 is the answer of that one step, and nothing is kept of it.
  *   - A line interrupt (register 0, bit 4) is told by the step that finds the line count at 0, and not again: with
@@ -26,7 +32,13 @@
  *
  * Stack: no call recurses, and none needs more than VDP_STACK_NEED bytes.
  *
- * Calls on one block must not run at the same time; calls on different blocks may.
+ * Linking: the library calls memcpy and memset, and nothing else. A C library has them; on a bare machine, which has none, the
+ * archives for it (make native TARGET=aarch64-none and the like) bring their own.
+ *
+ * Threads: two calls may run at the same time where every buffer that they share is const in both. So calls on different blocks
+ * may run side by side, also over one video memory as long as each only reads it (the steps, vdp_input, vdp_pixel,
+ * vdp_dump_tileset and vdp_read_tile do), and on one block vdp_pixel and vdp_dump_tileset; a buffer that one of them may write
+ * is that call's alone, over its whole length.
  */
 #ifndef HUMUSLOFT_VDP_H
 #define HUMUSLOFT_VDP_H
@@ -48,7 +60,8 @@ extern "C" {
 /* Stack in bytes: the deepest that was measured (tests/stack.c) is about 2,100, on x86-64 and on Arm. */
 #define VDP_STACK_NEED 4096
 
-/* Sizes in bytes. A row and its layers may be longer (the bytes past their size never change); all others are exact. */
+/* Sizes in bytes. A row, its layers and the list of a repair may be longer (the bytes past their size never change), a
+ * recording has any length; all others are exact. */
 #define VDP_STATE_SIZE           220    /* a state block of the second version */
 #define VDP_OLD_STATE_SIZE       219    /* of the first, which holds a device of VDP_OLD_TABLE alone */
 #define VDP_VRAM_SIZE            16384
@@ -59,7 +72,7 @@ extern "C" {
 #define VDP_VISIBLE_LAYERS_SIZE  160    /* a byte for each pixel of a row */
 #define VDP_EFFECTIVE_LAYERS_SIZE 256
 #define VDP_TILESET_SIZE         131072 /* 128 x 256 pixels of 4 bytes: 512 tiles, 16 across */
-#define VDP_LIST_SIZE            220    /* the list of a repair, at least */
+#define VDP_LIST_SIZE            220    /* the list of a repair */
 #define VDP_TILE_CODES           64     /* the codes of a tile, 0 to 15, row by row */
 
 /* Sizes in pixels. A pixel is four bytes: red, green, blue, 255. */
@@ -153,11 +166,12 @@ extern "C" {
 #define VDP_AT_VERTICAL_SCROLL 25 /* as latched when the counter last became 0 */
 #define VDP_AT_DIRTY           26 /* flag: the cached colours are to be rebuilt before the next row */
 #define VDP_AT_PALETTE         27 /* 64 bytes, two a colour */
-#define VDP_AT_COLOURS         91 /* 128 bytes, 32 cached colours of red, green, blue, 255 */
+#define VDP_AT_COLOURS         91 /* 128 bytes, 32 cached colours of red, green, blue, 255; all zero until the first row is drawn */
 #define VDP_AT_TABLE           219 /* the line table; the second version alone has it */
 
 /* Makes the block a fresh device that goes by this table: VDP_OLD_TABLE into VDP_STATE_SIZE or VDP_OLD_STATE_SIZE bytes, VDP_CHART_TABLE into
- * VDP_STATE_SIZE. Refusal: 10 for anything else (what the block held does not matter). No other call changes a block's version or its table. */
+ * VDP_STATE_SIZE. Refusal: 10 for anything else (what the block held does not matter). No other call changes a block's version or its table. Video memory
+ * is not asked for, and stays as it is. */
 uint32_t vdp_new_table(uint8_t *state, size_t state_len, uint8_t table);
 
 /* The same with no table named: VDP_CHART_TABLE, and so VDP_STATE_SIZE bytes; 10 for any other length. */
@@ -170,7 +184,8 @@ uint32_t vdp_out(uint8_t *state, size_t state_len, uint8_t *vram, size_t vram_le
 uint32_t vdp_input(uint8_t *state, size_t state_len, const uint8_t *vram, size_t vram_len, uint16_t port);
 
 /* One step of the line counter, drawing the step's row, if it has one, at its place in the frame.
- * The frame has exactly its area's size. Refusals, in this order: 10, 11, 8, 9, 12. */
+ * The frame has exactly its area's size. Refusals, in this order: 10, 11, 8, 9, 12. Of this and of the three calls that follow: 9, 12 and 16 go by the
+ * lengths alone, and so come on lines that draw nothing, too; a refused step has moved nothing. */
 uint32_t vdp_step(uint8_t *state, size_t state_len, const uint8_t *vram, size_t vram_len, uint8_t *frame,
                   size_t frame_len, uint8_t area);
 
@@ -188,8 +203,9 @@ uint32_t vdp_layer_step(uint8_t *state, size_t state_len, const uint8_t *vram, s
 uint32_t vdp_layer_row_step(uint8_t *state, size_t state_len, const uint8_t *vram, size_t vram_len, uint8_t *row,
                             size_t row_len, uint8_t *layers, size_t layers_len, uint8_t area);
 
-/* Draws tiles 0 to 255 as background, then the same numbers as sprites, with the cached colours as they stand.
- * A sprite pixel of code 0 leaves the sheet's bytes. Refusals, in this order: 10, 8, 9. */
+/* Draws tiles 0 to 255 as background, then the same numbers as sprites, with the cached colours as they stand: those of the last row that was drawn. Of a
+ * fresh device they are zero, all four bytes, so that the fourth byte of a pixel is 0 there and not 255. A sprite pixel of code 0 leaves the sheet's bytes as
+ * they are, so the sheet is the caller's to fill first. Refusals, in this order: 10, 8, 9. */
 uint32_t vdp_dump_tileset(const uint8_t *state, size_t state_len, const uint8_t *vram, size_t vram_len,
                           uint8_t *pixels, size_t pixels_len);
 
@@ -212,7 +228,7 @@ uint32_t vdp_read_tile(const uint8_t *vram, size_t vram_len, uint16_t tile, uint
 /* Mends a damaged block of VDP_STATE_SIZE or VDP_OLD_STATE_SIZE bytes: the mark by its length; a table, flag or chosen memory out of range becomes 0;
  * a byte under an empty latch 0; an address outside its memory is reduced modulo its size; and colours that are claimed clean and do not match the palette
  * make it dirty. The changed offsets go to the start of the list in rising order, a byte each, and their number to bits 8 to 15 of the answer; the list's
- * other bytes stay. Every call accepts the result. Refusals, in this order: 10 (another length), 17. */
+ * other bytes stay, and it may be longer than VDP_LIST_SIZE. Every call accepts the result. Refusals, in this order: 10 (another length), 17. */
 uint32_t vdp_repair(uint8_t *block, size_t block_len, uint8_t *list, size_t list_len);
 
 /* Record what is asked of a device, so that the trace programs can run it again. A recording is the first `used` bytes of a buffer; the caller keeps that
@@ -254,6 +270,33 @@ static inline uint8_t vdp_record_port(uint32_t next) { return (uint8_t)(next >> 
 static inline uint8_t vdp_record_area(uint32_t next) { return (uint8_t)(next >> 8); }       /* of vdp_record_next */
 static inline uint8_t vdp_record_value(uint32_t next) { return (uint8_t)(next >> 16); }     /* of vdp_record_next */
 static inline size_t vdp_record_length(uint32_t next) { return next >> 24; }                /* of vdp_record_next */
+
+/* A refusal in words, for a message. */
+static inline const char *vdp_refusal_text(unsigned refusal)
+{
+    static const char *const text[] = {
+        "accepted",
+        "unknown port",
+        "the horizontal counter is not there",
+        "no such register",
+        "no memory chosen yet",
+        "the palette cannot be read",
+        "second half of a colour without the first",
+        "address outside the chosen memory",
+        "video memory of a wrong length",
+        "pixel buffer of a wrong length",
+        "malformed state block",
+        "unknown area",
+        "frame too long",
+        "no such tile",
+        "not the codes of one tile",
+        "a code above 15",
+        "layer buffer too short",
+        "list of a repair too short",
+        "no room for the record",
+    };
+    return refusal < sizeof text / sizeof text[0] ? text[refusal] : "unknown refusal";
+}
 
 #ifdef __cplusplus
 }

@@ -1,0 +1,40 @@
+#!/usr/bin/env bash
+# fuzz.sh: a short run of `make fuzz`: every call of vdp.h with hostile arguments, on the library for this machine and as it is shipped; that the program
+# speaks of every call of the header; and that it catches copies of the library with a slip in each.
+set -u
+cd "$(dirname "$0")/.."
+unset MAKEFLAGS MAKELEVEL
+. tools/cross.sh
+. tools/tell.sh
+if ! make --no-print-directory build; then
+    echo '0 passed, 1 failed'
+    exit 1
+fi
+out=build/test/fuzz
+rm -rf $out
+mkdir -p $out
+flags="-std=gnu99 -Wall -Wextra -pedantic -Werror -O2 -Iinclude"
+
+make --no-print-directory fuzz CALLS="${CALLS:-300000}" SEED="${SEED:-1}"
+tell "make fuzz, on the library for this machine" $?
+$CC_X86 $flags tests/fuzz.c build/libvdp.a -o $out/shipped && $RUN $out/shipped "$((${CALLS:-300000} / 10))" "${SEED:-1}"
+tell "the same on the library as it is shipped" $?
+diff <(sed -nE 's/^uint(32|64)_t (vdp_[a-z_]+)\(.*/\2/p' include/vdp.h | sort) <(build/fuzz --calls | sort)
+tell "it makes every call of the header" $?
+
+# caught NAME FUNCTION EDIT LINE: a copy of the library with this edit (sed) of one line of a function is stopped at, with such a line.
+caught() {
+    local changed
+    sed -E "/^define .*@\"$2\"\\(/,/^}/$3" build/native/vdp.ll >$out/slip.ll
+    changed=$(diff build/native/vdp.ll $out/slip.ll | grep -c '^>')
+    sh tools/native-module.sh $out/slip.ll $out/slip.o && cc $flags tests/fuzz.c $out/slip.o -o $out/slip && ! $out/slip 100000 1 >$out/said &&
+        [ "$changed" -eq 1 ] && grep -qE "$4" $out/said
+    status=$?
+    [ $status -eq 0 ] || { echo "$changed lines changed"; cat $out/said; }
+    tell "caught: $1" $status
+}
+caught "159 bytes are enough for the layers of a visible row" step::column_count 's/store i64 160,/store i64 159,/' '^fuzz: call [0-9]+, vdp_layer_.*step: (touches memory|answers refusal 0 where 16 is due)'
+caught "the counter jumps a line late" raster::jump_line 's/store i8 -37,/store i8 -36,/' '^fuzz: call [0-9]+, .*step: sets another line'
+caught "a block of the first version has table 1" block::table_byte 's/store i8 0,/store i8 1,/' '^fuzz: call [0-9]+, '
+
+total
