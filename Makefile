@@ -10,55 +10,63 @@ PREFIX ?= /usr/local
 PROGRAMS := trace snapshot layers trace_261 snapshot_261 home_trace home_snapshot sheet repair
 # A program's file has a hyphen where its crate has a line.
 BINS := $(addprefix build/bin/,$(subst _,-,$(PROGRAMS)))
-# The library that a C program for this very machine links.
-LIBRARY := $(if $(filter x86_64,$(shell uname -m)),build/libvdp.a,build/native/libvdp.a)
+NATIVE := build/native/libvdp.a build/native/libvdp.so
+# What compiles a module for a machine.
+COMPILE := tools/native-module.sh tools/target.sh tools/toolchain.sh
 
-.PHONY: all build desk native install cartridge test compare memcheck damaged bench bus gears setup setup-rust setup-bus setup-cartridge prove clean help FORCE
+.PHONY: all build desk native install cartridge test compare memcheck damaged bench bus fuzz gears setup setup-rust setup-bus setup-c setup-cartridge prove clean help FORCE
 
-all: build ## build build/libvdp.a and the programs in build/bin, and show the trace program at work
-	@echo "build/libvdp.a (header include/vdp.h) and $(BINS) are built."
-	@echo "The trace of crates/trace/stdin (docs/TRACES.md says what its lines mean):"
-	@sh tools/cross.sh run build/bin/trace crates/trace/stdin
+all: build ## build the programs in build/bin and the libraries for this machine and for x86-64, and show what to try
+	@sh tools/built.sh
 
-build: $(BINS) build/libvdp.a build/bin/desk ## prove and build them, and no more
+build: $(BINS) build/libvdp.a $(NATIVE) build/bin/desk ## prove and build them, and no more
 
-desk: native build/bin/desk ## the authors' desk, build/bin/desk, with the library that it goes by (docs/DESK.md)
-	@true
+desk: $(NATIVE) build/bin/desk ## the authors' desk, build/bin/desk, with the library that it goes by (docs/DESK.md)
+	@echo "build/bin/desk is the authors' desk, over build/native/libvdp.so: docs/DESK.md tells of it, and build/bin/desk --help"
 
 build/bin/desk: desk/desk | setup
 	@mkdir -p build/bin
 	@cp desk/desk $@
 
-# A file is made again where a source of it, or the toolchain, has changed.
-$(BINS): $(shell sh tools/sources.sh $(PROGRAMS)) build/toolchain | setup
-	@rt check $(PROGRAMS)
-	@mkdir -p build/bin
-	@$(foreach name,$(PROGRAMS),cp target/bin/$(name) build/bin/$(subst _,-,$(name)) &&) true
+# A file is made again where a source of it, or the toolchain, has changed. All programs are proved by one run of rt, which leaves their LLVM modules
+# (tools/modules.sh); one whose module stays as it was is not compiled again.
+build/modules/programs: $(shell sh tools/sources.sh $(PROGRAMS)) build/toolchain tools/modules.sh | setup
+	@OF="$(PROGRAMS) face" bash tools/prove.sh programs $(PROGRAMS)
+	@touch $@
 
-# What the library depends on, side by side; rt staticlib proves the library itself.
-build/libvdp.a: $(shell sh tools/sources.sh face) build/toolchain | setup
-	@rt check $$(sed -n 's/^face://p' crates.txt)
-	@rt staticlib face
-	@cp target/staticlib/libface.a $@
+$(PROGRAMS:%=build/modules/%.ll): build/modules/programs
+	@:
+
+define program
+build/bin/$(subst _,-,$(1)): build/modules/$(1).ll tools/native-program.sh tools/program.c $(COMPILE)
+	@sh tools/native-program.sh $$< $$@
+	@echo "$$@ compiled for this machine"
+endef
+$(foreach name,$(PROGRAMS),$(eval $(call program,$(name))))
+
+build/modules/face.ll build/libvdp.a &: $(shell sh tools/sources.sh face) build/toolchain tools/modules.sh | setup
+	@OF="$(PROGRAMS) face" bash tools/prove.sh library face
+	@cp target/staticlib/libface.a build/libvdp.a
 
 build/toolchain: FORCE | setup
 	@rt version | cmp -s - $@ || rt version > $@
 
-native: build/native/libvdp.a build/native/libvdp.so ## the library for this very machine: build/native/libvdp.a and libvdp.so
+native: $(if $(TARGET),build/cross/$(TARGET)/libvdp.a,$(NATIVE)) ## the library for this machine, build/native/libvdp.a and libvdp.so; TARGET= for another: aarch64, x86_64, riscv64 or armv7, as it is for Linux, with -none for bare metal
 
-build/native/vdp.o: build/libvdp.a tools/native-lib.sh tools/native-module.sh
-	@mkdir -p build/native
-	@sh tools/native-lib.sh face $@
+$(NATIVE) &: build/modules/face.ll include/vdp.h tools/native-lib.sh $(COMPILE)
+	@sh tools/native-lib.sh $< build/native
+	@echo "build/native/libvdp.a and libvdp.so compiled for this machine"
 
-build/native/libvdp.a build/native/libvdp.so: build/native/vdp.o include/vdp.h tools/native-link.sh
-	@sh tools/native-link.sh
+build/cross/%/libvdp.a: build/modules/face.ll include/vdp.h tools/native-lib.sh tools/calls.awk tools/memory.c $(COMPILE)
+	@TARGET=$* sh tools/native-lib.sh $< build/cross/$*
+	@echo "build/cross/$*/libvdp.a compiled for $*"
 
-install: ## put header, libraries and a pkg-config file of `make native` under PREFIX=/usr/local
-	@if command -v rt > /dev/null || [ ! -e build/native/libvdp.so ]; then $(MAKE) --no-print-directory native; fi
+install: ## put the library with its header, the programs, the desk and their pages under PREFIX=/usr/local
+	@if command -v rt > /dev/null || [ ! -e build/native/libvdp.so ]; then $(MAKE) --no-print-directory build; fi
 	@sh tools/install.sh "$(DESTDIR)$(PREFIX)"
 
-cartridge: setup-cartridge $(LIBRARY) ## build/cartridge: a player of cartridges, of the library and a Z80 core, and three cartridges (examples/cartridge)
-	@sh examples/cartridge/build.sh $(LIBRARY)
+cartridge: setup-cartridge build/native/libvdp.a ## build/cartridge: a player of cartridges, of the library and a Z80 core, and three cartridges (examples/cartridge)
+	@sh examples/cartridge/build.sh build/native/libvdp.a
 
 test: ## all the set-up, every proof and every test; the last line is their sum
 	@bash tests/run.sh
@@ -81,17 +89,24 @@ bench: gears setup-rust build ## time passes of 261 steps, ours and the publishe
 bus: gears setup-bus native ## count the bytes of video memory that a pass loads, ours and the published Rust's, and the least: SEED=1
 	@sh bench/bus.sh $(SEED)
 
+fuzz: setup-c $(NATIVE) ## every call with hostile arguments, each buffer beside memory that may not be touched: CALLS=1000000 SEED=1
+	@cc -std=gnu99 -O2 -Iinclude tests/fuzz.c build/native/libvdp.a -o build/fuzz
+	@build/fuzz $(CALLS) $(SEED)
+
 gears: # the published Rust is there
 	@sh tools/gears.sh
 
 prove: setup ## prove every crate that has changed
-	@rt check
+	@bash tools/prove.sh all
 
 setup: ## install what this machine lacks to build (nothing where all is there)
 	@sh tools/setup.sh
 
 setup-rust: # what this machine lacks to test, to compare and to measure
 	@sh tools/setup.sh rust
+
+setup-c: # a C compiler
+	@sh tools/setup.sh c
 
 setup-bus: # and to count turns of the bus
 	@sh tools/setup.sh bus

@@ -1,7 +1,8 @@
 //! Holds the programs `home-trace` and `home-snapshot` beside the home machine's rules written a second time (home.rs); needs neither the library nor
 //! the published Rust.
 //!
-//!   homes trace N SEED PROGRAM      runs PROGRAM on the fixed traces, on one for each vertical scroll and on N random ones, and compares all that it writes
+//!   homes trace N SEED PROGRAM      runs PROGRAM on the fixed traces, on one for each vertical scroll and on N random ones, and compares all that it writes, and its
+//!                                   exit status
 //!   homes snapshot N SEED PROGRAM   the same for the picture
 //!   homes text < TRACE              the text that the second writing gives for one trace
 //!   homes picture < TRACE           the picture
@@ -11,7 +12,7 @@
 
 use rules::home::{snapshot_bytes, trace_text, Met};
 use rules::random::Random;
-use rules::recording::LIMIT;
+use rules::recording::{status_due, LIMIT};
 use std::fs::{self, File};
 use std::io::{Read, Write};
 use std::path::Path;
@@ -326,14 +327,14 @@ fn fixed() -> Vec<Vec<u8>> {
     all
 }
 
-/// Runs the program on the trace that this file holds; answers what it wrote and whether it ended well.
-fn run(program: &str, input: &Path) -> (Vec<u8>, bool) {
+/// Runs the program on the trace that this file holds; answers what it wrote and its exit status.
+fn run(program: &str, input: &Path) -> (Vec<u8>, Option<i32>) {
     let run = std::env::var("RUN").unwrap_or_default();
     let mut words: Vec<&str> = run.split_whitespace().collect();
     words.push(program);
     let stdin = File::open(input).expect("the trace opens");
     match Command::new(words[0]).args(&words[1..]).stdin(stdin).stderr(Stdio::inherit()).output() {
-        Ok(output) => (output.stdout, output.status.success()),
+        Ok(output) => (output.stdout, output.status.code()),
         Err(error) => {
             eprintln!("homes: cannot run {}: {}", words.join(" "), error);
             std::process::exit(2);
@@ -356,14 +357,15 @@ fn compare(what: &str, expected: Expected, count: usize, seed: u64, program: &st
     for (n, trace) in traces.iter().enumerate() {
         let wanted = expected(trace, &mut met);
         fs::write(&file, trace).expect("the trace is written");
-        let (wrote, good) = run(program, &file);
+        let (wrote, status) = run(program, &file);
+        let good = status == Some(status_due(&wanted));
         if !good || wrote != wanted {
             differences += 1;
             let kept = std::env::temp_dir().join(format!("home-differs-{}-{}-{}", what, seed, n));
             fs::write(&kept, trace).expect("the trace is kept");
             let at = wrote.iter().zip(&wanted).take_while(|(a, b)| a == b).count();
             println!("homes: {} {} of {} bytes differs; kept as {}", what, n, trace.len(), kept.display());
-            println!("  wrote {} bytes, expected {}; the same up to byte {}{}", wrote.len(), wanted.len(), at, if good { "" } else { "; it did not end with status 0" });
+            println!("  wrote {} bytes, expected {}; the same up to byte {}{}", wrote.len(), wanted.len(), at, if good { String::new() } else { format!("; it ended with status {:?}", status) });
             if what == "snapshot" && wanted.starts_with(b"P6") && at >= 15 {
                 println!("  row {}, column {}", (at - 15) / 3 / 256, (at - 15) / 3 % 256);
             }
@@ -382,11 +384,13 @@ fn compare(what: &str, expected: Expected, count: usize, seed: u64, program: &st
     differences == 0 && missing.is_empty()
 }
 
+/// Prints what is expected of the trace at standard input, and ends as the programs do.
 fn print(expected: Expected) -> bool {
     let mut input = Vec::new();
     std::io::stdin().read_to_end(&mut input).expect("the trace is read");
-    std::io::stdout().write_all(&expected(&input, &mut Met::nothing())).expect("the answer is written");
-    true
+    let wanted = expected(&input, &mut Met::nothing());
+    std::io::stdout().write_all(&wanted).expect("the answer is written");
+    status_due(&wanted) == 0
 }
 
 fn usage() -> ! {

@@ -5,6 +5,12 @@ use crate::model::{Area, Device, Notes, Stepped, Table, VIDEO_SIZE};
 /// The longest input that the programs read.
 pub const LIMIT: usize = 65_535;
 
+/// The exit status that goes with what a program writes: 1 where the last line says bad or long. (No byte of a picture is an end of line.)
+pub fn status_due(written: &[u8]) -> i32 {
+    let last = written.split(|byte| *byte == b'\n').rev().nth(1).unwrap_or(b"");
+    (last.starts_with(b"bad") || last.starts_with(b"long")) as i32
+}
+
 /// One record of an input.
 pub enum Record {
     Write { port: u8, value: u8 },

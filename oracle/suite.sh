@@ -6,7 +6,6 @@ set -u
 cd "$(dirname "$0")/.."
 . tools/cross.sh
 . tools/gears.sh
-export RUN
 out=build/outside
 mkdir -p $out
 . tools/tell.sh

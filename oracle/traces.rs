@@ -1,6 +1,6 @@
 //! Holds the programs `trace`, `snapshot` and `layers` beside the model; needs neither the library nor the published Rust.
 //!
-//!   traces trace N SEED PROGRAM      runs PROGRAM on the fixed traces and on N random ones, and compares all that it writes
+//!   traces trace N SEED PROGRAM      runs PROGRAM on the fixed traces and on N random ones, and compares all that it writes, and its exit status
 //!   traces snapshot N SEED PROGRAM   the same for the picture
 //!   traces layers N SEED PROGRAM     the same for the picture of the layers
 //!   traces write N SEED FOLDER       writes the traces with the text and the picture that the model gives
@@ -14,7 +14,7 @@
 use rules::call::Kind;
 use rules::model::{self, Table};
 use rules::random::Random;
-use rules::recording::{layers_bytes, snapshot_bytes, trace_text, Record, LIMIT};
+use rules::recording::{layers_bytes, snapshot_bytes, status_due, trace_text, Record, LIMIT};
 use rules::sessions::Session;
 use std::fs::{self, File};
 use std::io::{Read, Write};
@@ -206,15 +206,15 @@ fn any(random: &mut Random, table: Table) -> Vec<u8> {
     trace
 }
 
-/// Runs the program on the trace that this file holds; answers what it wrote and whether it ended well.
-fn run(program: &str, input: &Path) -> (Vec<u8>, bool) {
+/// Runs the program on the trace that this file holds; answers what it wrote and its exit status.
+fn run(program: &str, input: &Path) -> (Vec<u8>, Option<i32>) {
     let run = std::env::var("RUN").unwrap_or_default();
     let mut words: Vec<&str> = run.split_whitespace().collect();
     words.push(program);
     let stdin = File::open(input).expect("the trace opens");
     let done = Command::new(words[0]).args(&words[1..]).stdin(stdin).stderr(Stdio::inherit()).output();
     match done {
-        Ok(output) => (output.stdout, output.status.success()),
+        Ok(output) => (output.stdout, output.status.code()),
         Err(error) => {
             eprintln!("traces: cannot run {}: {}", words.join(" "), error);
             std::process::exit(2);
@@ -241,14 +241,15 @@ fn compare(what: &str, expected: Expected, table: Table, count: usize, seed: u64
         let last = text.split(|byte| *byte == b'\n').rev().nth(1).unwrap_or(b"");
         lines[[b"end", b"bad", b"lon"].iter().position(|word| last.starts_with(&word[..])).expect("a last line")] += 1;
         fs::write(&file, &trace).expect("the trace is written");
-        let (wrote, good) = run(program, &file);
+        let (wrote, status) = run(program, &file);
+        let good = status == Some(status_due(&wanted));
         if !good || wrote != wanted {
             differences += 1;
             let kept = std::env::temp_dir().join(format!("differs-{}-{}-{}", what, seed, n));
             fs::write(&kept, &trace).expect("the trace is kept");
             println!("traces: {} {} of {} bytes differs; kept as {}", what, n, trace.len(), kept.display());
             if !good {
-                println!("  the program did not end with status 0");
+                println!("  the program ended with status {:?}", status);
             }
             let at = wrote.iter().zip(&wanted).take_while(|(a, b)| a == b).count();
             println!("  wrote {} bytes, expected {}; the same up to byte {}", wrote.len(), wanted.len(), at);

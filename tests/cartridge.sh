@@ -50,9 +50,9 @@ replayed() {
         $player --table $table --frames "$2" --picture "$name.ppm" --record "$name.trace" --answers "$name.text" build/cartridge/$1.gg >"$name.said" 2>&1 &&
             grep -q "^$2 frames: $(($2 * (261 + table))) steps, [1-9][0-9]* port calls, 0 refused\$" "$name.said" && [ "$(wc -l <"$name.said")" -eq 1 ]
         tell "$1, table $table: $2 frames are played, and no call is refused" $?
-        $RUN build/bin/trace$twin "$name.trace" | cmp "$name.text" - && tail -n 1 "$name.text" | grep -q '^end [1-9]'
+        build/bin/trace$twin "$name.trace" | cmp "$name.text" - && tail -n 1 "$name.text" | grep -q '^end [1-9]'
         tell "$1, table $table: trace$twin gives the answers that the player got" $?
-        $RUN build/bin/snapshot$twin "$name.trace" | cmp "$name.ppm" -
+        build/bin/snapshot$twin "$name.trace" | cmp "$name.ppm" -
         tell "$1, table $table: snapshot$twin draws the player's picture" $?
     done
 }
@@ -62,7 +62,7 @@ tell "question: the player's line is that of examples/cartridge/README.md" $?
 replayed split 24
 replayed sprites 40
 tail -c +5 $work/split.trace >$work/less.trace
-! $RUN build/bin/trace $work/less.trace | cmp -s $work/split.text -
+! build/bin/trace $work/less.trace | cmp -s $work/split.text -
 tell "a recording that lacks its first record gives other answers" $?
 
 # The author's question: changed at 90, row 67 is the first of the new colour.
@@ -70,7 +70,7 @@ for table in question question-261; do
     cmp <(split_at 90) <(rows $work/$table.ppm)
     tell "$table: colour 3 changes at row 67" $?
 done
-$RUN build/bin/snapshot tests/traces/split90.trace | cmp $work/question.ppm -
+build/bin/snapshot tests/traces/split90.trace | cmp $work/question.ppm -
 tell "question: the picture is that of tests/traces/split90.trace" $?
 for line in 10 24 25 89 91 166 167; do
     sed "s/^change: equ 90\$/change: equ $line/" examples/cartridge/question.asm >$work/other.asm
@@ -97,7 +97,7 @@ for n in 0 1 2 3 4 5 6 7; do [ "$(pixel $work/sprites.ppm $((8 + 16 * n + 3)) 43
 tell "sprites: eight glow-worms on a line" $status
 [ "$(pixel $work/sprites.ppm 139 43)" = 224488 ]
 tell "sprites: the ninth is not shown" $?
-$RUN build/bin/layers $work/sprites.trace >$work/layers.ppm && [ "$(pixel $work/layers.ppm $((8 + 16 * 7 + 3)) 43)" = 1ce380 ] && [ "$(pixel $work/layers.ppm 139 43)" = 202020 ]
+build/bin/layers $work/sprites.trace >$work/layers.ppm && [ "$(pixel $work/layers.ppm $((8 + 16 * 7 + 3)) 43)" = 1ce380 ] && [ "$(pixel $work/layers.ppm 139 43)" = 202020 ]
 tell "sprites: by layers, the eighth is sprite 7, and where the ninth would be is background" $?
 rows $work/layers.ppm | sed -n 105,112p | grep -q ff00ff && [ "$(rows $work/layers.ppm | grep -c ff00ff)" -gt 0 ] && [ "$(rows $work/layers.ppm | head -n 104 | grep -c ff00ff)" = 0 ]
 tell "sprites: the grass holds the worm back, and nothing else is held back" $?
@@ -135,10 +135,10 @@ bytes=$(($(wc -c <$work/full.trace)))
 [ "$status" -eq 0 ] && [ "$(wc -l <$work/err)" -eq 1 ] && [ "$bytes" -gt 65531 ] &&
     grep -q "^play: the recording is full (refusal 18): it has $records records, $bytes bytes, and ends in frame [1-9][0-9]*; the rest is played and not recorded\$" $work/err
 tell "a recording that is full is told, with its records and bytes" $?
-$RUN build/bin/trace $work/full.trace | cmp $work/full.text - && cmp $work/full.ppm $work/long.ppm
+build/bin/trace $work/full.trace | cmp $work/full.text - && cmp $work/full.ppm $work/long.ppm
 tell "it runs to its end, and the player played on" $?
 $player --frames 2 --answers $work/alone.text build/cartridge/split.gg >/dev/null && $player --frames 2 --record $work/alone.trace build/cartridge/split.gg >/dev/null &&
-    $RUN build/bin/trace $work/alone.trace | cmp $work/alone.text -
+    build/bin/trace $work/alone.trace | cmp $work/alone.text -
 tell "answers and recording can be had one by one" $?
 
 # The ports' other numbers: a cartridge that uses these asks the same.

@@ -76,8 +76,8 @@ python3 tests/desk/random_traces.py 4 "${SEED:-1}" "$work/random"
 texts= frames=
 for trace in tests/traces/*.trace; do texts="$texts $trace ${trace%.trace}.text"; done
 for trace in build/test/desk/random/*.trace; do
-    $RUN build/bin/trace "$trace" >"${trace%.trace}.text"
-    $RUN build/bin/snapshot "$trace" >"${trace%.trace}.ppm"
+    build/bin/trace "$trace" >"${trace%.trace}.text"
+    build/bin/snapshot "$trace" >"${trace%.trace}.ppm"
     texts="$texts $trace ${trace%.trace}.text" frames="$frames $trace ${trace%.trace}.ppm"
 done
 try 'listings, word for word' python3 tests/desk/listed.py
@@ -90,7 +90,7 @@ tell 'a listing by the command makes its trace again' $?
 status=0
 for end in 'XX\000\000LS\000' 'LS\377LS\000' 'PW\277' 'P'; do
     printf "PR~$end" >"$work/damaged"
-    at=$($RUN build/bin/trace "$work/damaged" | sed -n 's/^bad //p')
+    at=$(build/bin/trace "$work/damaged" | sed -n 's/^bad //p')
     "$desk" list "$work/damaged" >"$work/out" 2>"$work/err"
     [ $? -eq 1 ] && [ "$(wc -l <"$work/out")" -eq 2 ] && [ "$(wc -l <"$work/err")" -eq 1 ] && grep -q "^desk: $work/damaged: byte $at, record 2: " "$work/err" || status=1
 done
@@ -110,13 +110,13 @@ done
 run show build/test/desk/random/random-0.trace --layers --check -o "$work/shown.png"
 [ "$status" -eq 0 ] && grep -qx 'checked: `layers` draws the same' "$work/out"
 tell 'and by layers that of layers' $?
-$RUN build/bin/snapshot tests/traces/split90.trace | python3 tools/ppm2png.py 2 >"$work/program.png"
+build/bin/snapshot tests/traces/split90.trace | python3 tools/ppm2png.py 2 >"$work/program.png"
 "$desk" show tests/traces/split90.trace --scale 2 -o "$work/shown.png" >/dev/null && cmp "$work/program.png" "$work/shown.png"
 tell 'split90: the file of snapshot and ppm2png.py' $?
-$RUN build/bin/layers tests/traces/layers.trace | python3 tools/ppm2png.py 2 >"$work/program.png"
+build/bin/layers tests/traces/layers.trace | python3 tools/ppm2png.py 2 >"$work/program.png"
 "$desk" show tests/traces/layers.trace --layers --scale 2 -o "$work/shown.png" >/dev/null && cmp "$work/program.png" "$work/shown.png" && python3 tests/desk/same.py "$work/shown.png" docs/layers.png
 tell 'layers: that of layers, and of docs/layers.png' $?
-$RUN build/bin/snapshot-261 tests/traces/late.trace | python3 tools/ppm2png.py >"$work/program.png"
+build/bin/snapshot-261 tests/traces/late.trace | python3 tools/ppm2png.py >"$work/program.png"
 "$desk" show tests/traces/late.trace --table 0 --frame 2 -o "$work/shown.png" >/dev/null && cmp "$work/program.png" "$work/shown.png"
 tell 'table 0: that of snapshot-261' $?
 for both in split-new:split90.png layers:layers-picture.png; do
@@ -233,7 +233,7 @@ cat docs/scripts/home-scene.desk docs/scripts/home-fill.desk >"$work/fill.desk"
 "$desk" make "$work/fill.desk" -o "$work/fill.trace" >/dev/null
 for frame in 1 2; do
     # behind the first pass stand 192 steps and a read
-    head -c "$(($(wc -c <"$work/fill.trace") - (2 - frame) * 579))" "$work/fill.trace" | $RUN build/bin/home-snapshot | python3 tools/ppm2png.py 2 >"$work/program.png"
+    head -c "$(($(wc -c <"$work/fill.trace") - (2 - frame) * 579))" "$work/fill.trace" | build/bin/home-snapshot | python3 tools/ppm2png.py 2 >"$work/program.png"
     run show "$work/fill.trace" --home --frame $frame --scale 2 -o "$work/shown.png"
     [ "$status" -eq 0 ] && [ ! -s "$work/err" ] && [ "$(cat "$work/out")" = "$work/shown.png: frame $frame of 2, 256 x 192, scale 2, on the home machine" ] && cmp "$work/program.png" "$work/shown.png"
     tell "show --home: frame $frame is the file of home-snapshot and ppm2png.py" $?
@@ -265,7 +265,7 @@ says 'show --home --table 0' 1 "desk show: --home and --table 0 $alone: the prog
 says 'list --home --table 0' 1 "desk list: --home and --table 0 $alone: the programs of the home machine go by table 1 alone" list "$work/fill.trace" --home --table 0
 says 'make --table 0 of a script for the home machine' 1 "$work/fill.desk:3:1: the programs of the home machine go by table 1 alone" make "$work/fill.desk" --table 0 -o "$work/none"
 says 'show --home: a step of another area, by its offset' 1 "desk: tests/traces/areas.trace: byte 3, record 2: a step of area 1, and the home machine's steps are of area 0" show tests/traces/areas.trace --home -o "$work/none"
-[ "$($RUN build/bin/home-trace tests/traces/areas.trace | tail -n 1)" = 'bad 3' ]
+[ "$(build/bin/home-trace tests/traces/areas.trace | tail -n 1)" = 'bad 3' ]
 tell 'as home-trace tells it' $?
 says 'show --home: a frame that is not there' 1 "desk: $work/fill.trace: frame 3, and there are 2 frames" show "$work/fill.trace" --home --frame 3 -o "$work/none"
 says 'show --home: a trace that is too long for the program' 1 'desk: the trace has 96,984 bytes, and `home-snapshot` takes at most 65,535' show "$work/long.trace" --home -o "$work/none"
@@ -284,7 +284,7 @@ python3 tests/desk/random_traces.py 2 "${SEED:-1}" "$work/home" home
 cp "$work/fill.trace" tests/traces/refusals.trace tests/traces/interrupts.trace "$work/home/"
 texts=
 for trace in build/test/desk/home/*.trace; do
-    $RUN build/bin/home-trace "$trace" >"${trace%.trace}.text"
+    build/bin/home-trace "$trace" >"${trace%.trace}.text"
     texts="$texts $trace ${trace%.trace}.text"
 done
 try 'list --home: listings make their traces again, and say of each record what home-trace prints' python3 tests/desk/round.py --home $texts

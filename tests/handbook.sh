@@ -18,7 +18,7 @@ tell 'the sections are those of refusals 1 to 6, and why there is no 7' $?
 for n in 1 2 3 4 5 6 7; do
     printf "$(sed 's/ *\([0-9A-F][0-9A-F]\)/\\x\1/g' $work/$n.hex | tr -d '\n')" > $work/$n.trace
     for program in trace trace-261; do
-        [ -s $work/$n.trace ] && $RUN build/bin/$program $work/$n.trace | cmp $work/$n.text -
+        [ -s $work/$n.trace ] && build/bin/$program $work/$n.trace | cmp $work/$n.text -
         tell "section $n, $program: every line is as the handbook has it" $?
     done
 done

@@ -7,12 +7,12 @@ page=docs/HOME.md
 
 # What the handheld prints where neither palette, picture nor status is asked for; and refusal 6, which does not come here.
 for name in example empty p1 p2 p3 p6 p7 p12; do
-    $RUN build/bin/home-trace tests/traces/$name.trace | cmp tests/traces/$name.text -
+    build/bin/home-trace tests/traces/$name.trace | cmp tests/traces/$name.text -
     tell "home-trace $name: as trace prints it" $?
 done
 for name in p5 refusals; do
     sed 's/^w 6$/w 0/' tests/traces/$name.text >$work/expected
-    ! cmp -s $work/expected tests/traces/$name.text && $RUN build/bin/home-trace tests/traces/$name.trace | cmp $work/expected -
+    ! cmp -s $work/expected tests/traces/$name.text && build/bin/home-trace tests/traces/$name.trace | cmp $work/expected -
     tell "home-trace $name: accepted where the handheld has refusal 6" $?
 done
 
@@ -21,7 +21,7 @@ bad() {
     printf "$1$3" >$work/damaged
     printf 'bad %s\n' "$(printf "$1" | wc -c | tr -d ' ')" >$work/line
     { printf "$2"; cat $work/line; } >$work/expected
-    $RUN build/bin/home-trace <$work/damaged | cmp $work/expected - && $RUN build/bin/home-snapshot <$work/damaged | cmp $work/line -
+    build/bin/home-trace <$work/damaged | cmp $work/expected - && build/bin/home-snapshot <$work/damaged | cmp $work/line -
 }
 damaged() {
     bad '' '' "$2" && bad 'PR~' 'r 0 00\n' "$2" && bad 'PW\277\000LS\000' 'w 0\ns 0 01 0 0\n' "$2"
@@ -37,16 +37,16 @@ damaged 'a write cut behind its port' 'PW\277'
 
 # At the limit, and past it.
 yes 'LS0' | tr -d '\n' | tr 0 '\000' | head -c 65535 >$work/steps
-[ "$($RUN build/bin/home-trace <$work/steps | tail -n 1)" = 'end 21845' ] && [ "$($RUN build/bin/home-snapshot <$work/steps | wc -c)" -eq 147471 ]
+[ "$(build/bin/home-trace <$work/steps | tail -n 1)" = 'end 21845' ] && [ "$(build/bin/home-snapshot <$work/steps | wc -c)" -eq 147471 ]
 tell '65,535 bytes: 21,845 steps' $?
 { cat $work/steps; printf 'P'; } >$work/longer
 printf 'long\n' >$work/expected
-$RUN build/bin/home-trace <$work/longer | cmp $work/expected - && $RUN build/bin/home-snapshot <$work/longer | cmp $work/expected -
+build/bin/home-trace <$work/longer | cmp $work/expected - && build/bin/home-snapshot <$work/longer | cmp $work/expected -
 tell '65,536 bytes' $?
 
 # Pictures. Nothing drawn: zeros.
 { printf 'P6\n256 192\n255\n'; head -c 147456 /dev/zero; } >$work/expected
-$RUN build/bin/home-snapshot </dev/null | cmp $work/expected -
+build/bin/home-snapshot </dev/null | cmp $work/expected -
 tell 'no input: a black picture of 256 x 192' $?
 # shows NAME Y X COUNT COLOUR: COUNT pixels from column X of row Y on have this colour.
 shows() {
@@ -58,7 +58,7 @@ colours=$(sed -nE 's/^\| ([0-9A-F]{2}) \| ([0-9]+), ([0-9]+), ([0-9]+) \|.*/\1 \
 status=0
 while read -r byte red green blue; do
     for address in 000 040; do
-        printf "PW\\277\\${address}PW\\277\\300PW\\276\\x${byte}LS\\000" | $RUN build/bin/home-snapshot >$work/colour.ppm
+        printf "PW\\277\\${address}PW\\277\\300PW\\276\\x${byte}LS\\000" | build/bin/home-snapshot >$work/colour.ppm
         shows colour 1 0 256 "$(printf '%02x%02x%02x' "$red" "$green" "$blue")" && shows colour 0 0 256 000000 || status=1
     done
 done <<<"$colours"
@@ -68,7 +68,7 @@ tell "the colours of $page, by an address and by 32 more" $?
 # The program and the lines that the page shows.
 shown=$(sed -n "s/^\(printf '.*'\) | build\/bin\/home-trace\$/\1/p" $page)
 sed -n '/home-trace$/,/^end /p' $page | sed -n '/^[wrse]/p' >$work/expected
-sh -c "$shown" | $RUN build/bin/home-trace | cmp $work/expected -
+sh -c "$shown" | build/bin/home-trace | cmp $work/expected -
 tell 'the trace that the page shows with printf' $?
 
 if ! command -v python3 >/dev/null; then
@@ -79,7 +79,7 @@ fi
 
 # made NAME SCRIPT: the trace and the picture of a script behind the scene.
 made() {
-    cat docs/scripts/home-scene.desk "$2" | build/bin/desk make - -o $work/$1.trace >/dev/null && $RUN build/bin/home-snapshot $work/$1.trace >$work/$1.ppm
+    cat docs/scripts/home-scene.desk "$2" | build/bin/desk make - -o $work/$1.trace >/dev/null && build/bin/home-snapshot $work/$1.trace >$work/$1.ppm
 }
 for name in bar panel fill; do
     made $name docs/scripts/home-$name.desk && python3 tools/ppm2png.py 2 <$work/$name.ppm | cmp docs/home-$name.png -
@@ -93,7 +93,7 @@ tell 'columns 192 and up stand, and column 191 goes up' $?
 # the first row, the last one, that of the discs under it, and column 8 behind it
 shows fill 0 0 8 555555 && shows fill 191 0 8 555555 && shows fill 63 0 8 555555 && shows fill 63 8 2 ffff00 && shows fill 65 8 2 ffff00 && shows fill 67 0 8 555555 && shows fill 67 8 1 005500
 tell 'columns 0 to 7 are filled over background and sprites, and column 8 is not' $?
-[ "$($RUN build/bin/home-trace $work/fill.trace | grep '^r ' | tr '\n' ' ')" = 'r 0 A0 r 0 20 ' ]
+[ "$(build/bin/home-trace $work/fill.trace | grep '^r ' | tr '\n' ' ')" = 'r 0 A0 r 0 20 ' ]
 tell 'the discs meet under the fill' $?
 shows bar 104 252 4 ffff00 && shows bar 104 0 8 005500
 tell 'a sprite at column 252 is cut by the right edge, and does not come in on the left' $?
@@ -105,7 +105,7 @@ tell 'both locks at once' $?
 # Tiles of priority under the fill hold both discs back, so that nothing meets.
 { printf 'map 29 7 = 8 priority times 2\nmap 29 8 = 8 priority times 2\n'; cat docs/scripts/home-fill.desk; } >$work/held.desk
 made held $work/held.desk
-[ "$($RUN build/bin/home-trace $work/held.trace | grep '^r ' | tr '\n' ' ')" = 'r 0 80 r 0 00 ' ] && shows held 63 0 8 555555 && shows held 63 8 12 005500
+[ "$(build/bin/home-trace $work/held.trace | grep '^r ' | tr '\n' ' ')" = 'r 0 80 r 0 00 ' ] && shows held 63 0 8 555555 && shows held 63 8 12 005500
 tell 'priority holds sprites back under the fill' $?
 
 # The commands of the page.

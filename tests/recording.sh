@@ -7,7 +7,7 @@ strict="-Wall -Wextra -pedantic -Werror -O2"
 
 $CC_X86 -std=c99 $strict -Iinclude tests/record.c build/libvdp.a -o $work/record && $RUN $work/record $work/worked.trace
 tell "the calls on a recording, from C" $?
-cmp crates/trace/stdin $work/worked.trace && $RUN build/bin/trace $work/worked.trace | cmp crates/trace/stdout -
+cmp crates/trace/stdin $work/worked.trace && build/bin/trace $work/worked.trace | cmp crates/trace/stdout -
 tell "what C recorded is the worked trace" $?
 cc -std=c99 $strict -Iinclude tests/record.c build/native/libvdp.a -o $work/record-here && $work/record-here >/dev/null
 tell "the same with the library for this machine" $?
@@ -25,13 +25,13 @@ for seed in 1 2 3; do
         read -r table twin <<<"$both"
         run=$work/table$table-$seed
         $RUN $work/player "$table" $seed $run &&
-            $RUN build/bin/trace$twin $run/run.trace | cmp $run/run.text - &&
-            $RUN build/bin/snapshot$twin $run/run.trace | cmp $run/run.ppm -
+            build/bin/trace$twin $run/run.trace | cmp $run/run.text - &&
+            build/bin/snapshot$twin $run/run.trace | cmp $run/run.ppm -
         tell "run $seed by table $table: trace$twin prints what the player got, snapshot$twin draws what it drew" $?
     done
 done
 # The comparison can fail: the other table's programs print and draw something else.
-! $RUN build/bin/trace-261 $work/table1-1/run.trace | cmp -s $work/table1-1/run.text - && ! $RUN build/bin/snapshot $work/table0-1/run.trace | cmp -s $work/table0-1/run.ppm -
+! build/bin/trace-261 $work/table1-1/run.trace | cmp -s $work/table1-1/run.text - && ! build/bin/snapshot $work/table0-1/run.trace | cmp -s $work/table0-1/run.ppm -
 tell "the programs of the other table do not" $?
 
 total

@@ -4,13 +4,15 @@
 . "$(dirname "$0")/begin.sh"
 needs build
 
-# mends NAME BLOCK MENDED LINE..: of the file BLOCK the program writes the file MENDED, and these lines to standard error.
+# mends NAME BLOCK MENDED LINE..: of the file BLOCK the program writes the file MENDED, and these lines to standard error; where there is one, or where it
+# writes `bad`, the exit status is 1.
 mends() {
     local name=$1 block=$2 mended=$3
     shift 3
     : >$work/lines
     [ $# -eq 0 ] || printf 'repair: byte %s\n' "$@" >$work/lines
-    $RUN build/bin/repair <"$block" >$work/written 2>$work/told && cmp "$mended" $work/written && cmp $work/lines $work/told
+    build/bin/repair <"$block" >$work/written 2>$work/told
+    [ $? -eq $(($# > 0 ? 1 : $(status_due "$mended"))) ] && cmp "$mended" $work/written && cmp $work/lines $work/told
     tell "$name" $?
 }
 # poke BLOCK OFFSET BYTE ..: the file BLOCK with these bytes, in hexadecimal, at these offsets.
@@ -53,12 +55,12 @@ for version in first second; do
     mends "$version version: a command latch of 81" $work/block $work/mended '21, command latch (flag): 81 -> 00' '22, command latch (byte): 12 -> 00'
     poke $good 23 00 >$work/block
     poke $good 23 00 24 00 >$work/mended
-    mends "$version version: a byte under an empty palette latch" $work/block $work/mended '24, palette latch (byte): f0 -> 00'
+    mends "$version version: a byte under an empty palette latch" $work/block $work/mended '24, palette latch (byte): F0 -> 00'
     poke $good 26 FF >$work/block
-    mends "$version version: a dirty flag of FF, with the palette's colours" $work/block $good '26, dirty flag: ff -> 00'
+    mends "$version version: a dirty flag of FF, with the palette's colours" $work/block $good '26, dirty flag: FF -> 00'
     poke $good 26 FF 90 01 >$work/block
     poke $good 26 01 90 01 >$work/mended
-    mends "$version version: a dirty flag of FF, with other colours" $work/block $work/mended '26, dirty flag: ff -> 01'
+    mends "$version version: a dirty flag of FF, with other colours" $work/block $work/mended '26, dirty flag: FF -> 01'
     poke $good 26 01 90 01 >$work/block
     mends "$version version: other colours that are dirty" $work/block $work/block
     for at in 27 90 91 94 215 218; do
@@ -85,12 +87,16 @@ for size in 0 1 218 221 222 1000; do
     mends "$size bytes" $work/block $work/bad
 done
 mends 'input without an end' /dev/zero $work/bad
-{ head -c 100 $work/second; sleep 0.2; tail -c 120 $work/second; } | $RUN build/bin/repair | cmp $work/second -
+{ head -c 100 $work/second; sleep 0.2; tail -c 120 $work/second; } | build/bin/repair | cmp $work/second -
 tell 'a block in small pieces' $?
 
 # What cannot be told does not keep the block back.
-$RUN build/bin/repair crates/repair/stdin 2>&- | cmp crates/repair/stdout -
+build/bin/repair crates/repair/stdin 2>&- | cmp crates/repair/stdout -
 tell 'standard error closed' $?
+# What cannot be written has not changed.
+build/bin/repair crates/repair/stdin >/dev/full 2>$work/told
+[ $? -eq 1 ] && echo 'repair: standard output: No space left on device' | cmp - $work/told
+tell 'a mended block that cannot be written: that is told, and no byte of it' $?
 
 # Beside the rules written a second time.
 sh oracle/build.sh repair
@@ -98,7 +104,10 @@ tell 'the second writing is built' $?
 $RUN build/oracle/repair write "${BLOCKS:-100}" "${SEED:-1}" $work/random
 status=$?
 for block in $work/random/*.block; do
-    $RUN build/bin/repair <"$block" >$work/written 2>$work/told && cmp "${block%.block}.mended" $work/written && cmp "${block%.block}.told" $work/told || status=1
+    build/bin/repair <"$block" >$work/written 2>$work/told
+    ended=$? due=$(status_due "${block%.block}.mended")
+    [ ! -s "${block%.block}.told" ] || due=1
+    [ $ended -eq $due ] && cmp "${block%.block}.mended" $work/written && cmp "${block%.block}.told" $work/told || status=1
 done
 tell "${BLOCKS:-100} random blocks" $status
 

@@ -5,15 +5,17 @@
 . "$(dirname "$0")/begin.sh"
 needs build
 
-# prints NAME TRACE TEXT: the file TRACE prints the file TEXT.
+# prints NAME TRACE TEXT: the file TRACE prints the file TEXT, with the exit status that belongs to it.
 prints() {
-    $RUN build/bin/trace < "$2" > $work/printed && cmp "$3" $work/printed
+    build/bin/trace < "$2" > $work/printed
+    [ $? -eq "$(status_due "$3")" ] && cmp "$3" $work/printed
     tell "$1" $?
 }
 
 # says NAME TRACE TEXT: of the file TRACE snapshot writes the file TEXT, and no picture.
 says() {
-    $RUN build/bin/snapshot < "$2" > $work/written && cmp "$3" $work/written
+    build/bin/snapshot < "$2" > $work/written
+    [ $? -eq "$(status_due "$3")" ] && cmp "$3" $work/written
     tell "$1" $?
 }
 
@@ -23,7 +25,7 @@ for trace in tests/traces/*.trace; do
     prints "trace $name" "$trace" "${trace%.trace}.text"
     other=${trace%.trace}.261.text
     [ -e "$other" ] || other=${trace%.trace}.text
-    $RUN build/bin/trace-261 < "$trace" | cmp "$other" -
+    build/bin/trace-261 < "$trace" | cmp "$other" -
     tell "trace-261 $name" $?
 done
 
@@ -42,11 +44,11 @@ lines() {
 for both in "trace 219 00" "trace-261 218 01"; do
     read -r program jump last <<<"$both"
     { lines "$jump" 262; echo "r 0 $last"; echo 'end 263'; } > $work/expected
-    $RUN build/bin/$program < tests/traces/p7.trace | cmp $work/expected -
+    build/bin/$program < tests/traces/p7.trace | cmp $work/expected -
     tell "262 steps: $program goes by its own table" $?
 done
 # After 285 steps the one has drawn a row of its second pass, and the other has not.
-$RUN build/bin/snapshot tests/traces/late.trace > $work/late.ppm && $RUN build/bin/snapshot-261 tests/traces/late.trace > $work/late-261.ppm
+build/bin/snapshot tests/traces/late.trace > $work/late.ppm && build/bin/snapshot-261 tests/traces/late.trace > $work/late-261.ppm
 for both in "late 0" "late-261 1"; do
     read -r picture rows <<<"$both"
     [ "$(tail -c 69120 $work/$picture.ppm | od -An -v -tx1 -w480 | grep -c ' ff 00 00')" = "$rows" ]
@@ -72,7 +74,7 @@ bad() {
     printf "$1$3" > $work/damaged
     printf 'bad %s\n' "$(printf "$1" | wc -c | tr -d ' ')" > $work/line
     { printf "$2"; cat $work/line; } > $work/expected
-    $RUN build/bin/trace < $work/damaged | cmp $work/expected - && $RUN build/bin/snapshot < $work/damaged | cmp $work/line -
+    build/bin/trace < $work/damaged | cmp $work/expected - && build/bin/snapshot < $work/damaged | cmp $work/line -
 }
 example='PW\277\000PW\277\100PW\276\253PW\277\000PW\277\000PR\276LS\000PR\177'
 damaged() {
@@ -116,7 +118,7 @@ prints '200,000 bytes' $work/longest $work/expected
 says '200,000 bytes, snapshot' $work/longest $work/expected
 # By a pipe, in small pieces, as a terminal would give it.
 printf 'r 0 00\nr 0 00\nend 2\n' > $work/expected
-{ printf 'P'; sleep 0.2; printf 'R~PR'; sleep 0.2; printf '~'; } | $RUN build/bin/trace | cmp $work/expected -
+{ printf 'P'; sleep 0.2; printf 'R~PR'; sleep 0.2; printf '~'; } | build/bin/trace | cmp $work/expected -
 tell 'a trace in small pieces' $?
 
 # Snapshots. Nothing drawn: a picture of zeros.
@@ -129,7 +131,7 @@ says 'effective steps draw nothing in the picture' <(tr '\000' '\001' < $work/st
 row() { od -An -v -tx1 -j $((15 + 480 * $1)) -N 480 $work/split90.ppm | tr -d ' \n'; }
 # plain COLOUR: a row of this colour.
 plain() { yes "$1" | head -n 160 | tr -d '\n'; }
-$RUN build/bin/snapshot < tests/traces/split90.trace > $work/split90.ppm
+build/bin/snapshot < tests/traces/split90.trace > $work/split90.ppm
 [ "$(head -c 15 $work/split90.ppm | od -An -v -tx1 | tr -d ' \n')" = 50360a313630203134340a3235350a ] && [ "$(($(wc -c < $work/split90.ppm)))" = 69135 ]
 tell 'split at line 90: the picture is a whole PPM' $?
 [ "$(row 66)" = "$(plain ff0000)" ]
@@ -145,14 +147,14 @@ done
 tell 'split at line 90: all other rows' $status
 
 # Layers: the scene of docs/TRACES.md, its picture and its layers as they stand there.
-$RUN build/bin/layers < tests/traces/layers.trace > $work/layers.ppm && cmp crates/layers/stdout $work/layers.ppm && cmp tests/traces/layers.trace crates/layers/data/layers.trace
+build/bin/layers < tests/traces/layers.trace > $work/layers.ppm && cmp crates/layers/stdout $work/layers.ppm && cmp tests/traces/layers.trace crates/layers/data/layers.trace
 tell 'layers of the scene' $?
 for both in "picture -picture" "layers "; do
     read -r what suffix <<<"$both"
     program=layers
     [ "$what" = picture ] && program=snapshot
     if command -v python3 > /dev/null; then
-        $RUN build/bin/$program < tests/traces/layers.trace | python3 tools/ppm2png.py 2 | cmp docs/layers$suffix.png -
+        build/bin/$program < tests/traces/layers.trace | python3 tools/ppm2png.py 2 | cmp docs/layers$suffix.png -
         tell "docs/layers$suffix.png is what $program writes" $?
     else
         skip "docs/layers$suffix.png" 'no python3 here'
@@ -161,7 +163,7 @@ done
 
 # True edges: the scene of docs/TRACES.md in area 0 and in area 2, its pictures as they stand there, and what tells them apart.
 for name in edges-visible edges-true; do
-    $RUN build/bin/snapshot < tests/traces/$name.trace > $work/$name.ppm
+    build/bin/snapshot < tests/traces/$name.trace > $work/$name.ppm
     if command -v python3 > /dev/null; then
         python3 tools/ppm2png.py 2 < $work/$name.ppm | cmp docs/$name.png -
         tell "docs/$name.png is what snapshot writes" $?
@@ -179,10 +181,10 @@ shows edges-visible 30 152 8 222255 && shows edges-true 30 152 8 ffdd22 && shows
 tell 'X 208 to 214 with the early clock shows in area 2' $?
 shows edges-visible 95 0 4 ff4422 && shows edges-true 95 0 4 ffdd22
 tell 'sprites that the left edge cuts meet in area 2' $?
-$RUN build/bin/layers < tests/traces/edges-true.trace > $work/edges-layers.ppm && shows edges-layers 29 1 8 ff00ff && shows edges-layers 30 152 8 1ce380
+build/bin/layers < tests/traces/edges-true.trace > $work/edges-layers.ppm && shows edges-layers 29 1 8 ff00ff && shows edges-layers 30 152 8 1ce380
 tell 'layers of area 2' $?
 printf 'long\n' > $work/long
-$RUN build/bin/layers < $work/longer | cmp $work/long -
+build/bin/layers < $work/longer | cmp $work/long -
 tell '65,536 bytes, layers' $?
 
 total

@@ -1,18 +1,28 @@
 #!/bin/sh
-# install.sh FOLDER: puts the header, the libraries that `make native` made and a pkg-config file under FOLDER.
+# install.sh FOLDER: puts under FOLDER what `make` made for this machine:
+#   include, lib        the header, the libraries and a pkg-config file
+#   bin                 the programs and the desk
+#   lib/humusloft       the desk's own files, and by links what it looks for beside them: the header, the library and the programs
+#   share/doc/humusloft the pages, with their pictures and scripts
+# All links are told from where they stand, so that the whole can be moved.
 set -eu
-[ $# -eq 1 ] || { echo "usage: install.sh FOLDER" >&2; exit 2; }
+[ $# -eq 1 ] && [ -n "$1" ] || { echo "usage: install.sh FOLDER" >&2; exit 2; }
 cd "$(dirname "$0")/.."
-[ -e build/native/libvdp.so ] || { echo "install: no build/native/libvdp.so: make native makes it" >&2; exit 1; }
+for made in build/native/libvdp.so build/bin/trace build/bin/desk; do
+    [ -e $made ] || { echo "install: no $made: make makes it" >&2; exit 1; }
+done
 part() { sed -n "s/^#define VDP_VERSION_$1 //p" include/vdp.h; }
 to=$1
-mkdir -p "$to/include" "$to/lib/pkgconfig" 2>/dev/null && [ -w "$to/include" ] && [ -w "$to/lib/pkgconfig" ] ||
-    { echo "install: cannot write under $to: name a folder of your own, as make install PREFIX=\$HOME/.local" >&2; exit 1; }
+pages=$to/share/doc/humusloft desk=$to/lib/humusloft
+for folder in include lib/pkgconfig bin lib/humusloft/desk lib/humusloft/build share/doc/humusloft/scripts; do
+    mkdir -p "$to/$folder" 2>/dev/null && [ -w "$to/$folder" ] ||
+        { echo "install: cannot write under $to: name a folder of your own, as make install PREFIX=\$HOME/.local" >&2; exit 1; }
+done
+
 install -m 644 include/vdp.h "$to/include/"
 install -m 644 build/native/libvdp.a "$to/lib/"
 install -m 755 "build/native/libvdp.so.$(part MAJOR)" "$to/lib/"
-ln -sf "libvdp.so.$(part MAJOR)" "$to/lib/libvdp.so"
-# The folders are told from where this file stands, so that the whole can be moved.
+ln -sfn "libvdp.so.$(part MAJOR)" "$to/lib/libvdp.so"
 cat >"$to/lib/pkgconfig/vdp.pc" <<END
 prefix=\${pcfiledir}/../..
 Name: vdp
@@ -21,4 +31,28 @@ Version: $(part MAJOR).$(part MINOR).$(part SMALL)
 Cflags: -I\${prefix}/include
 Libs: -L\${prefix}/lib -lvdp
 END
-echo "installed under $to: include/vdp.h, lib/libvdp.a, lib/libvdp.so, lib/pkgconfig/vdp.pc"
+
+programs=
+for file in build/bin/*; do
+    name=$(basename "$file")
+    [ "$name" != desk ] || continue
+    install -m 755 "$file" "$to/bin/"
+    programs="$programs $name"
+done
+
+rm -f "$desk"/desk/*.py
+install -m 644 desk/*.py "$desk/desk/"
+install -m 755 desk/desk "$desk/desk/"
+ln -sfn ../../include "$desk/include"
+ln -sfn ../.. "$desk/build/native"
+ln -sfn ../../../bin "$desk/build/bin"
+ln -sfn ../lib/humusloft/desk/desk "$to/bin/desk"
+
+for page in TRACES TILES SAVES DESK HANDBOOK HOME RULES; do install -m 644 docs/$page.md "$pages/"; done
+install -m 644 docs/*.png LICENSE NOTICE "$pages/"
+install -m 644 docs/scripts/* "$pages/scripts/"
+
+echo "installed under $to:"
+echo "  include/vdp.h  lib/libvdp.a  lib/libvdp.so  lib/pkgconfig/vdp.pc"
+echo "  bin/desk and the programs$programs"
+echo "  share/doc/humusloft: their pages; DESK.md is the one to begin with"

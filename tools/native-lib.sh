@@ -1,46 +1,36 @@
 #!/bin/sh
-# native-lib.sh CRATE OUT.o: the library CRATE as an object for this very machine (make native makes its libraries of it).
-# rt makes x86-64 code only. It lowers a library, with all that it depends on, to one LLVM module and hands that to its clang. This script
-# runs `rt staticlib CRATE` with a clang that also keeps the module, and compiles that module for this machine, optimised as rt does it.
-# The module's text stays beside it as OUT.ll (oracle/damaged.sh makes damaged copies of it).
+# native-lib.sh MODULE.ll FOLDER: the library of include/vdp.h, of its LLVM module (tools/modules.sh), for this machine or for the one that TARGET names
+# (tools/target.sh). FOLDER gets vdp.ll and vdp.o, the archive libvdp.a, and on Linux the shared library libvdp.so; they have the names of the header, and
+# no others. The compiler and the linker are the toolchain's own.
+#
+# The module was made for x86-64, whose C calls other machines do not share in all points:
+#   - On riscv64 an answer of 32 bits fills its register by its sign, and callers go by that (tools/calls.awk).
+#   - On armv7 a caller's lengths have 32 bits, and the module's have 64: each call widens them (tools/calls.awk).
+# On bare metal the archive has memcpy and memset too, for a machine that has none (tools/memory.c).
 set -eu
-[ $# -eq 2 ] || { echo "usage: native-lib.sh CRATE OUT.o" >&2; exit 2; }
-cd "$(dirname "$0")/.."
-crate=$1
-case $2 in /*) out=$2 ;; *) out=$PWD/$2 ;; esac
-machine=$(uname -m)
-kit=${RATTLE_HOME:-$(dirname "$(dirname "$(readlink -f "$(command -v rt)")")")}
-clang=$kit/on/$machine/toolchain/bin/clang
-work=$(mktemp -d)
-trap 'rm -rf "$work"' EXIT
-
-# The toolchain's folder again, by links, but for the folders on the way to its clang.
-for part in . on on/$machine on/$machine/toolchain on/$machine/toolchain/bin; do
-    mkdir -p "$work/kit/$part"
-    for file in "$kit/$part"/*; do
-        case ${file#"$kit/"} in
-        ./on | on/$machine | on/$machine/toolchain | on/$machine/toolchain/bin | on/$machine/toolchain/bin/clang) ;;
-        *) ln -s "$file" "$work/kit/$part/" ;;
-        esac
-    done
-done
-cat >"$work/kit/on/$machine/toolchain/bin/clang" <<END
-#!/bin/sh
-for word in "\$@"; do
-    case \$word in *.bc) cp "\$word" "$work/module.bc" ;; esac
-done
-exec "$clang" "\$@"
-END
-chmod +x "$work/kit/on/$machine/toolchain/bin/clang"
-
-RATTLE_HOME=$work/kit rt staticlib "$crate" >"$work/said" 2>&1 || {
-    echo "native-lib.sh: the library was not built:" >&2
-    tail -n 5 "$work/said" >&2
-    exit 1
-}
-[ -e "$work/module.bc" ] || { echo "native-lib.sh: the toolchain handed no module to its clang" >&2; exit 1; }
-
-# The module as text, without what ties it to x86-64, then for this machine.
-"$clang" --target=x86_64-unknown-linux-gnu -S -emit-llvm -O0 -Xclang -disable-llvm-passes -x ir "$work/module.bc" -o "$work/module.ll"
-sed -e '/^target datalayout/d' -e '/^target triple/d' -e 's/"target-cpu"="x86-64"//' -e 's/"probe-stack"="inline-asm"//' "$work/module.ll" >"${out%.o}.ll"
-sh tools/native-module.sh "${out%.o}.ll" "$out"
+[ $# -eq 2 ] || { echo "usage: native-lib.sh MODULE.ll FOLDER" >&2; exit 2; }
+tools=$(dirname "$0")
+. "$tools/toolchain.sh"
+. "$tools/target.sh"
+mkdir -p "$2"
+rm -f "$2"/vdp.ll "$2"/vdp.o "$2"/memory.o "$2"/libvdp.*
+case $triple in
+riscv64-*) awk -v way=answers -f "$tools/calls.awk" "$1" ;;
+armv7-*) awk -v way=lengths -f "$tools/calls.awk" "$1" ;;
+*) cat "$1" ;;
+esac >"$2/vdp.ll"
+sh "$tools/native-module.sh" "$2/vdp.ll" "$2/vdp.o"
+set -- "$2" "$2/vdp.o"
+if [ $system = none ]; then
+    "$llvm/clang" --target=$triple $flags -fno-pic -O2 -ffreestanding -fno-builtin -c "$tools/memory.c" -o "$1/memory.o"
+    set -- "$@" "$1/memory.o"
+fi
+folder=$1
+shift
+"$llvm/llvm-ar" crs "$folder/libvdp.a" "$@"
+[ $system = linux ] || exit 0
+major=$(sed -n 's/^#define VDP_VERSION_MAJOR //p' "$tools/../include/vdp.h")
+echo '{ global: vdp_*; local: *; };' >"$folder/names"
+"$llvm/ld.lld" -shared -soname "libvdp.so.$major" --version-script "$folder/names" --gc-sections -o "$folder/libvdp.so.$major" "$folder/vdp.o"
+rm "$folder/names"
+ln -s "libvdp.so.$major" "$folder/libvdp.so"

@@ -25,3 +25,8 @@ total() {
     printf '\n'
     [ "$failed" -eq 0 ]
 }
+
+# status_due FILE: the exit status of a program that writes this file: 1 where its last line says bad or long.
+status_due() {
+    if tail -n 1 "$1" | grep -qaE '^(bad|long)'; then echo 1; else echo 0; fi
+}
