@@ -57,7 +57,7 @@ extern "C" {
 #define VDP_VERSION_SMALL 0
 #define VDP_VERSION (65536 * VDP_VERSION_MAJOR + 256 * VDP_VERSION_MINOR + VDP_VERSION_SMALL)
 
-/* Stack in bytes: the deepest that was measured (tests/stack.c) is about 2,100, on x86-64 and on Arm. */
+/* Stack in bytes: the deepest that was measured (tests/stack.c) is about 2,200, on x86-64, on Arm of 64 and of 32 bits, and on riscv64. */
 #define VDP_STACK_NEED 4096
 
 /* Sizes in bytes. A row, its layers and the list of a repair may be longer (the bytes past their size never change), a

@@ -1,6 +1,6 @@
 #!/usr/bin/env bash
-# c.sh: what a C or C++ user takes away: the header, the library as shipped (x86-64) and for this machine, the link lines of README, what
-# `make install` puts down, and how much stack the calls take. CXX may name another C++ compiler.
+# c.sh: what a C or C++ user takes away: the header, the library as shipped (x86-64) and for this machine, the link lines of README, what vdp.h promises a
+# caller, how much stack the calls take, and the library as `make install` puts it down. CXX may name another C++ compiler.
 . "$(dirname "$0")/begin.sh"
 : "${CXX:=g++}"
 needs build native
@@ -21,6 +21,17 @@ for names in "-D --defined-only build/native/libvdp.so" "-g --defined-only build
     cmp $work/header $work/names
     tell "the names of ${names##* } are those of the header" $?
 done
+
+# What it asks for: memcpy and memset.
+for library in build/libvdp.a build/native/libvdp.a; do
+    [ "$(nm -u $library | awk '$1 == "U" { print $2 }' | sort -u | tr '\n' ' ')" = 'memcpy memset ' ]
+    tell "$library asks for memcpy and memset, and nothing else" $?
+done
+
+cc -std=c99 $strict -Iinclude tests/promises.c build/native/libvdp.a -pthread -o $work/promises-here && $work/promises-here
+tell "what vdp.h promises a caller, on this machine" $?
+$CC_X86 -std=c99 $strict -Iinclude tests/promises.c build/libvdp.a -pthread -o $work/promises && $RUN $work/promises
+tell "what vdp.h promises a caller, on x86-64" $?
 
 if command -v "$CXX" >/dev/null; then
     for standard in c++11 c++20; do

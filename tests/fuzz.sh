@@ -22,19 +22,21 @@ tell "the same on the library as it is shipped" $?
 diff <(sed -nE 's/^uint(32|64)_t (vdp_[a-z_]+)\(.*/\2/p' include/vdp.h | sort) <(build/fuzz --calls | sort)
 tell "it makes every call of the header" $?
 
-# caught NAME FUNCTION EDIT LINE: a copy of the library with this edit (sed) of one line of a function is stopped at, with such a line.
+# caught NAME FUNCTION EDIT LINE: a copy of the library with this edit (sed) of a function is stopped at, with such a line.
 caught() {
     local changed
     sed -E "/^define .*@\"$2\"\\(/,/^}/$3" build/native/vdp.ll >$out/slip.ll
     changed=$(diff build/native/vdp.ll $out/slip.ll | grep -c '^>')
     sh tools/native-module.sh $out/slip.ll $out/slip.o && cc $flags tests/fuzz.c $out/slip.o -o $out/slip && ! $out/slip 100000 1 >$out/said &&
-        [ "$changed" -eq 1 ] && grep -qE "$4" $out/said
+        [ "$changed" -gt 0 ] && grep -qE "$4" $out/said
     status=$?
     [ $status -eq 0 ] || { echo "$changed lines changed"; cat $out/said; }
     tell "caught: $1" $status
 }
-caught "159 bytes are enough for the layers of a visible row" step::column_count 's/store i64 160,/store i64 159,/' '^fuzz: call [0-9]+, vdp_layer_.*step: (touches memory|answers refusal 0 where 16 is due)'
+caught "159 bytes are enough for the layers of a visible row" step::column_count 's/store i64 160,/store i64 159,/' '^fuzz: call [0-9]+, vdp_layer_(row_)?step: '
 caught "the counter jumps a line late" raster::jump_line 's/store i8 -37,/store i8 -36,/' '^fuzz: call [0-9]+, .*step: sets another line'
 caught "a block of the first version has table 1" block::table_byte 's/store i8 0,/store i8 1,/' '^fuzz: call [0-9]+, '
+# One that is not refused, and stores behind its buffer: the page there stops it.
+caught "a record is written where its room is too short" record::put_record 's/(@"record::has_room"\(i64 %r[0-9]+, i64 %a2, i64) %r[0-9]+/\1 0/' '^fuzz: call [0-9]+, vdp_record_.*: touches memory that it may not'
 
 total

@@ -1,0 +1,94 @@
+#!/usr/bin/env bash
+# native.sh: the programs for the machine at hand, build/bin, beside the x86-64 ones that rt itself compiles and links, target/bin: what both print of every
+# test trace, of sheets and of blocks is the same. And the same programs for the other of the two machines that the project is built on, by an emulator.
+# And what tools/ say where a toolchain has another shape than they know.
+set -u
+cd "$(dirname "$0")/.."
+unset MAKEFLAGS MAKELEVEL
+. tools/cross.sh
+. tools/tell.sh
+if ! make --no-print-directory build; then
+    echo '0 passed, 1 failed'
+    exit 1
+fi
+work=build/test/native
+rm -rf $work
+mkdir -p $work
+programs=$(cd build/bin && ls | grep -vx desk)
+crate() { echo "$1" | tr - _; }
+for name in $programs; do [ -x target/bin/"$(crate $name)" ] || rt check "$(crate $name)" >/dev/null || exit 1; done
+
+# kind FILE: the machine that a program is for, two bytes of its header.
+kind() { od -An -tx1 -j 18 -N 2 "$1"; }
+status=0
+for name in $programs; do [ "$(kind build/bin/$name)" = "$(kind "$(readlink -f /proc/self/exe)")" ] || status=1; done
+tell "every program of build/bin is for this machine" $status
+
+# inputs NAME: the files that a program is tried on.
+inputs() {
+    case $1 in
+    sheet) echo crates/sheet/stdin tests/traces/empty.trace crates/repair/stdin ;;
+    repair) echo crates/repair/stdin crates/repair/stdout tests/traces/empty.trace ;;
+    *) echo tests/traces/*.trace crates/repair/stdin ;;
+    esac
+}
+# compared NAME WORDS..: what the program that these words start writes of each input, to standard output and to standard error, is what rt's own writes; its
+# exit status is the one that is due.
+compared() {
+    local name=$1 same=0 count=0 input due ended
+    shift
+    for input in $(inputs $name); do
+        $RUN target/bin/"$(crate $name)" $input >$work/rt.out 2>$work/rt.err
+        "$@" $input >$work/own.out 2>$work/own.err
+        ended=$? due=$(status_due $work/rt.out)
+        [ ! -s $work/rt.err ] || due=1
+        cmp $work/rt.out $work/own.out && cmp $work/rt.err $work/own.err && [ $ended -eq $due ] || { echo "$name $input: status $ended"; same=1; }
+        count=$((count + 1))
+    done
+    "$@" $work/none >$work/own.out 2>$work/own.err
+    [ $? -eq 1 ] && [ ! -s $work/own.out ] && echo "$name: $work/none: No such file or directory" | cmp - $work/own.err || same=1
+    "$@" - <"$input" | cmp $work/rt.out - || same=1
+    "$@" --help | grep -q "^usage: $name \[FILE\]" || same=1
+    tell "$name for ${machine}: $count inputs as rt's own prints them, a file that is not there, standard input and --help" $same
+}
+machine="this machine"
+for name in $programs; do compared $name build/bin/$name; done
+
+# The other machine's.
+other=aarch64
+[ "$(uname -m)" = x86_64 ] || other=x86_64
+why=$(sh tools/setup.sh cross 2>&1 >/dev/null)
+if TARGET=$other && . tools/target.sh && command -v $cc >/dev/null && sh tools/emulate.sh $other; then
+    machine=$other
+    for name in $programs; do
+        TARGET=$other sh tools/native-program.sh build/modules/"$(crate $name)".ll $work/$other/$name && [ "$(kind $work/$other/$name)" != "$(kind build/bin/$name)" ]
+        tell "$name is compiled for $other" $?
+        compared $name sh tools/emulate.sh $other $work/$other/$name
+    done
+else
+    echo "SKIPPED: programs for $other: ${why:-no C compiler or emulator for it}"
+    skipped=$((skipped + 2 * $(wc -w <<<"$programs")))
+fi
+
+# A toolchain with no clang at its place; one that hands it no module; a module of another form; a machine that has no programs.
+. tools/toolchain.sh
+mkdir -p $work/kit/on/"$(uname -m)"/toolchain/bin $work/bin
+said=$(RATTLE_HOME=$PWD/$work/kit bash tools/modules.sh check trace 2>&1)
+[ $? -ne 0 ] && [ "$(wc -l <<<"$said")" -eq 1 ] && grep -q '^toolchain: no clang at .* has not the shape that tools/ knows' <<<"$said"
+tell "a toolchain with no clang at its place is told in a line" $?
+printf '#!/bin/sh\ncase $1 in version) echo another ;; esac\n' >$work/bin/rt
+chmod +x $work/bin/rt
+mkdir $work/copy
+cp -R tools crates.txt $work/copy/
+said=$(cd $work/copy && mkdir -p target/stamp && PATH="$OLDPWD/$work/bin:$PATH" RATTLE_HOME=$kit bash tools/modules.sh staticlib face 2>&1)
+[ $? -ne 0 ] && [ "$(wc -l <<<"$said")" -eq 1 ] && grep -q '^modules: the toolchain (another) built face and handed no module .* has not the shape that tools/modules.sh knows' <<<"$said"
+tell "a toolchain that hands no module to its clang is told in a line" $?
+grep -v '@main' build/modules/sheet.ll >$work/mainless.ll
+said=$(sh tools/native-program.sh $work/mainless.ll $work/mainless 2>&1)
+[ $? -ne 0 ] && [ "$(wc -l <<<"$said")" -eq 1 ] && grep -q 'has no main: the toolchain' <<<"$said"
+tell "a module with no main is told in a line" $?
+said=$(TARGET=armv7 sh tools/native-program.sh build/modules/sheet.ll $work/armv7 2>&1)
+[ $? -ne 0 ] && [ "$said" = "native-program: programs are for 64-bit Linux, and armv7 is none" ]
+tell "a machine that has no programs is told in a line" $?
+
+total
