@@ -30,12 +30,13 @@ build/bin/desk: desk/desk | setup
 
 # A file is made again where a source of it, or the toolchain, has changed. All programs are proved by one run of rt, which leaves their LLVM modules
 # (tools/modules.sh); one whose module stays as it was is not compiled again.
+PROVE := OF="$(PROGRAMS) face" bash tools/prove.sh
 build/modules/programs: $(shell sh tools/sources.sh $(PROGRAMS)) build/toolchain tools/modules.sh | setup
-	@OF="$(PROGRAMS) face" bash tools/prove.sh programs $(PROGRAMS)
+	@$(PROVE) programs $(PROGRAMS)
 	@touch $@
 
 $(PROGRAMS:%=build/modules/%.ll): build/modules/programs
-	@:
+	@[ -e $@ ] || $(PROVE) programs $(PROGRAMS)
 
 define program
 build/bin/$(subst _,-,$(1)): build/modules/$(1).ll tools/native-program.sh tools/program.c $(COMPILE)
@@ -45,7 +46,7 @@ endef
 $(foreach name,$(PROGRAMS),$(eval $(call program,$(name))))
 
 build/modules/face.ll build/libvdp.a &: $(shell sh tools/sources.sh face) build/toolchain tools/modules.sh | setup
-	@OF="$(PROGRAMS) face" bash tools/prove.sh library face
+	@$(PROVE) library face
 	@cp target/staticlib/libface.a build/libvdp.a
 
 build/toolchain: FORCE | setup

@@ -3,9 +3,9 @@
 # notes how it is called: so that the rules of the Makefile are tried in seconds. And what make and make test say where they cannot begin.
 . "$(dirname "$0")/begin.sh"
 needs build
-before=$(stat -c '%n %Y.%y' build/libvdp.a build/bin/*)
+before=$(stat -c '%n %Y.%y' build/libvdp.a build/native/* build/bin/*)
 said=$(make --no-print-directory build)
-[ -z "$said" ] && [ "$before" = "$(stat -c '%n %Y.%y' build/libvdp.a build/bin/*)" ]
+[ -z "$said" ] && [ "$before" = "$(stat -c '%n %Y.%y' build/libvdp.a build/native/* build/bin/*)" ]
 tell "an unchanged make build makes nothing and says nothing" $?
 
 work=$(mktemp -d)
@@ -14,29 +14,46 @@ chmod 755 "$work"
 copy="$work/a place with spaces"
 mkdir "$copy" "$work/bin"
 tar -c --exclude=./build --exclude=./target --exclude=./.git . | tar -x -C "$copy"
+. tools/toolchain.sh
+export RATTLE_HOME=$kit
+# A program's module is handed out beside it, as a clang that keeps modules leaves it (tools/modules.sh).
 cat >"$work/bin/rt" <<END
 #!/bin/sh
-case \$1 in
+verb=\$1
+shift
+case \$verb in
 version) cat "$work/version" ;;
-check) echo "check" >>"$work/calls"; mkdir -p target/bin; cp "$PWD"/build/bin/* target/bin/; for name in trace-261 snapshot-261 home-trace home-snapshot; do cp "$PWD/build/bin/\$name" target/bin/\${name%-*}_\${name#*-}; done ;;
-staticlib) echo "staticlib" >>"$work/calls"; mkdir -p target/staticlib; cp "$PWD/build/libvdp.a" target/staticlib/libface.a ;;
-*) echo "\$1" >>"$work/calls"; exit 1 ;;
+check)
+    echo check >>"$work/calls"
+    mkdir -p target/stamp
+    for name; do
+        [ ! -e "$PWD/build/modules/\$name.bc" ] || { cp "$PWD/build/modules/\$name.bc" build/modules/; cat "$work/version" >target/stamp/\$name; }
+    done
+    ;;
+staticlib)
+    echo staticlib >>"$work/calls"
+    mkdir -p target/staticlib
+    cp "$PWD/build/libvdp.a" target/staticlib/libface.a
+    cp "$PWD/build/modules/face.bc" build/modules/
+    ;;
+*) echo "\$verb" >>"$work/calls"; exit 1 ;;
 esac
 END
 chmod +x "$work/bin/rt"
 echo one >"$work/version"
 
-# made NAME CALLS WORDS..: make with these words calls rt so, and leaves all that a user takes away.
+# made NAME CALLS WORDS..: make with these words calls rt so, and leaves what a user takes away. Two programs are as good as nine here.
 made() {
     local name=$1 calls=$2 status
     shift 2
     : >"$work/calls"
-    (cd "$copy" && PATH="$work/bin:$PATH" make --no-print-directory "$@" </dev/null) >"$work/said" 2>&1
+    (cd "$copy" && PATH="$work/bin:$PATH" make --no-print-directory PROGRAMS='trace snapshot_261' "$@" </dev/null) >"$work/said" 2>&1
     status=$?
     [ "$status" -eq 0 ] || cat "$work/said"
-    [ "$status" -eq 0 ] && [ "$(tr '\n' ' ' <"$work/calls")" = "$calls" ] && ! grep -q warning "$work/said" &&
-        cmp build/libvdp.a "$copy/build/libvdp.a" && cmp build/bin/trace "$copy/build/bin/trace" && cmp build/bin/snapshot "$copy/build/bin/snapshot"
-    tell "$name" $?
+    [ "$status" -eq 0 ] && [ "$(tr '\n' ' ' <"$work/calls")" = "$calls" ] && ! grep -q warning "$work/said"
+    status=$?
+    for file in libvdp.a native/libvdp.a native/libvdp.so bin/trace bin/snapshot-261 bin/desk; do cmp "build/$file" "$copy/build/$file" || status=1; done
+    tell "$name" $status
 }
 # later FILE: this source is newer than all that was made.
 later() {
@@ -44,8 +61,22 @@ later() {
     touch "$copy/$1"
 }
 made "make from nothing" "check check staticlib " all
-tail -n 1 "$work/said" | grep -q '^end 8$'
+grep -q '^end 8$' "$work/said"
 tell "it shows the trace program at work" $?
+# Each of the lines to try, as it would be pasted; those that install or take half an hour are there, and no more.
+status=0 lines=0
+while read -r line; do
+    lines=$((lines + 1))
+    case $line in
+    'make install PREFIX="$HOME/.local"' | 'make test') ;;
+    build/bin/snapshot\ *) (cd "$copy" && eval "${line/snapshot/snapshot-261}") >"$work/tried" 2>&1 || { cat "$work/tried"; status=1; } ;;
+    *) (cd "$copy" && eval "$line") >"$work/tried" 2>&1 || { cat "$work/tried"; status=1; } ;;
+    esac
+done < <(sed -n '/^Try:$/,$p' "$work/said" | sed 1d)
+[ $lines -ge 4 ] && [ $status -eq 0 ]
+tell "its last lines say what to try, and each of the commands works" $?
+[ "$(sed -n 's/^  build\/bin  *//p' "$work/said")" = 'desk snapshot-261 trace' ] && grep -q "^Built for this machine, $(uname -m):$" "$work/said"
+tell "and what is there" $?
 made "make again: rt is not called" "" all
 later crates/laws/src/lib.rt
 made "after a change below both: all is made" "check check staticlib " build
@@ -59,8 +90,17 @@ later crates.txt
 made "after a change of crates.txt" "check check staticlib " build
 echo two >"$work/version"
 made "with another toolchain" "check check staticlib " build
-rm "$copy/build/bin/snapshot"
-made "a program that was removed is made again" "check " build
+rm "$copy/build/bin/snapshot-261"
+made "a program that was removed is made again, of the module that is there" "" build
+rm "$copy/build/modules/trace.ll"
+made "a module that was removed is made again" "check " build
+echo >>"$copy/target/stamp/trace"
+later crates/trace/src/main.rt
+made "so is one of other sources than rt's stamp tells of" "check " build
+later include/vdp.h
+made "after a change of the header: the libraries for this machine" "" build
+later tools/program.c
+made "after a change of what programs are linked with" "" build
 made "make -j4" "" -j4 all
 made "make -j4 clean all" "check check staticlib " -j4 clean all
 
@@ -82,16 +122,23 @@ for target in compare bench bus damaged memcheck; do
 done
 
 # A machine with nothing but what make needs: no rustc, and an apt-get that fails.
+# (Where a program is linked by the C compiler, that too.)
 mkdir "$work/few"
-for word in sh bash make awk cat cmp cp dirname env find grep id mkdir mktemp mv rm sed tail tee touch tr; do ln -s "$(command -v $word)" "$work/few/"; done
+linker=
+[ "$(uname -m)" = x86_64 ] || linker='cc ld as'
+for word in sh bash make awk cat chmod cmp cp cut dirname env find grep id ln mkdir mktemp mv nproc readlink rm sed sleep sort tail tee touch tr uname $linker; do ln -s "$(command -v $word)" "$work/few/"; done
 for word in dpkg apt-get; do printf '#!/bin/sh\necho "E: Unable to locate package rustc" >&2\nexit 100\n' >"$work/few/$word"; done
-printf '#!/bin/sh\ncase $1 in -s) echo Linux ;; *) echo x86_64 ;; esac\n' >"$work/few/uname"
-chmod +x "$work/few"/dpkg "$work/few"/apt-get "$work/few"/uname
+chmod +x "$work/few"/dpkg "$work/few"/apt-get
 printf '#!/bin/sh\nexec "$@"\n' >"$work/few/sudo"
 chmod +x "$work/few/sudo"
 : >"$work/calls"
-(cd "$copy" && PATH="$work/bin:$work/few" make --no-print-directory build) >"$work/said" 2>&1 && grep -q staticlib "$work/calls"
-tell "make does not ask for rustc" $?
+(cd "$copy" && PATH="$work/bin:$work/few" make --no-print-directory PROGRAMS=trace build) >"$work/said" 2>&1 && grep -q staticlib "$work/calls"
+status=$?
+[ "$status" -eq 0 ] || cat "$work/said"
+tell "make asks for no more than that: not for rustc" $status
+rm "$work/few/uname" "$work/few/cc" 2>/dev/null
+printf '#!/bin/sh\ncase $1 in -s) echo Linux ;; *) echo x86_64 ;; esac\n' >"$work/few/uname"
+chmod +x "$work/few/uname"
 : >"$work/calls"
 (cd "$copy" && PATH="$work/bin:$work/few" make --no-print-directory test) >"$work/said" 2>&1
 [ $? -ne 0 ] && [ ! -s "$work/calls" ] && [ "$(grep -c 'error' "$work/said")" -eq 1 ] && grep -q '^setup: error: could not install rustc.*(E: Unable to locate package rustc)' "$work/said" &&

@@ -1,8 +1,8 @@
 #!/usr/bin/env bash
 # prove.sh programs CRATE.. | library CRATE | all: proves these crates and what they depend on, and keeps the LLVM modules of the programs or the library
-# (tools/modules.sh); `all` proves every crate and keeps none. One line for each crate as it is proved, "tile proved, 9 of 31", a line at least every 15
-# seconds, and all else in a log, which an error names. Ends all that it has started where it is ended; what was proved until then is not proved again.
-# OF may name the crates that the count is of, where more are proved than these.
+# (tools/modules.sh); `all` proves every crate and keeps none. One line for each crate as it is proved, "tile proved, 9 of 31", a line at least every QUIET
+# seconds, 15 if that is not set, and all else in a log, which an error names. Ends all that it has started where it is ended; what was proved until then is
+# not proved again. OF may name the crates that the count is of, where more are proved than these.
 set -u
 cd "$(dirname "$0")/.."
 what=${1-}
@@ -68,7 +68,7 @@ through() {
     job=$!
     while kill -0 "$job" 2>/dev/null; do
         look $open
-        if [ $((SECONDS - last)) -ge 15 ]; then line "... ${busy:-$doing ($((SECONDS - began)) s)}"; fi
+        if [ $((SECONDS - last)) -ge "${QUIET:-15}" ]; then line "... ${busy:-$doing ($((SECONDS - began)) s)}"; fi
         sleep 0.3
     done
     wait "$job"
