@@ -40,7 +40,7 @@ $(PROGRAMS:%=build/modules/%.ll): build/modules/programs
 
 define program
 build/bin/$(subst _,-,$(1)): build/modules/$(1).ll tools/native-program.sh tools/program.c $(COMPILE)
-	@sh tools/native-program.sh $$< $$@
+	@TARGET= sh tools/native-program.sh $$< $$@
 	@echo "$$@ compiled for this machine"
 endef
 $(foreach name,$(PROGRAMS),$(eval $(call program,$(name))))
@@ -55,7 +55,7 @@ build/toolchain: FORCE | setup
 native: $(if $(TARGET),build/cross/$(TARGET)/libvdp.a,$(NATIVE)) ## the library for this machine, build/native/libvdp.a and libvdp.so; TARGET= for another: aarch64, x86_64, riscv64 or armv7, as it is for Linux, with -none for bare metal
 
 $(NATIVE) &: build/modules/face.ll include/vdp.h tools/native-lib.sh $(COMPILE)
-	@sh tools/native-lib.sh $< build/native
+	@TARGET= sh tools/native-lib.sh $< build/native
 	@echo "build/native/libvdp.a and libvdp.so compiled for this machine"
 
 build/cross/%/libvdp.a: build/modules/face.ll include/vdp.h tools/native-lib.sh tools/calls.awk tools/memory.c $(COMPILE)

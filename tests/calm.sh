@@ -45,6 +45,8 @@ done
 END
 chmod +x "$work/bin/rt"
 export PATH="$work/bin:$PATH"
+# A busy machine adds no line of its own.
+export QUIET=600
 cd "$copy"
 all=$(sh tools/crates.sh | wc -l)
 
@@ -80,30 +82,36 @@ bash tools/prove.sh all >"$work/said" 2>&1
     [ "$(tail -n 1 "$work/said")" = "prove: status 1; all that was said is in build/log/all.log" ] && grep -q 'Wrong.antt' build/log/all.log
 tell "an error is told, and names the log" $?
 
-# alive: those that the stand-in has started and that are still there.
-alive() { while read -r pid; do ! kill -0 "$pid" 2>/dev/null || echo "$pid"; done <"$work/started"; }
+# runs PID: it is there, and has not ended (state Z: it has, and nobody has asked for its status).
+runs() { [ -e "/proc/$1/stat" ] && ! sed 's/.*) //' "/proc/$1/stat" 2>/dev/null | grep -q '^[ZX]'; }
+# alive: those that the stand-in has started and that still run.
+alive() { while read -r pid; do ! runs "$pid" || echo "$pid"; done <"$work/started"; }
+# soon COMMAND..: it holds within five seconds.
+soon() {
+    for _ in $(seq 50); do
+        ! "$@" || return 0
+        sleep 0.1
+    done
+    return 1
+}
+none_alive() { [ -z "$(alive)" ]; }
 # ends NAME SIGNAL STATUS COMMAND..: the command, a process group of its own as a terminal has it, is sent the signal, all of the group, while a crate is
-# stuck. It ends with this status within five seconds, nothing that it has started lives on, and the next run goes on from there.
+# stuck. It ends with this status, soon nothing that it has started lives on, and the next run goes on from there.
 ends() {
-    local name=$1 signal=$2 due=$3 began status group
+    local name=$1 signal=$2 due=$3 status group
     shift 3
     anew stuck tile
     set -m
     "$@" >"$work/said" 2>&1 &
     group=$!
     set +m
-    for _ in $(seq 100); do
-        [ "$(wc -l <"$work/started")" -lt 2 ] || break
-        sleep 0.1
-    done
-    [ -n "$(alive)" ]
+    stuck() { [ "$(wc -l <"$work/started")" -ge 2 ] && ! none_alive; }
+    soon stuck || soon stuck || soon stuck
     status=$?
-    began=$SECONDS
     kill -"$signal" -- "-$group"
     wait "$group"
-    [ $? -eq "$due" ] && [ $((SECONDS - began)) -le 5 ] || status=1
-    sleep 0.2
-    [ -z "$(alive)" ] && grep -q '^prove: ended; what was proved stays' "$work/said" || status=1
+    [ $? -eq "$due" ] || status=1
+    soon none_alive && grep -q '^prove: ended; what was proved stays' "$work/said" || status=1
     [ $status -eq 0 ] || { cat "$work/said"; alive; }
     tell "$name: all that was started ends with it" $status
     # what was proved until then is not proved again
@@ -121,10 +129,12 @@ set -m
 bash "$copy/tools/whole.sh" sh -c "trap '' TERM; echo \$\$ >$work/deaf; sleep 300; sleep 300" &
 group=$!
 set +m
-for _ in $(seq 50); do [ ! -s "$work/deaf" ] || break; sleep 0.1; done
+soon test -s "$work/deaf"
 kill -INT -- "-$group"
 wait "$group"
-[ $? -eq 130 ] && ! kill -0 "$(cat "$work/deaf")" 2>/dev/null
+status=$?
+ended() { ! runs "$(cat "$work/deaf")"; }
+[ $status -eq 130 ] && soon ended
 tell "one that does not listen to kill is ended" $?
 
 total

@@ -4,6 +4,7 @@
 # folder, by links, around another clang, which keeps each module and then does what the toolchain's does. Left behind: build/modules/CRATE.ll for each
 # program (of `ci` all of them) or the library, a text without what ties it to x86-64, from which tools/native-module.sh makes code for any machine.
 # rt compiles only what has changed: a program whose module is missing, or is of other sources, is proved and compiled again.
+# It says in a line what it does, where there is one to say it to, on descriptor 3.
 set -eu
 cd "$(dirname "$0")/.."
 . tools/toolchain.sh
@@ -50,6 +51,8 @@ for crate in $kept; do
         rm -f "target/stamp/$crate" "$modules/$crate.bc"
     fi
 done
+{ echo "modules: rt compiles for x86-64; the LLVM modules that it hands to its clang are kept in build/modules, for code of any machine" >&3; } 2>/dev/null || :
+exec 3>&-
 touch "$work/began"
 status=0
 RATTLE_HOME=$work/kit rt "$@" || status=$?

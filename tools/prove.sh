@@ -64,7 +64,7 @@ look() {
 through() {
     local doing=$1 began=$SECONDS
     shift
-    bash tools/whole.sh "$@" >>"$log" 2>&1 &
+    bash tools/whole.sh "$@" 3>&1 >>"$log" 2>&1 &
     job=$!
     while kill -0 "$job" 2>/dev/null; do
         look $open

@@ -14,6 +14,7 @@ ended() {
         sleep 0.2
     done
     kill -KILL -- "-$group" 2>/dev/null
+    wait "$group" 2>/dev/null
     exit $((128 + $1))
 }
 trap 'ended 2' INT
