@@ -70,6 +70,32 @@ else
     skipped=$((skipped + 2 * $(wc -w <<<"$programs")))
 fi
 
+# make itself, as an Arm machine runs it: in a copy of the project, where uname says aarch64, the C compiler and the toolchain's folder are those for it, and a
+# stand-in for rt hands out the modules that are there. What it makes runs by the emulator.
+if [ "$(uname -m)" = x86_64 ] && [ "$machine" = aarch64 ]; then
+    . tools/toolchain.sh
+    arm=$(mktemp -d)
+    trap 'rm -rf "$arm"' EXIT
+    mkdir -p "$arm/bin" "$arm/kit/on" "$arm/copy"
+    for file in "$kit"/*; do [ "$file" = "$kit/on" ] || ln -s "$file" "$arm/kit/"; done
+    ln -s "$kit/on/x86_64" "$arm/kit/on/aarch64"
+    printf '#!/bin/sh\ncase $1 in -s) echo Linux ;; *) echo aarch64 ;; esac\n' >"$arm/bin/uname"
+    printf '#!/bin/sh\nexec aarch64-linux-gnu-gcc "$@"\n' >"$arm/bin/cc"
+    printf '#!/bin/sh\ncase $1 in version) echo stand-in; exit ;; staticlib) mkdir -p target/staticlib; cp "%s/build/libvdp.a" target/staticlib/libface.a ;; esac\nshift\nmkdir -p target/stamp\nfor name; do cp "%s/build/modules/$name.bc" build/modules/ 2>/dev/null && echo >target/stamp/$name; done; :\n' "$PWD" "$PWD" >"$arm/bin/rt"
+    chmod +x "$arm/bin"/*
+    tar -c --exclude=./build --exclude=./target --exclude=./.git . | tar -x -C "$arm/copy"
+    (cd "$arm/copy" && PATH="$arm/bin:$PATH" RATTLE_HOME="$arm/kit" make --no-print-directory PROGRAMS='trace sheet' build) >$work/said 2>&1
+    status=$?
+    [ $status -eq 0 ] || cat $work/said
+    for name in trace sheet; do [ "$(kind "$arm/copy/build/bin/$name")" = "$(kind $work/aarch64/$name)" ] || status=1; done
+    [ "$(kind "$arm/copy/build/native/libvdp.so")" = "$(kind $work/aarch64/trace)" ] && cmp build/libvdp.a "$arm/copy/build/libvdp.a" || status=1
+    sh tools/emulate.sh aarch64 "$arm/copy/build/bin/trace" crates/trace/stdin | cmp - crates/trace/stdout || status=1
+    tell "make as on Arm: programs and libraries for it, with no emulator, and libvdp.a for x86-64" $status
+else
+    echo "SKIPPED: make as on Arm: this is no x86-64 machine, or it has no compiler for Arm"
+    skipped=$((skipped + 1))
+fi
+
 # A toolchain with no clang at its place; one that hands it no module; a module of another form; a machine that has no programs.
 . tools/toolchain.sh
 mkdir -p $work/kit/on/"$(uname -m)"/toolchain/bin $work/bin
