@@ -106,6 +106,7 @@ trap 'rm -f "$log"' EXIT
 quietly() {
     "$@" >"$log" 2>&1 </dev/null &
     job=$! waited=0 status=0
+    trap 'kill "$job" 2>/dev/null; wait "$job" || :; exit 130' INT TERM HUP
     while kill -0 "$job" 2>/dev/null; do
         sleep 0.2
         waited=$((waited + 1))
