@@ -2,10 +2,7 @@
 # calm.sh: what `make` says while it proves, and how it is ended: a line for each crate, a line every few seconds, errors that name their log; Ctrl-C, a closed
 # terminal and kill end all that was started, and the next run goes on from there. In a copy of the project, with a stand-in for rt that starts its provers
 # in the background, as rt does, and takes the time that it is told.
-set -u
-cd "$(dirname "$0")/.."
-unset MAKEFLAGS MAKELEVEL
-. tools/tell.sh
+. "$(dirname "$0")/begin.sh"
 work=$(mktemp -d)
 trap 'rm -rf "$work"' EXIT
 copy=$work/copy

@@ -1,18 +1,9 @@
 #!/usr/bin/env bash
 # fuzz.sh: a short run of `make fuzz`: every call of vdp.h with hostile arguments, on the library for this machine and as it is shipped; that the program
 # speaks of every call of the header; and that it catches copies of the library with a slip in each.
-set -u
-cd "$(dirname "$0")/.."
-unset MAKEFLAGS MAKELEVEL
-. tools/cross.sh
-. tools/tell.sh
-if ! make --no-print-directory build; then
-    echo '0 passed, 1 failed'
-    exit 1
-fi
-out=build/test/fuzz
-rm -rf $out
-mkdir -p $out
+. "$(dirname "$0")/begin.sh"
+needs build
+out=$work
 flags="-std=gnu99 -Wall -Wextra -pedantic -Werror -O2 -Iinclude"
 
 make --no-print-directory fuzz CALLS="${CALLS:-300000}" SEED="${SEED:-1}"
@@ -33,10 +24,10 @@ caught() {
     [ $status -eq 0 ] || { echo "$changed lines changed"; cat $out/said; }
     tell "caught: $1" $status
 }
-caught "159 bytes are enough for the layers of a visible row" step::column_count 's/store i64 160,/store i64 159,/' '^fuzz: call [0-9]+, vdp_layer_(row_)?step: '
+caught "159 bytes are enough for the layers of a visible row" points::column_count 's/store i64 160,/store i64 159,/' '^fuzz: call [0-9]+, vdp_layer_(row_)?step: '
 caught "the counter jumps a line late" raster::jump_line 's/store i8 -37,/store i8 -36,/' '^fuzz: call [0-9]+, .*step: sets another line'
 caught "a block of the first version has table 1" block::table_byte 's/store i8 0,/store i8 1,/' '^fuzz: call [0-9]+, '
 # One that is not refused, and stores behind its buffer: the page there stops it.
-caught "a record is written where its room is too short" record::put_record 's/(@"record::has_room"\(i64 %r[0-9]+, i64 %a2, i64) %r[0-9]+/\1 0/' '^fuzz: call [0-9]+, vdp_record_.*: touches memory that it may not'
+caught "a record is written where its room is too short" trace_record::put_record 's/(@"trace_record::has_room"\(i64 %r[0-9]+, i64 %a2, i64) %r[0-9]+/\1 0/' '^fuzz: call [0-9]+, vdp_record_.*: touches memory that it may not'
 
 total

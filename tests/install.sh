@@ -1,14 +1,8 @@
 #!/usr/bin/env bash
 # install.sh: what `make install` puts down, moved to a folder with a space in its name and used from there, with this project out of reach: the programs, the
 # desk with its library and its programs, the pages and what they link to. (The library by pkg-config is in c.sh.)
-set -u
-cd "$(dirname "$0")/.."
-unset MAKEFLAGS MAKELEVEL
-. tools/tell.sh
-if ! make --no-print-directory build; then
-    echo '0 passed, 1 failed'
-    exit 1
-fi
+. "$(dirname "$0")/begin.sh"
+needs build
 project=$PWD
 work=$(mktemp -d)
 trap 'rm -rf "$work"' EXIT
@@ -50,8 +44,7 @@ if command -v python3 >/dev/null; then
     [ $? -eq 2 ] && [ "$(wc -l <<<"$said")" -eq 1 ] && [[ $said == "desk: its files are not at "* ]]
     tell "a desk that was copied alone says so in a line" $?
 else
-    echo 'SKIPPED: the desk: no python3 here'
-    skipped=5
+    skip 'the desk' 'no python3 here'
 fi
 
 # The pages, and what they show.

@@ -2,18 +2,8 @@
 # native.sh: the programs for the machine at hand, build/bin, beside the x86-64 ones that rt itself compiles and links, target/bin: what both print of every
 # test trace, of sheets and of blocks is the same. And the same programs for the other of the two machines that the project is built on, by an emulator.
 # And what tools/ say where a toolchain has another shape than they know.
-set -u
-cd "$(dirname "$0")/.."
-unset MAKEFLAGS MAKELEVEL
-. tools/cross.sh
-. tools/tell.sh
-if ! make --no-print-directory build; then
-    echo '0 passed, 1 failed'
-    exit 1
-fi
-work=build/test/native
-rm -rf $work
-mkdir -p $work
+. "$(dirname "$0")/begin.sh"
+needs build
 programs=$(cd build/bin && ls | grep -vx desk)
 crate() { echo "$1" | tr - _; }
 for name in $programs; do [ -x target/bin/"$(crate $name)" ] || rt check "$(crate $name)" >/dev/null || exit 1; done
@@ -66,8 +56,7 @@ if TARGET=$other && . tools/target.sh && command -v $cc >/dev/null && sh tools/e
         compared $name sh tools/emulate.sh $other $work/$other/$name
     done
 else
-    echo "SKIPPED: programs for $other: ${why:-no C compiler or emulator for it}"
-    skipped=$((skipped + 2 * $(wc -w <<<"$programs")))
+    skip "programs for $other" "${why:-no C compiler or emulator for it}"
 fi
 
 # make itself, as an Arm machine runs it: in a copy of the project, where uname says aarch64, the C compiler and the toolchain's folder are those for it, and a

@@ -2,17 +2,10 @@
 # player.sh: the player's file as player/README.md says it is built: by cargo, out of this tree, with the build.rs that stands there, over build/native and over an
 # installed prefix, where a shared library stands beside the archive. The program then starts, with the library in it. (What the file does is held in
 # player/tests.rs, which oracle/suite.sh runs.)
-set -u
-cd "$(dirname "$0")/.."
-unset MAKEFLAGS MAKELEVEL
-. tools/tell.sh
-if ! make --no-print-directory build; then
-    echo '0 passed, 1 failed'
-    exit 1
-fi
+. "$(dirname "$0")/begin.sh"
+needs build
 if ! why=$(sh tools/setup.sh cargo 2>&1 >/dev/null); then
-    echo "SKIPPED: the player's file by cargo: $why"
-    skipped=7
+    skip "the player's file by cargo" "$why"
     total
     exit
 fi

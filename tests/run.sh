@@ -65,7 +65,7 @@ if ! sh tools/setup.sh rust; then
     exit 1
 fi
 # From nothing: what an earlier make left is made again, of what is proved now.
-rm -rf build/bin build/libvdp.a build/native build/toolchain build/oracle $logs
+rm -rf build/bin build/libvdp.a build/native build/modules build/cross build/toolchain build/oracle $logs
 mkdir -p $logs
 
 # rt starts as many proofs as it may and waits for all of them before it starts more: with more than there are processors, these stay busy.
@@ -85,11 +85,12 @@ export BUILT=1
 
 # The longest first, so that none of them is left alone at the end.
 running=
-for name in outside desk cartridge build bus $(basename -s .sh tests/[a-z]*.sh | grep -vxE 'run|begin|outside|desk|cartridge|build|bus'); do
+for name in outside page desk targets bus $(basename -s .sh tests/[a-z]*.sh | grep -vxE 'run|begin|outside|page|desk|targets|bus'); do
     while [ "$(wc -w <<<"$running")" -ge "$processors" ]; do
         wait -n
         show
     done
+    [ -e "tests/$name.sh" ] || continue
     try "$name" bash "tests/$name.sh" &
     running="$running $name"
 done

@@ -2,16 +2,9 @@
 # targets.sh: the library for other machines, `make native TARGET=...`: compiled from the proved module, linked with C programs of that machine, and run by an
 # emulator: the Rust's answers, the C example, what vdp.h promises, the calls on a recording, the stack, and hostile arguments. Of bare metal, a program that
 # has no system under it. One that this machine cannot compile C for, or run, counts as skipped.
-set -u
-cd "$(dirname "$0")/.."
-unset MAKEFLAGS MAKELEVEL
-. tools/tell.sh
-if ! make --no-print-directory build; then
-    echo '0 passed, 1 failed'
-    exit 1
-fi
-out=build/test/targets
-rm -rf $out
+. "$(dirname "$0")/begin.sh"
+needs build
+out=$work
 mkdir -p $out/here
 strict="-std=gnu99 -Wall -Wextra -pedantic -Werror -O2 -Iinclude -pthread -Wl,-z,now"
 machine=$(uname -m)
@@ -23,7 +16,7 @@ source_of() { if [ -e tests/$1.c ]; then echo tests/$1.c; else echo examples/$1.
 # names OPTIONS.. FILE: what an object, archive or library defines, or asks for.
 names() { nm "$@" | awk 'NF >= 2 { print $NF }' | sort -u; }
 
-# ready TARGET TESTS: its library is there, and C can be compiled for it and run; else so many tests are skipped. Sets cc.
+# ready TARGET: its library is there, and C can be compiled for it and run; else it is skipped. Sets cc.
 ready() {
     make --no-print-directory native TARGET=$1
     tell "$1: the library is compiled" $?
@@ -32,8 +25,7 @@ ready() {
     [ "${1%-none}" != "$machine" ] || cc=cc
     mkdir $out/$1
     command -v $cc >/dev/null && sh tools/emulate.sh $1 && return
-    echo "SKIPPED: $1: no $cc or no emulator here: ${why:-setup.sh has not found them}"
-    skipped=$((skipped + $2))
+    skip "$1" "no $cc or no emulator here: ${why:-setup.sh has not found them}"
     return 1
 }
 
