@@ -8,8 +8,11 @@ import frame_sprites
 import header
 import home
 import language
+import layers
+import lettering
 import library
 import listing
+import machines
 import pictures
 import play
 import png
@@ -25,7 +28,7 @@ TABLES = (library.N["OLD_TABLE"], library.N["CHART_TABLE"])
 class Said:
     """Where words go: standard output, or standard error where a file goes to standard output."""
 
-    to_error = False
+    to_error, notes = False, set()
 
 
 def say(text):
@@ -33,7 +36,11 @@ def say(text):
 
 
 def note(text):
-    print(f"desk: note: {text}", file=sys.stderr)
+    """A word to the author, once, on standard error."""
+    if text not in Said.notes:
+        Said.notes.add(text)
+        sys.stdout.flush()  # so that both stand in their order, where they go to one place
+        print(f"desk: note: {text}", file=sys.stderr)
 
 
 def many(count, word):
@@ -41,18 +48,36 @@ def many(count, word):
 
 
 def shown(name):
-    return "standard input" if name == "-" else name
+    return errors.shown(name)
 
 
-def loaded(options, name, at_home=False):
+def scripted(options, name, home_taken, without):
+    """What a script makes, with its notes told."""
+    made = language.script(name, options.table, home_taken, without)
+    for text in made.notes:
+        note(text)
+    return made.trace
+
+
+def trace_bytes(options, name, at_home, without):
+    """The bytes of a trace; of a script (NAME.desk) those that it makes, but for the lines of these labels."""
+    if files.is_script(name):
+        return scripted(options, name, at_home, without)
+    if without:
+        raise errors.Bad(f"desk: {shown(name)}: --without goes with a script, whose name ends in {files.SCRIPT}: a trace has no labels")
+    return files.read(name, files.MOST_TRACE)
+
+
+def loaded(options, name, at_home=False, without=None):
     """The trace that is named; with `at_home` one for the home machine."""
-    return records.Trace(files.trace(name, options.table, at_home), shown(name), at_home)
+    data = trace_bytes(options, name, at_home, options.without if without is None else without)
+    return records.Trace(data, shown(name), at_home)
 
 
 def home_alone(command, options):
     """What does not go with --home."""
     for given, word, why in (
-        (getattr(options, "layers", False), "--layers", "the home machine tells no layers"),
+        (getattr(options, "layers", False), "--layers", "the home machine has no layers"),
         (getattr(options, "check", False), "--check", f"the picture is that of the program `{home.SNAPSHOT}` already"),
         (getattr(options, "area", None) is not None, "--area", "the home machine has one picture, and no areas"),
         (options.table != TABLES[-1], f"--table {options.table}", "the programs of the home machine go by table 1 alone"),
@@ -61,9 +86,9 @@ def home_alone(command, options):
             raise errors.Bad(f"desk {command}: --home and {word} do not go together: {why}")
 
 
-def played(options, name, keep=None, watch=None):
+def played(options, name, keep=None, watch=None, without=None):
     """The trace that is named, run to its end."""
-    return play.Run(loaded(options, name), options.table, keep, play.Progress(options.progress), watch)
+    return play.Run(loaded(options, name, False, without), options.table, keep, play.Progress(options.progress), watch)
 
 
 def area_of(options, run):
@@ -75,7 +100,18 @@ def area_of(options, run):
 def save(name, picture, what):
     files.write(name, png.written(picture.width, picture.height, picture.data))
     if name != "-":
-        say(f"{name}: {what}")
+        say(f"{shown(name)}: {what}")
+
+
+def finished(options, found, screen, across=None, owners=()):
+    """Pictures as one file shows them: scaled, with what was asked for around them; and where they are by layers, these with their colours below."""
+    pictures.fits(found[0], len(found), options.scale)
+    drawn = [pictures.scaled(picture, options.scale, options.grid) for picture in found]
+    if options.rulers:
+        drawn = [lettering.ruled(picture, screen, options.scale, options.grid) for picture in drawn]
+    sheet = pictures.sheet(drawn, across)
+    there = set().union(*owners)
+    return lettering.with_legend(sheet, there, options.scale) if there else sheet
 
 
 def has_frame(count, number, name):
@@ -83,18 +119,18 @@ def has_frame(count, number, name):
         raise errors.Bad(f"desk: {name}: frame {number}, and there {'is' if count == 1 else 'are'} {many(count, 'frame')}")
 
 
-def plain(frame, layers):
-    return pictures.of_layers(frame.size, frame.layers) if layers else pictures.of_pixels(frame.size, frame.pixels)
+def plain(frame, by_layers, colours=layers.COLOURS):
+    return pictures.of_layers(frame.size, frame.layers, colours) if by_layers else pictures.of_pixels(frame.size, frame.pixels)
 
 
 # ---- make and list
 def make(options):
-    trace = files.script(options.script, options.table)
+    trace = scripted(options, options.script, True, options.without)
     files.write(options.output, trace)
     if options.output != "-":
         found = records.Trace(trace, options.output)
         steps = sum(record.kind == records.STEP for record in found)
-        say(f"{options.output}: {many(len(trace), 'byte')}, {many(found.count, 'record')}, {many(steps, 'step')} among them")
+        say(f"{shown(options.output)}: {many(len(trace), 'byte')}, {many(found.count, 'record')}, {many(steps, 'step')} among them")
     if len(trace) > records.LIMIT:
         note(f"the trace has {len(trace):,} bytes. The programs trace, snapshot and layers take at most {records.LIMIT:,}; the desk, which goes by the library, has no limit")
 
@@ -102,7 +138,7 @@ def make(options):
 def list_trace(options):
     if options.home:
         home_alone("list", options)
-    data = files.trace(options.trace, options.table, options.home)
+    data = trace_bytes(options, options.trace, options.home, options.without)
     broken = None
     try:
         found = records.Trace(data, shown(options.trace), options.home)
@@ -110,24 +146,61 @@ def list_trace(options):
         found, broken = error.before, error
     steps = language.PASS[options.table]
     say(f"# {shown(options.trace)}: {many(len(data), 'byte')}, {many(found.count, 'record')}; line table {options.table}, {steps} steps to a pass")
-    sys.stdout.write(listing.listed(found, options.table, options.each, options.home))
+    text, notes = listing.listed(found, options.table, options.each, options.home)
+    sys.stdout.write(text)
+    for words in notes:
+        note(words)
     if broken:
         raise broken
 
 
+# ---- interrupts
+def interrupts(options):
+    """The lines that interrupt, a line for each frame."""
+    if options.home:
+        home_alone("interrupts", options)
+    trace = loaded(options, options.trace, options.home)
+    device, tally = home.Device(trace) if options.home else library.Device(options.table), play.Tally()
+    lines, frame = [], 0
+
+    def told(which):
+        say(f"{which}: " + (f"{'line' if len(lines) == 1 else 'lines'} {difference.runs(lines)}" if lines else "none"))
+
+    for record, answer, ended in play.walked(trace, device, tally):
+        if ended:
+            frame += 1
+            told(f"frame {frame}")
+            lines = []
+        if answer and answer.interrupt:
+            lines.append(device.counter)
+    if tally.fresh or not frame:
+        told(f"frame {frame + 1}")
+    elif lines:
+        told("then, before a row is drawn")
+
+
 # ---- pictures
+class Drawn:
+    """The frames of a trace as pictures, by their numbers; how many there are, their screen, what is to be said of them, and by layers which of these there
+    are."""
+
+    def __init__(self, frames, count, screen, notes, owners=()):
+        self.frames, self.count, self.screen, self.notes, self.owners = frames, count, screen, notes, owners
+
+
 def drawn_home(options):
-    """As `drawn`, on the home machine, by its program."""
+    """On the home machine, by its program."""
     home_alone("show", options)
     trace = loaded(options, options.trace, True)
-    frames, count = home.frames(trace, options.frame, play.Progress(options.progress))
+    found = home.Frames(trace)
+    has_frame(len(found.ends), options.frame, shown(options.trace))
     if not any(record.kind == records.STEP for record in trace):
         note("no step of the trace has drawn a row")
-    return frames, count, f"{home.Screen.columns} x {home.Screen.rows}"
+    return Drawn(found.pictures(options.frame, play.Progress(options.progress)), len(found.ends), machines.home().screens[0], found.notes(options.frame))
 
 
 def drawn(options):
-    """The frames of a trace as pictures, by their numbers, how many there are, and their size in words."""
+    """On the handheld."""
     trace = loaded(options, options.trace)
     run = play.Run(trace, options.table, options.frame or play.ALL, play.Progress(options.progress))
     area = area_of(options, run)
@@ -137,10 +210,13 @@ def drawn(options):
         note(f"no step of the trace has drawn a row of area {area.number}")
     if others:
         note(f"{many(others, 'row')} of an area of another size not shown: --area chooses")
-    frames = {number: plain(frame, options.layers) for number, frame in run.frames(area).items()}
+    kept, count = run.frames(area), run.count(area)
+    has_frame(count, options.frame, shown(options.trace))
     if options.check:
-        check(options, trace.data, area, frames[run.count(area)])
-    return frames, run.count(area), f"{area.columns} x {area.rows}"
+        check(options, trace.data, area, plain(kept[count], options.layers, layers.PROGRAM))
+    wanted = {number: frame for number, frame in kept.items() if options.frame in (None, number)}
+    owners = [set(frame.layers) for frame in wanted.values()] if options.layers else []
+    return Drawn({number: plain(frame, options.layers) for number, frame in wanted.items()}, count, machines.handheld().screens[area.number], run.notes(area, options.frame), owners)
 
 
 def check(options, data, area, last):
@@ -158,39 +234,60 @@ def check(options, data, area, last):
 
 
 def show(options):
-    frames, count, size = drawn_home(options) if options.home else drawn(options)
-    has_frame(count, options.frame, shown(options.trace))
-    wanted = [frames[options.frame]] if options.frame else list(frames.values())
-    sheet = pictures.sheet([pictures.scaled(frame, options.scale, options.grid) for frame in wanted])
+    found = drawn_home(options) if options.home else drawn(options)
+    sheet = finished(options, list(found.frames.values()), found.screen, None, found.owners)
+    size = f"{found.screen.columns} x {found.screen.rows}"
     if options.frame:
-        what = f"frame {options.frame} of {count}, {size}"
+        what = f"frame {options.frame} of {found.count}, {size}"
     else:
-        what = f"1 frame, {size}" if count == 1 else f"{count:,} frames of {size}, row by row"
+        what = f"1 frame, {size}" if found.count == 1 else f"{found.count:,} frames of {size}, row by row"
     how = (", by layers" if options.layers else "") + (", on the home machine" if options.home else "")
     save(options.output, sheet, what + (f", scale {options.scale}" if options.scale > 1 else "") + how)
+    for words in found.notes:
+        note(words)
+
+
+def compared(options):
+    """The two that are compared: of each its name, and its run. With --without one script is both, first without the lines of that label."""
+    if options.other is None:
+        if not options.without:
+            raise errors.Bad("desk differ: a second trace is missing, or --without LABEL (--help tells more)")
+        both = [(options.one, options.without), (options.one, [])]
+    elif options.without:
+        raise errors.Bad("desk differ: two traces, or one script and --without LABEL, but not both")
+    else:
+        both = [(options.one, []), (options.other, [])]
+    return [(shown(name), played(options, name, options.frame or play.ALL, None, without)) for name, without in both]
 
 
 def differ(options):
-    names = options.one, options.other
-    runs = [played(options, name, options.frame or play.ALL) for name in names]
-    areas = [area_of(options, run) for run in runs]
+    (one_name, one_run), (other_name, other_run) = both = compared(options)
+    areas = [area_of(options, run) for _, run in both]
     if areas[0].size != areas[1].size:
-        raise errors.Bad(f"desk: {names[0]} draws area {areas[0].number}, {names[1]} area {areas[1].number}, of another size: --area chooses")
-    counts = [run.count(area) for run, area in zip(runs, areas)]
-    for name, count in zip(names, counts):
+        raise errors.Bad(f"desk: {one_name} draws area {areas[0].number}, {other_name} area {areas[1].number}, of another size: --area chooses")
+    counts = [run.count(area) for (_, run), area in zip(both, areas)]
+    for (name, _), count in zip(both, counts):
         has_frame(count, options.frame, name)
     if counts[0] != counts[1]:
-        note(f"{names[0]} has {many(counts[0], 'frame')}, {names[1]} {many(counts[1], 'frame')}: those that both have are compared")
-    marked = []
-    for number in [options.frame] if options.frame else range(1, min(counts) + 1):
-        one, other = (plain(run.frames(area)[number], options.layers) for run, area in zip(runs, areas))
+        note(f"{one_name} has {many(counts[0], 'frame')}, {other_name} {many(counts[1], 'frame')}: those that both have are compared")
+    numbers = [options.frame] if options.frame else range(1, min(counts) + 1)
+    found, owners = [], []
+    for number in numbers:
+        frames = [run.frames(area)[number] for (_, run), area in zip(both, areas)]
+        one, other = (plain(frame, options.layers) for frame in frames)
         places = pictures.differing(one, other)
-        say(("" if max(counts) == 1 else f"frame {number}: ") + difference.words(one, other, places))
-        sides = [one, other] if options.sides else []
-        marked += [pictures.scaled(picture, options.scale, options.grid) for picture in sides + [pictures.marked(other, places)]]
+        told = difference.words(one, other, places, layers.words_at if options.layers else difference.colour_words)
+        say(("" if max(counts) == 1 else f"frame {number}: ") + (told.split("\n")[0] if options.brief else told))
+        if options.output:
+            pictures.fits(one, (3 if options.sides else 1) * len(numbers), options.scale)
+            found += ([one, other] if options.sides else []) + [pictures.marked(other, places)]
+            owners += [set(frame.layers) for frame in frames] if options.layers and options.sides else []
     if options.output:
         what = ("A, B, and B" if options.sides else "B") + " with the changed pixels in magenta"
-        save(options.output, pictures.sheet(marked, 3 if options.sides else None), what)
+        save(options.output, finished(options, found, machines.handheld().screens[areas[0].number], 3 if options.sides else None, owners), what)
+    for letter, (_, run), area in zip("AB", both, areas):
+        for words in run.notes(area, options.frame):
+            note(words if one_run.notes(areas[0], options.frame) == other_run.notes(areas[1], options.frame) else f"{letter}: {words}")
 
 
 # ---- one row

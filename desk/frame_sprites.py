@@ -1,4 +1,5 @@
 """The sprites of every row of a frame, in words."""
+import machines
 import rules
 
 
@@ -7,10 +8,11 @@ class OnRow:
 
     def __init__(self, told, only):
         row = told.rules
-        self.numbers, self.end, self.fates = [sprite.number for sprite in row.laid + row.beyond], row.end, []
-        for sprite in row.laid:
+        self.numbers, self.end, self.fates, self.tile = [sprite.number for sprite in row.laid + row.beyond], row.end, [], None
+        for sprite in row.laid + row.beyond:
             if sprite.number == only:
                 self.fates = [fate for fate in sprite.fates.values() if fate != rules.CLEAR]
+                self.tile = sprite.shown, machines.sprite_tile(told.registers, sprite.shown)
 
 
 def words(by_row, only):
@@ -26,6 +28,8 @@ def words(by_row, only):
     for first, last, numbers, fates in groups:
         where = f"row {first}" if first == last else f"rows {first} to {last}"
         lines.append(f"  {where:16} " + (list_words(numbers) if only is None else place_words(numbers, only, fates)))
+    for shown, tile in sorted({here.tile for here in by_row.values() if here.tile}):
+        lines.append(f"  its tile {shown} is {tile}")
     if not groups:
         ends = {here.end for here in by_row.values()} - {None}
         stop = f": a Y byte of D0 ends the list before sprite {min(ends)}" if ends and (only is None or min(ends) <= only) else ""

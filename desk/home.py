@@ -1,24 +1,14 @@
 """The home machine (docs/HOME.md). No C call has it: what it draws and answers is told by the proved programs `home-snapshot` and `home-trace`; its palette
 is followed here, for scripts and listings."""
 import library
+import machines
+import play
 import programs
 import records
 
 COMMAND, DATA = library.N["PORT_COMMAND"], library.N["PORT_DATA"]
-PASS = library.N["CHART_PASS_STEPS"]
-COLOURS, CHOSEN_PALETTE = 32, 2
+COLOURS = 32
 SNAPSHOT, TRACE = "home-snapshot", "home-trace"
-
-
-class Screen:
-    """In place of an area of the handheld's: its size, the line of its row 0, and the X byte of a sprite in its column 0 (R20.1, R20.7)."""
-
-    number, columns, rows, first_line, left = 0, 256, 192, 0, 0
-
-
-def colour(byte):
-    """Red, green and blue of a palette byte (R20.2)."""
-    return tuple(85 * (byte >> shift & 3) for shift in (0, 2, 4))
 
 
 class Palette:
@@ -31,38 +21,40 @@ class Palette:
         """A write that a handheld takes next: its command latch and the memory that it has chosen are the home machine's too."""
         if port == COMMAND and device.at("COMMAND_LATCHED") and value >= 0xC0:
             self.address = device.at("COMMAND_BYTE") % COLOURS
-        elif port == DATA and device.at("CHOSEN") == CHOSEN_PALETTE:
+        elif port == DATA and device.at("CHOSEN") == library.CHOSEN_PALETTE:
             self.bytes[self.address] = value
             self.address = (self.address + 1) % COLOURS
 
     def colours(self):
-        return [colour(byte) for byte in self.bytes]
+        return [machines.home().palette.colour([byte]) for byte in self.bytes]
 
 
-def ends(trace):
-    """Where each frame of a trace ends, as offsets: before a step that sets the counter to 0, which begins a pass, and at the end. (The first step of a
-    pass, to line 0 or on a fresh device to line 1, draws a row already, so that each pass is a frame.)"""
-    found, at, steps = [], 0, 0
-    for record in trace:
-        if record.kind == records.STEP:
-            steps += 1
-            if steps % PASS == 0:
-                found.append(at)
-        at += records.LENGTHS[record.kind]
-    return found + [at]
+class Frames:
+    """The frames of a trace: each is what `home-snapshot` draws of the trace up to the end of its pass. (The first step of a pass, to line 0 or on a fresh
+    device to line 1, draws a row already, so that each pass is a frame.)"""
 
+    def __init__(self, trace):
+        programs.short(SNAPSHOT, trace.data)
+        self.trace, self.tally, self.ends, at = trace, play.Tally(), [], 0
+        for record, answer, ended in play.walked(trace, Device(trace), self.tally):
+            if ended:
+                self.ends.append(at)
+            at += records.LENGTHS[record.kind]
+        self.ends.append(at)
 
-def frames(trace, only, progress):
-    """The frames of a trace by their numbers, all of them or one, and how many there are: each is what `home-snapshot` draws of the trace up to its end."""
-    places = ends(trace)
-    wanted = [only] if only else range(1, len(places) + 1)
-    pictures = {}
-    # the longest first: one that is too long for the program is told before anything is drawn
-    for done, number in enumerate(reversed([number for number in wanted if number <= len(places)])):
-        progress.at(done, len(wanted), "frames")
-        pictures[number] = programs.picture(SNAPSHOT, trace.data[: places[number - 1]])
-    progress.end(len(wanted), "frames")
-    return dict(sorted(pictures.items())), len(places)
+    def pictures(self, only, progress):
+        """They themselves by their numbers, all of them or one."""
+        wanted = [number for number in range(1, len(self.ends) + 1) if only in (None, number)]
+        found = {}
+        for done, number in enumerate(wanted):
+            progress.at(done, len(wanted), "frames")
+            found[number] = programs.picture(SNAPSHOT, self.trace.data[: self.ends[number - 1]])
+        progress.end(len(wanted), "frames")
+        return found
+
+    def notes(self, only=None):
+        off = [number for numbers in self.tally.off.values() for number in numbers if only in (None, number)]
+        return [play.off_words(off)] if off else []
 
 
 class Device:
@@ -90,7 +82,7 @@ class Device:
 
     @property
     def address(self):
-        return self.palette.address if self.at("CHOSEN") == CHOSEN_PALETTE else self.beside.address
+        return self.palette.address if self.at("CHOSEN") == library.CHOSEN_PALETTE else self.beside.address
 
     def out(self, port, value):
         self.palette.write(self.beside, port, value)
@@ -107,4 +99,4 @@ class Device:
         refusal, counter, interrupt, report = self.said()
         line = int(counter, 16)
         assert line == self.counter
-        return library.Answer(int(refusal) + (int(interrupt) << 8) + (int(report) << 9) + (line << 16) + ((line < Screen.rows) << 24))
+        return library.Answer(int(refusal) + (int(interrupt) << 8) + (int(report) << 9) + (line << 16) + ((machines.home().screens[0].row_at(line) is not None) << 24))

@@ -9,6 +9,7 @@ import header
 N = header.NUMBERS
 STATE, VRAM = N["STATE_SIZE"], N["VRAM_SIZE"]
 NO_SUCH_AREA = N["REFUSED_AREA"]
+CHOSEN_VIDEO, CHOSEN_PALETTE = 1, 2  # at VDP_AT_CHOSEN
 
 _pointer, _size, _byte = ctypes.c_void_p, ctypes.c_size_t, ctypes.c_uint8
 _slice = [_pointer, _size]
@@ -206,7 +207,7 @@ def _most(there):
 def is_area(number):
     """Whether the library takes an area of this number."""
     device = _probe()
-    return device.calls.vdp_pixel(*device.state.slice, *device.vram.slice, number, 0, 0) & 0xFF != NO_SUCH_AREA
+    return number < 256 and device.calls.vdp_pixel(*device.state.slice, *device.vram.slice, number, 0, 0) & 0xFF != NO_SUCH_AREA
 
 
 @functools.lru_cache(maxsize=None)

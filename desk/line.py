@@ -1,13 +1,23 @@
 """One line of a script as words with their columns, taken from left to right; an error is at a column."""
 import re
 
+import errors
+
 MOST_TIMES = 65536
+MOST_SHOWN = 60  # characters of a word, in an error
+MOST_DIGITS = 12  # of a number: no statement takes a longer one
+LABEL = re.compile(r"([A-Za-z][\w-]*):")
 TOKEN = re.compile(r'\s*(?:(#.*)|("[^"]*")|(=)|([^\s#"=]+)|("))')
 
 
 class Token:
     def __init__(self, text, column, quoted=False):
         self.text, self.column, self.quoted = text, column, quoted
+
+    def __str__(self):
+        """As an error tells it: on one line, and a long one cut."""
+        text = errors.printable(self.text)
+        return f"`{text}`" if len(text) <= MOST_SHOWN else f"`{text[:MOST_SHOWN]}..`"
 
 
 class Wrong(Exception):
@@ -34,10 +44,17 @@ def tokens(line):
 
 
 class Line:
-    """The words of one line, taken from left to right."""
+    """The words of one line, taken from left to right. A label stands before all others, with a colon."""
 
     def __init__(self, found, end):
-        self.found, self.end, self.at = found, end, 0
+        label = found and not found[0].quoted and LABEL.fullmatch(found[0].text)
+        self.label = label.group(1) if label else None
+        self.found, self.end, self.at = found[1:] if label else found, end, 0
+
+    def again(self):
+        """The line from its first word on, as a block takes it several times."""
+        self.at = 0
+        return self
 
     def peek(self):
         return self.found[self.at] if self.at < len(self.found) else None
@@ -60,22 +77,22 @@ class Line:
     def must(self, text):
         token = self.take(f"`{text}`")
         if token.quoted or token.text != text:
-            raise Wrong(token.column, f"`{token.text}` where `{text}` should be")
+            raise Wrong(token.column, f"{token} where `{text}` should be")
 
     def hexadecimal(self, what, most):
         token = self.take(what)
         digits = len(f"{most:X}")
         if token.quoted or not re.fullmatch(r"(0x)?[0-9A-Fa-f]+", token.text) or int(token.text, 16) > most:
-            raise Wrong(token.column, f"`{token.text}`: {what} is hexadecimal, {'0' * digits} to {most:X}")
+            raise Wrong(token.column, f"{token}: {what} is hexadecimal, {'0' * digits} to {most:X}")
         return int(token.text, 16)
 
     def number(self, what, most, least=0):
         token = self.take(what)
         value = None
-        if not token.quoted and re.fullmatch(r"-?[0-9]+|0x[0-9A-Fa-f]+", token.text):
+        if not token.quoted and len(token.text) <= MOST_DIGITS and re.fullmatch(r"-?[0-9]+|0x[0-9A-Fa-f]+", token.text):
             value = int(token.text, 16 if "x" in token.text else 10)
         if value is None or not least <= value <= most:
-            raise Wrong(token.column, f"`{token.text}`: {what} is a number from {least} to {most:,}")
+            raise Wrong(token.column, f"{token}: {what} is a number from {least} to {most:,}")
         return value
 
     def bytes(self, what):
@@ -91,4 +108,4 @@ class Line:
     def close(self):
         token = self.peek()
         if token:
-            raise Wrong(token.column, f"`{token.text}`: nothing more is taken here")
+            raise Wrong(token.column, f"{token}: nothing more is taken here")

@@ -3,6 +3,8 @@ import header
 import home
 import language
 import library
+import machines
+import play
 import records
 
 COMMAND, DATA, LINE = language.COMMAND, language.DATA, library.N["PORT_LINE"]
@@ -11,102 +13,39 @@ CHUNK = 16  # bytes on a line
 WIDTH = 24  # of a statement, where its words begin; a longer one has them behind it
 
 
-def register_words(number, value):
-    """What the rules read in a register."""
-    if number == 0:
-        return f"line interrupts {on(value & 16)}, early clock {on(value & 8)}"
-    if number == 1:
-        return f"display {on(value & 64)}, frame interrupts {on(value & 32)}, sprites {16 if value & 2 else 8} high"
-    if number == 2:
-        return f"the map is at {(value & 0x0E) * 1024:04X}"
-    if number == 5:
-        return f"the table of sprites is at {(value & 0x7E) * 128:04X}"
-    if number == 6:
-        return f"the tiles of sprites are at {8192 if value & 4 else 0:04X}"
-    if number == 8:
-        return f"the background goes {value} to the right"
-    if number == 9:
-        return f"the background goes {value} up, from line 0 of the next pass on"
-    if number == 10:
-        return f"a line interrupt every {value + 1} lines, where they are on"
-    return "no rule reads it"
-
-
-def on(bit):
-    return "on" if bit else "off"
-
-
-def colour_words(red, green, blue):
-    return f"red {red}, green {green}, blue {blue}"
-
-
-class Handheld:
-    """What is said of the handheld alone."""
-
-    colour_size = 2
-    register_words = staticmethod(register_words)
-
-    @staticmethod
-    def colour_words(low, high):
-        return colour_words(low % 16 * 17, low // 16 * 17, high % 16 * 17)
-
-    @classmethod
-    def palette_words(cls, device, address, value):
-        """Of a byte that was written to the palette."""
-        if address % 2 == 0:
-            return f"palette address {address:02X}: latched until the odd byte comes"
-        return f"colour {address // 2}: {cls.colour_words(device.at('PALETTE', 64)[address - 1], value)}"
-
-
-class HomeMachine:
-    """And of the home machine (docs/HOME.md)."""
-
-    colour_size = 1
-
-    @staticmethod
-    def register_words(number, value):
-        if number == 0:
-            locks = f"lock of rows 0 to 15 {on(value & 64)}, lock of columns 192 to 255 {on(value & 128)}"
-            return f"{register_words(0, value)}, fill {on(value & 32)}, {locks}"
-        if number == 7:
-            return f"the fill has colour {16 + value % 16}"
-        return register_words(number, value)
-
-    @staticmethod
-    def colour_words(byte):
-        return colour_words(*home.colour(byte))
-
-    @classmethod
-    def palette_words(cls, device, address, value):
-        return f"colour {address}: {cls.colour_words(value)}"
-
-
-def status_words(value):
-    parts = [words for bit, words in ((0x80, "the screen has ended"), (0x40, "a ninth sprite"), (0x20, "two sprites met")) if value & bit]
-    return ", ".join(parts) or "nothing"
-
-
 def span(first, last, word):
     return f"{word} {first}" if first == last else f"{word}s {first} to {last}"
 
 
-def video_words(device, area, address, values):
-    """What stands at these addresses, by the registers as they are; places of sprites are those of the area."""
+def y_words(screen, registers, sprite, value):
+    """A sprite's Y byte: the line that it begins at, and the row, where the screen shows any of it."""
+    if value == 0xD0:
+        return f"Y byte D0, which ends the list before sprite {sprite}"
+    (first, _), rows = screen.rows_of(value, bool(registers[1] & 2))
+    return f"sprite {sprite} from line {first} on, " + (f"row {first - screen.first_line}" if rows else "off the screen")
+
+
+def x_words(screen, registers, sprite, x, tile):
+    """A sprite's X byte and its tile."""
+    column = f"X {x}, column {screen.column(registers, x)}" + ("" if screen.shows(registers, x) else ", not drawn there")
+    pair = f"its tiles {tile // 2 * 2} and {tile // 2 * 2 + 1} from" if registers[1] & 2 else f"its tile {tile} is"
+    return f"sprite {sprite}: {column}; {pair} {machines.sprite_tile(registers, tile // 2 * 2 if registers[1] & 2 else tile)}"
+
+
+def video_words(device, screen, address, values):
+    """What stands at these addresses, by the registers as they are; places of sprites are those of the screen."""
     last = address + len(values) - 1
     registers = device.registers
     table, names = (registers[5] & 0x7E) * 128, (registers[2] & 0x0E) * 1024
     where = f"{address:04X}" if address == last else f"{address:04X} to {last:04X}"
     if table <= address and last < table + 64:
         if len(values) == 1:
-            if values[0] == 0xD0:
-                return f"{where}: Y byte D0, which ends the list before sprite {address - table}"
-            line = (values[0] + 1) % 256
-            return f"{where}: sprite {address - table} from line {line} on, row {line - area.first_line}"
+            return f"{where}: {y_words(screen, registers, address - table, values[0])}"
         return f"{where}: the Y bytes of {span(address - table, last - table, 'sprite')}"
     if table + 128 <= address and last < table + 256:
         first = (address - table - 128) // 2
         if len(values) == 2 and address % 2 == 0:
-            return f"{where}: sprite {first}: X {values[0]}, column {values[0] - area.left}; tile {values[1]}"
+            return f"{where}: {x_words(screen, registers, first, *values)}"
         return f"{where}: X and tile of {span(first, (last - table - 128) // 2, 'sprite')}"
     if names <= address and last < names + 1792:
         first, end = (address - names) // 2, (last - names) // 2
@@ -147,11 +86,11 @@ class Lister:
     def __init__(self, found, table, each, at_home):
         self.found, self.each, self.at = list(found), each, 0
         self.lines, self.area, self.drawn = [], 0, None
-        self.machine = HomeMachine if at_home else Handheld
-        self.screens = {0: home.Screen} if at_home else library.areas()
+        self.machine, self.tally = machines.machine(at_home), play.Tally()
+        self.screens = self.machine.screens
         self.device = home.Device(found) if at_home else library.Device(table)
         if at_home:
-            self.say("home", f"the home machine, {home.Screen.columns} x {home.Screen.rows}")
+            self.say("home", f"the home machine, {self.screens[0].columns} x {self.screens[0].rows}")
 
     def say(self, statement, words, refusals=(), place=""):
         """A line: where it stands, what was refused, what it does."""
@@ -197,7 +136,7 @@ class Lister:
         if len(both) < 2 or self.device.at("COMMAND_LATCHED"):
             return False
         first, second = both
-        data, size = self.writes_from(self.at + 2, DATA), self.machine.colour_size
+        data, size = self.writes_from(self.at + 2, DATA), self.machine.palette.bytes
         place = self.place()
         if 0x80 <= second <= 0x8A:
             refusals = self.out(2)
@@ -206,7 +145,7 @@ class Lister:
             number = first // size
             data = data[: min(len(data) // size * size, size * (32 - number))]
             refusals = self.out(2 + len(data))
-            words = self.machine.colour_words(*data) if len(data) == size else span(number, number + len(data) // size - 1, "colour")
+            words = self.machine.palette.words(data) if len(data) == size else span(number, number + len(data) // size - 1, "colour")
             self.say(f"colour {number} = {hexes(data)}", words, refusals, place)
         elif 0x40 <= second < 0x80 and data:
             address = first + 256 * (second - 0x40)
@@ -236,7 +175,7 @@ class Lister:
         elif chosen == 1:
             words = video_words(self.device, self.screens[self.area], address, [record.value])
         else:
-            words = self.machine.palette_words(self.device, address, record.value)
+            words = self.palette_words(address, record.value)
         self.say(f"write {record.place:02X} = {record.value:02X}", words, refusals, place)
 
     def second_words(self, first, second):
@@ -244,7 +183,15 @@ class Lister:
             return f"address {(first + 256 * second) % 16384:04X}, " + ("to write" if second >= 0x40 else "to read: the buffer is loaded, and the address goes up")
         if second < 0xC0:
             return f"register {second % 128} is {first:02X}: {self.machine.register_words(second % 128, first)}"
-        return f"palette address {first % (32 * self.machine.colour_size):02X}"
+        return f"palette address {first % (32 * self.machine.palette.bytes):02X}"
+
+    def palette_words(self, address, value):
+        """A byte that was written to the palette on its own."""
+        size = self.machine.palette.bytes
+        if address % size < size - 1:
+            return f"palette address {address:02X}: latched until the odd byte comes"
+        before = [self.device.at("PALETTE", 64)[address - 1]] if size == 2 else []
+        return f"colour {address // size}: {self.machine.palette.words(before + [value])}"
 
     def read(self):
         record, place = self.found[self.at], self.place()
@@ -254,7 +201,7 @@ class Lister:
         if record.place == LINE:
             words = f"the line counter: {value:02X} ({value})"
         elif record.place == COMMAND:
-            words = f"the status: {value:02X}, {status_words(value)}; it is 0 now"
+            words = f"the status: {value:02X}, {machines.status_words(value)}; it is 0 now"
         else:
             words = f"data: {value:02X}; the byte at {address:04X} is read ahead"
         self.say(f"read {record.place:02X}", words, [refusal], place)
@@ -263,14 +210,14 @@ class Lister:
     def steps(self):
         """The steps that follow one another and are of one sort: what they answer, whether they draw, the counter going up by one."""
         area = self.found[self.at].place
+        size = self.screens[area].columns, self.screens[area].rows
         if area != self.area:
-            size = self.screens[area]
-            self.say(f"area {area}", f"steps of area {area} from here on, {size.columns} x {size.rows}")
+            self.say(f"area {area}", f"steps of area {area} from here on, {size[0]} x {size[1]}")
             self.area = area
         row, layers = library.areas()[area].row(), library.areas()[area].layers()
         sort, count, first, last = None, 0, None, None
         while self.at < len(self.found) and self.found[self.at].kind == records.STEP and self.found[self.at].place == area:
-            mark = self.device.mark()
+            mark, before = self.device.mark(), self.device.counter
             answer = self.device.row_step(row, layers, area)
             here = (answer.refusal, answer.interrupt, answer.report, answer.drawn)
             follows = last is None or self.device.counter == last[0] + 1
@@ -279,6 +226,8 @@ class Lister:
                 break
             sort, count, last = here, count + 1, (self.device.counter, answer.row)
             first = first or last
+            self.tally.began(before)
+            self.tally.step(size, answer.drawn, answer.report)
             if self.device.counter == 0:
                 self.drawn = None
             if answer.drawn:
@@ -294,6 +243,12 @@ class Lister:
         self.say(f"steps {count}", f"{lines} {', '.join(words)}", [refusal])
 
 
+    def notes(self):
+        """Which frames end with the display off, those of the visible size first."""
+        return [play.off_words(self.tally.off[size]) for size in sorted(self.tally.off)]
+
+
 def listed(found, table, each=False, at_home=False):
-    """The text of a listing."""
-    return "".join(f"{statement:{WIDTH}}  # {words}\n" for statement, words in Lister(found, table, each, at_home).run())
+    """The text of a listing, and what is to be said of its frames."""
+    lister = Lister(found, table, each, at_home)
+    return "".join(f"{statement:{WIDTH}}  # {words}\n" for statement, words in lister.run()), lister.notes()

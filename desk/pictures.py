@@ -1,6 +1,5 @@
 """Pictures: red, green and blue of each pixel, and what is done with them."""
 import errors
-import play
 
 GRID, GAP, MARK = bytes([128, 128, 128]), bytes([64, 64, 64]), bytes([255, 0, 255])
 TILE = 8
@@ -23,24 +22,29 @@ def of_pixels(size, pixels):
     return Picture(*size, data)
 
 
-def of_layers(size, layers):
-    """R15.5: each pixel by the layer that owns it."""
+def of_layers(size, owners, colours):
+    """Each pixel in the colour of the layer that owns it."""
     tables = [bytearray(256) for _ in range(3)]
-    colours = {0: (32, 32, 32), 1: (255, 0, 255), play.UNDRAWN: (0, 0, 0)}
-    colours.update({64 + n: (4 * n, 255 - 4 * n, 128) for n in range(64)})
     for layer, colour in colours.items():
         for part in range(3):
             tables[part][layer] = colour[part]
-    data = bytearray(3 * len(layers))
+    data = bytearray(3 * len(owners))
     for part in range(3):
-        data[part::3] = layers.translate(bytes(tables[part]))
+        data[part::3] = owners.translate(bytes(tables[part]))
     return Picture(*size, data)
+
+
+def fits(picture, count, scale):
+    """So many pictures of this one's size are not too large for a file, told before they are made."""
+    width, height = picture.width * scale, picture.height * scale
+    if count * width * height > MOST:
+        what = f"a picture of {width:,} x {height:,} is" if count == 1 else f"{count:,} pictures of {width:,} x {height:,} are"
+        raise errors.Bad(f"desk: {what} too large: a smaller --scale, or one --frame")
 
 
 def scaled(picture, scale, grid=False):
     """Each pixel drawn `scale` times across and down; with a grid, a line between any two tiles."""
-    if picture.width * picture.height * scale * scale > MOST:
-        raise errors.Bad(f"desk: a picture of {picture.width * scale:,} x {picture.height * scale:,} is too large: a smaller --scale, or one --frame")
+    fits(picture, 1, scale)
     rows = []
     for y in range(picture.height):
         row = picture.row(y)
@@ -63,8 +67,6 @@ def sheet(pictures, across=None):
         return pictures[0]
     across = across or min(len(pictures), max(2, round(len(pictures) ** 0.5)))
     gap, width, height = 4, pictures[0].width, pictures[0].height
-    if (width + gap) * across * (height + gap) * -(-len(pictures) // across) > MOST:
-        raise errors.Bad(f"desk: {len(pictures):,} frames of {width} x {height} are too large for one picture: a smaller --scale, or one --frame")
     rows = []
     for first in range(0, len(pictures), across):
         line = pictures[first : first + across]

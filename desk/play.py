@@ -2,11 +2,13 @@
 import sys
 import time
 
+import difference
 import errors
+import layers
 import library
 import records
 
-UNDRAWN = 255  # in place of a layer, where no step has drawn
+DISPLAY_OFF = library.N["SCREEN_DONE_NO_REFRESH"]
 LAST_LINE = 255  # the step from it begins a pass
 ALL = 0  # frames to keep
 MOST = 1000  # that are kept
@@ -39,33 +41,76 @@ class Frame:
         self.size, self.pixels, self.layers = size, pixels, layers
 
 
+class Tally:
+    """Counts frames while steps come: a pass that draws a row of a screen is a frame of that screen's size. And which of them end with the display off."""
+
+    def __init__(self):
+        self.counts, self.fresh, self.off = {}, [], {}
+
+    def began(self, line):
+        """A step begins at this line: where a pass has ended, the frames that it has drawn, by size and number."""
+        return self.ended() if line == LAST_LINE else []
+
+    def ended(self):
+        done, self.fresh = self.fresh, []
+        for size in done:
+            self.counts[size] = self.counts.get(size, 0) + 1
+        return [(size, self.counts[size]) for size in done]
+
+    def step(self, size, drawn, report):
+        """A step of a screen of this size: whether it drew a row, and what it reported."""
+        if drawn and size not in self.fresh:
+            self.fresh.append(size)
+        if report == DISPLAY_OFF:
+            for size in self.fresh:
+                self.off.setdefault(size, []).append(self.counts.get(size, 0) + 1)
+
+    def now(self, size):
+        """The number of the frame that is being drawn."""
+        return self.counts.get(size, 0) + 1
+
+
+def off_words(numbers):
+    """What is to be said of frames that end with the display off."""
+    if len(numbers) == 1:
+        return f"frame {numbers[0]} ends with the display off; a player shows nothing new"
+    return f"frames {difference.runs(numbers)} end with the display off; a player shows nothing new"
+
+
+def walked(trace, device, tally):
+    """The records of a trace, done one after the other on a device of either machine: of each the answer, where it is a step, and the frames that ended
+    before it."""
+    row, layers = library.Buffer(max(4 * area.columns for area in library.areas().values())), library.Buffer(max(area.columns for area in library.areas().values()))
+    for record in trace:
+        answer, ended = None, []
+        if record.kind == records.WRITE:
+            device.out(record.place, record.value)
+        elif record.kind == records.READ:
+            device.input(record.place)
+        else:
+            ended = tally.began(device.counter)
+            answer = device.row_step(row, layers, record.place)
+            tally.step(library.areas()[record.place].size, answer.drawn, answer.report)
+        yield record, answer, ended
+
+
 class Canvas:
     """The frame that the steps of one size of area draw into, and those of the finished frames that are kept, by their numbers from 1."""
 
     def __init__(self, area, keep):
-        self.size, self.keep = area.size, keep
+        self.size, self.keep, self.kept = area.size, keep, {}
         self.frame, self.row_layers = area.frame(), area.layers()
-        self.layers = bytearray([UNDRAWN]) * (area.columns * area.rows)
-        self.kept, self.count, self.fresh = {}, 0, False
+        self.layers = bytearray([layers.UNDRAWN]) * (area.columns * area.rows)
 
-    def finish(self):
-        """The pass ends: where it has drawn a row, that is a frame."""
-        if self.fresh:
-            self.count, self.fresh = self.count + 1, False
-            if self.keep in (ALL, self.count):
-                self.store()
+    def finish(self, number):
+        """A frame is done."""
+        if self.keep in (ALL, number):
+            self.store(number)
 
-    def store(self):
+    def store(self, number):
         if len(self.kept) == MOST:
             raise errors.Bad(f"desk: the trace has more than {MOST:,} frames: --frame chooses one")
-        self.kept[self.count] = Frame(self.size, bytes(self.frame.bytes), bytes(self.layers))
-
-    def close(self):
-        """The trace ends. The last frame is kept in any case; there is one, though nothing were drawn."""
-        self.finish()
-        self.count = max(self.count, 1)
-        if self.count not in self.kept:
-            self.store()
+        self.kept[number] = Frame(self.size, bytes(self.frame.bytes), bytes(self.layers))
 
 
 class Run:
@@ -75,6 +120,7 @@ class Run:
     def __init__(self, trace, table, keep=None, progress=None, watch=None):
         self.device, self.keep, self.watch = library.Device(table), keep, watch
         self.canvases, self.rows_drawn = {}, {}  # by the size of an area; by an area's number
+        self.tally = Tally()
         progress = progress or Progress()
         for index, record in enumerate(trace):
             if index % 4096 == 0:
@@ -86,8 +132,7 @@ class Run:
             else:
                 self.step(library.areas()[record.place])
         progress.end(trace.count, "records")
-        for canvas in self.canvases.values():
-            canvas.close()
+        self.finish(self.tally.ended())
 
     def canvas(self, area):
         """Where an area of this size is drawn; one on which nothing was drawn, if none was."""
@@ -95,35 +140,43 @@ class Run:
             self.canvases[area.size] = Canvas(area, self.keep)
         return self.canvases[area.size]
 
+    def finish(self, frames):
+        for size, number in frames:
+            self.canvases[size].finish(number)
+
     def step(self, area):
-        if self.device.counter == LAST_LINE:
-            for canvas in self.canvases.values():
-                canvas.finish()
+        self.finish(self.tally.began(self.device.counter))
         canvas = self.canvas(area)
         answer = self.device.step(canvas.frame, canvas.row_layers, area.number)
+        self.tally.step(area.size, answer.drawn, answer.report)
         if not answer.drawn:
             return
-        canvas.fresh = True
         self.rows_drawn[area.number] = self.rows_drawn.get(area.number, 0) + 1
         start, end = answer.row * area.columns, (answer.row + 1) * area.columns
         layers = bytes(canvas.row_layers.bytes)
         canvas.layers[start:end] = layers
         if self.watch:
-            self.watch(area, answer.row, canvas.count + 1, self.device, bytes(canvas.frame.bytes[4 * start : 4 * end]), layers)
+            self.watch(area, answer.row, self.tally.now(area.size), self.device, bytes(canvas.frame.bytes[4 * start : 4 * end]), layers)
 
     def area(self, asked):
         """The area to look at: the asked one; else the first that has drawn a row, those of area 0's size before the others; else area 0."""
         first = library.areas()[0]
         drawn = [library.areas()[number] for number in self.rows_drawn]
         area = library.areas()[asked] if asked is not None else min(drawn, key=lambda area: (area.size != first.size, area.number), default=first)
-        canvas = self.canvas(area)
-        if not canvas.kept:
-            canvas.close()
         return area
 
     def count(self, area):
-        return self.canvas(area).count
+        """How many frames there are; one, though nothing were drawn."""
+        return max(self.tally.counts.get(area.size, 0), 1)
 
     def frames(self, area):
-        """Those that were kept, by their numbers."""
-        return self.canvas(area).kept
+        """Those that were kept, by their numbers; the last one in any case."""
+        canvas, last = self.canvas(area), self.count(area)
+        if last not in canvas.kept:
+            canvas.store(last)
+        return canvas.kept
+
+    def notes(self, area, only=None):
+        """What is to be said of the frames of an area, or of one of them."""
+        off = [number for number in self.tally.off.get(area.size, []) if only in (None, number)]
+        return [off_words(off)] if off else []

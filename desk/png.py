@@ -8,7 +8,7 @@ SIGNATURE = b"\x89PNG\r\n\x1a\n"
 GREY, COLOUR, PALETTE, GREY_ALPHA, COLOUR_ALPHA = 0, 2, 3, 4, 6
 SAMPLES = {GREY: 1, COLOUR: 3, PALETTE: 1, GREY_ALPHA: 2, COLOUR_ALPHA: 4}
 DEPTHS = {GREY: (1, 2, 4, 8, 16), COLOUR: (8, 16), PALETTE: (1, 2, 4, 8), GREY_ALPHA: (8, 16), COLOUR_ALPHA: (8, 16)}
-LARGEST = 1 << 24  # pixels
+LARGEST = 1 << 18  # pixels of a picture that becomes tiles: 4,096 of them
 
 
 class Image:
@@ -86,25 +86,26 @@ def samples(row, depth, count):
     return [row[i // each] >> (8 - depth * (i % each + 1)) & (1 << depth) - 1 for i in range(count)]
 
 
-def read(data):
-    """The image of a file's bytes. Not interlaced; grey, colours or a palette, with alpha or without."""
+def read(data, most=LARGEST):
+    """The image of a file's bytes, of so many pixels at most. Not interlaced; grey, colours or a palette, with alpha or without."""
     chunks = chunks_of(data)
     if len(chunks.get(b"IHDR", b"")) != 13:
         raise errors.Bad("the PNG is damaged: it has no head")
-    width, height, depth, kind, _, _, laced = struct.unpack(">IIBBBBB", chunks[b"IHDR"])
-    if depth not in DEPTHS.get(kind, ()):
+    width, height, depth, kind, packing, filters, laced = struct.unpack(">IIBBBBB", chunks[b"IHDR"])
+    if depth not in DEPTHS.get(kind, ()) or packing or filters:
         raise errors.Bad(f"the PNG is damaged: kind {kind} with {depth} bits")
     if laced:
         raise errors.Bad("the PNG is interlaced: save it without")
-    if not 0 < width * height <= LARGEST:
-        raise errors.Bad(f"the PNG is {width} x {height}: too large")
+    if not 0 < width * height <= most:
+        raise errors.Bad(f"the PNG is {width} x {height}: {f'too large, it may have {most:,} pixels' if width * height else 'it has no pixel'}")
     count = SAMPLES[kind]
     line, step = (width * count * depth + 7) // 8, max(1, count * depth // 8)
+    wanted = height * (line + 1)
     try:
-        raw = zlib.decompress(chunks.get(b"IDAT", b""))
+        raw = zlib.decompressobj().decompress(chunks.get(b"IDAT", b""), wanted)  # no more than that: a small file can unpack to a very large one
     except zlib.error:
         raise errors.Bad("the PNG is damaged: its pixels cannot be unpacked")
-    if len(raw) < height * (line + 1):
+    if len(raw) < wanted:
         raise errors.Bad("the PNG is damaged: it has too few pixels")
     pixels = []
     for row in unfiltered(raw, height, line, step):
@@ -123,6 +124,8 @@ def read(data):
     if kind != PALETTE:
         return Image(width, height, pixels)
     stored = chunks.get(b"PLTE", b"")
+    if len(stored) % 3:
+        raise errors.Bad("the PNG is damaged: its palette has no whole number of colours")
     palette = [tuple(stored[i : i + 3]) for i in range(0, len(stored), 3)]
     if max(pixels) >= len(palette):
         raise errors.Bad("the PNG is damaged: a pixel has a number that its palette has not")

@@ -47,6 +47,15 @@ def whats_wrong(data, at, home=False):
     return None
 
 
+def hint(data, name):
+    """What to say of text where a trace should be."""
+    if not all(byte in b"\t\r\n" or 0x20 <= byte < 0x7F for byte in data[:256]):
+        return ""
+    if name == "standard input":
+        return ". Is it a script? `-` takes a trace here: `desk make - -o -` makes one of a script"
+    return ". Is it a script? The name of a script ends in .desk"
+
+
 class Trace:
     """The bytes of a trace, each record of them whole; Broken where one is none, as `trace`, or for the home machine `home-trace`, prints `bad` and its
     offset."""
@@ -58,7 +67,7 @@ class Trace:
             mark = data[at : at + 2]
             length = LENGTHS.get(mark)
             if length is None or at + length > len(data) or (mark == STEP and data[at + 2] not in known):
-                raise Broken(f"desk: {name}: byte {at}, record {self.count + 1}: {whats_wrong(data, at, home)}", Trace(data[:at], name, home))
+                raise Broken(f"desk: {name}: byte {at}, record {self.count + 1}: {whats_wrong(data, at, home)}{hint(data, name) if at == 0 else ''}", Trace(data[:at], name, home))
             self.count += 1
             at += length
 

@@ -1,9 +1,9 @@
 """One row in words: what the library drew, and the reasons, which are held to it column by column."""
 import errors
-import header
+import layers
+import machines
 import rules
 
-LAYER_SPRITE, HELD_BACK = header.NUMBERS["LAYER_SPRITE"], header.NUMBERS["LAYER_HELD_BACK"]
 NINTH_BIT, MET_BIT = 0x40, 0x20  # of the status (R5.7, R5.11)
 
 
@@ -13,6 +13,7 @@ class Row:
     def __init__(self, device, area, row):
         self.device, self.area, self.number = device, area, row
         self.pixels, self.layers, self.status = device.row_now(area.number, row)
+        self.registers = device.registers
         self.rules = None
         if area.number in rules.VIEWS:
             memory = bytes(device.vram.bytes)
@@ -44,12 +45,6 @@ class Row:
             raise errors.Bad(self.wrong(f"column {column}: the row has {list(self.pixel(column))}, vdp_pixel {list(alone or b'')}"))
 
 
-def layer_words(layer):
-    if layer >= LAYER_SPRITE:
-        return f"sprite {layer - LAYER_SPRITE}"
-    return "background, which holds a sprite back" if layer == HELD_BACK else "background"
-
-
 def background_words(back):
     flags = [word for word, on in (("flipped across", back.across), ("flipped down", back.down), ("priority", back.priority)) if on]
     return (f"tile {back.tile} of the map's column {back.column}, row {back.line} (entry at {back.entry:04X}), palette {int(back.palette)}, code {back.code}"
@@ -68,19 +63,19 @@ def fate_words(told, sprite, column):
     if fate is None:
         return None
     place, tested = sprite.places[column]
-    code = f"code {sprite.codes[column]} of its tile {sprite.shown}"
+    code = f"code {sprite.codes[column]} of its tile {sprite.shown}, {machines.sprite_tile(told.registers, sprite.shown)}"
     if fate == rules.CLEAR:
         return f"clear: {code}"
     if fate == rules.HELD_BACK:
         where = "" if tested == column else f" (the mask is asked for column {tested}: a scrolled left edge)"
-        return f"held back: {code}, and the background there has priority{where}"
+        return f"held back: {code}; the background there has priority{where}"
     if fate == rules.UNSEEN:
         return f"unseen: its X byte {sprite.x:02X} is off the screen; {code} marks place {place} all the same"
     if fate == rules.STRUCK:
         by = next(other for other in row.laid if place in other.marks)
-        return f"struck: {code}, and sprite {by.number} has marked its place ({place}) already"
-    over = told.layers[column] - LAYER_SPRITE
-    return f"drawn: {code}, colour {16 + sprite.codes[column]}" + ("" if over == sprite.number else f"; then sprite {over} was drawn over it")
+        return f"struck: {code}; sprite {by.number} has marked its place ({place}) already"
+    over = told.layers[column] - layers.SPRITE
+    return f"drawn: {code}; colour {16 + sprite.codes[column]}" + ("" if over == sprite.number else f"; then sprite {over} was drawn over it")
 
 
 def pixel_text(told, column, when):
@@ -91,13 +86,13 @@ def pixel_text(told, column, when):
     lines = [f"row {told.number}, column {column} of area {told.area.number}, {when}",
              f"  bytes   {red:02X} {green:02X} {blue:02X} {last:02X}: red {red}, green {green}, blue {blue}"]
     if told.rules is None:
-        lines.append(f"  layer   {layer}: {layer_words(layer)}")
+        lines.append(f"  layer   {layer}: {layers.words(layer)}")
         lines.append("  (the desk has no reasons for this area)")
         return "\n".join(lines)
     row = told.rules
     colour = row.colours[column]
     lines.append(f"  colour  {colour}: palette {colour // 16}, code {colour % 16}")
-    lines.append(f"  layer   {layer}: {layer_words(layer)}")
+    lines.append(f"  layer   {layer}: {layers.words(layer)}")
     lines.append(f"  behind  {background_words(row.back[column])}")
     on_row = row.laid + row.beyond
     fates = [(sprite, fate_words(told, sprite, column)) for sprite in on_row]
@@ -115,6 +110,11 @@ def columns_words(told, sprite):
     return f"{shown[0]} to {shown[-1]}" if len(shown) > 1 else str(shown[0])
 
 
+def tile_words(sprite):
+    """A sprite's tile on the row, and which of video memory it is."""
+    return f"{sprite.shown}: {sprite.real}, {32 * sprite.real:04X}"
+
+
 def sprites_text(told, when):
     """What `desk sprites` prints of a row."""
     row = told.rules
@@ -123,17 +123,18 @@ def sprites_text(told, when):
     end = f"a Y byte of D0 ends the list before sprite {row.end}" if row.end is not None else "no Y byte of D0 ends the list"
     count = len(row.laid) + len(row.beyond)
     lines = [f"row {told.number} of area {told.area.number} (line {row.line}), {when}",
-             f"  {count or 'no'} sprite{'s' if count != 1 else ''} on the row, each {16 if row.tall else 8} high; their table is at {row.table:04X}; {end}"]
+             f"  {count or 'no'} sprite{'s' if count != 1 else ''} on the row, each {16 if row.tall else 8} high; their table is at {row.table:04X}; {end}",
+             f"  {machines.handheld().register_words(6, told.registers[6])} (register 6)"]
     if count:
-        lines.append("  place  sprite   Y   X  tile  columns      drawn  held back  struck  clear")
+        lines.append("  place  sprite   Y   X  its tile is   columns      drawn  held back  struck  clear")
     for place, sprite in enumerate(row.laid, 1):
         fates = [fate for column, fate in sprite.fates.items() if column < told.area.columns or fate == rules.UNSEEN]
         counts = [fates.count(fate) for fate in (rules.DRAWN, rules.HELD_BACK, rules.STRUCK, rules.CLEAR)]
-        lines.append(f"  {place:5}  {sprite.number:6}  {sprite.y:02X}  {sprite.x:02X}  {sprite.shown:4}  {columns_words(told, sprite):11}"
+        lines.append(f"  {place:5}  {sprite.number:6}  {sprite.y:02X}  {sprite.x:02X}  {tile_words(sprite):12}  {columns_words(told, sprite):11}"
                      f"  {counts[0]:5}  {counts[1]:9}  {counts[2]:6}  {counts[3]:5}" + ("" if sprite.stand.seen else "  unseen"))
     for place, sprite in enumerate(row.beyond, len(row.laid) + 1):
         why = "NINTH: not laid, and sets status bit 6" if place == rules.MOST + 1 else "after the ninth: not laid"
-        lines.append(f"  {place:5}  {sprite.number:6}  {sprite.y:02X}  {sprite.x:02X}  {sprite.shown:4}  {columns_words(told, sprite):11}  {why}")
+        lines.append(f"  {place:5}  {sprite.number:6}  {sprite.y:02X}  {sprite.x:02X}  {tile_words(sprite):12}  {columns_words(told, sprite):11}  {why}")
     if row.met:
         lines.append("  two sprites meet here: status bit 5 is set")
     lines.append("  checked with the library: its row, its layers and its status bits say the same")

@@ -1,4 +1,4 @@
-"""Section 5 of docs/RULES.md once more, in Python, for the words: which sprites are on a row and what became of each of their pixels.
+"""Sections 5, 18 and 20 of docs/RULES.md once more, in Python, for the words: which sprites are on a row and what became of each of their pixels.
 
 The picture itself never comes from here. `told` (row.py) holds every row that is spoken of to the library's answer.
 """
@@ -14,19 +14,38 @@ class Stand:
         self.seen, self.x, self.start, self.end, self.priority, self.mark = seen, x, start, end, priority, mark
 
 
-class Visible:
+class View:
+    """What a screen shows on a row: the map's pixel of each column, where a tile of priority marks, and where a sprite stands."""
+
+    around = False  # whether a sprite goes around from one edge to the other
+
+    def cells(self):
+        """The places of the map, as columns and rows of tiles, that the row shows."""
+        columns = [*range(0, self.width, 8), self.width - 1]
+        return {(self.map_x(x) // 8, self.map_y(x) // 8) for x in columns}
+
+    def edge_stand(self, byte, left):
+        """R18.2, R20.7: both masks go by true screen column, and no pixel outside the row draws or marks."""
+        x = byte - left - self.early
+        return Stand(True, max(x, 0), max(-x, 0), min(self.width - x, 8), max(x, 0), max(x, 0))
+
+
+class Visible(View):
     """Area 0, R5.1, R5.5 and R5.9."""
 
     width, first = 160, 24
 
     def __init__(self, registers, scroll, row):
         self.registers, self.row, self.line = registers, row, row + self.first
-        self.map_y = (self.line + scroll) % 224
+        self.scroll = scroll
         self.cut = (304 - registers[8]) % 256 % 8
         self.early = 8 if registers[0] & 8 else 0
 
     def map_x(self, x):
         return (x + 304 - self.registers[8]) % 256
+
+    def map_y(self, x):
+        return (self.line + self.scroll) % 224
 
     def mark_at(self, x):
         return (x - self.cut) % 256 if x < 8 - self.cut else x
@@ -38,17 +57,20 @@ class Visible:
         return Stand(seen, x, start, end, x - start, byte if seen else byte + start)
 
 
-class Effective:
+class Effective(View):
     """Area 1, R5.1 and R5.10."""
 
-    width = 256
+    width, around = 256, True
 
     def __init__(self, registers, scroll, row):
-        self.line = self.map_y = row
+        self.line = row
         self.early = 8 if registers[0] & 8 else 0
 
     def map_x(self, x):
         return x
+
+    def map_y(self, x):
+        return self.line
 
     mark_at = map_x
 
@@ -58,17 +80,38 @@ class Effective:
 
 
 class TrueEdges(Visible):
-    """Area 2, where the library has one: both masks go by true screen column, and no pixel outside the row draws or marks."""
+    """Area 2, R18.1 and R18.2."""
 
     def mark_at(self, x):
         return x
 
     def stand(self, byte):
-        x = byte - 48 - self.early
-        return Stand(True, max(x, 0), max(-x, 0), min(160 - x, 8), max(x, 0), max(x, 0))
+        return self.edge_stand(byte, 48)
 
 
-# By an area's number. Of an area that is not here the library's answer is told, and no reasons.
+class Home(View):
+    """The home machine's screen, R20.4, R20.5 and R20.7."""
+
+    width = 256
+
+    def __init__(self, registers, scroll, row):
+        self.registers, self.scroll, self.line = registers, scroll, row
+        self.early = 8 if registers[0] & 8 else 0
+
+    def map_x(self, x):
+        return x if self.registers[0] & 64 and self.line < 16 else (x - self.registers[8]) % 256
+
+    def map_y(self, x):
+        return self.line if self.registers[0] & 128 and x >= 192 else (self.line + self.scroll) % 224
+
+    def mark_at(self, x):
+        return x
+
+    def stand(self, byte):
+        return self.edge_stand(byte, 0)
+
+
+# The handheld's, by an area's number. Of an area that is not here the library's answer is told, and no reasons.
 VIEWS = {0: Visible, 1: Effective, 2: TrueEdges}
 
 
@@ -77,7 +120,8 @@ class Sprite:
 
     def __init__(self, number, y, x, tile, shown, address, stand):
         self.number, self.y, self.x, self.tile, self.address, self.stand = number, y, x, tile, address, stand
-        self.shown = shown  # the tile of the row: of one 16 high the upper or the lower of a pair
+        self.shown = shown  # its tile on the row: of one 16 high the upper or the lower of a pair
+        self.real = address // 32  # and which tile of video memory that is
         self.fates = {}  # screen column: DRAWN, HELD_BACK ..
         self.codes = {}
         self.places = {}  # screen column: the place that the sprite mask was asked for, and the one of the priority mask
@@ -115,7 +159,7 @@ class Row:
     def __init__(self, memory, registers, scroll, area, row):
         view = VIEWS[area](registers, scroll, row)
         self.view, self.line = view, view.line
-        self.back = [Background(memory, registers, view.map_x(x), view.map_y) for x in range(view.width)]
+        self.back = [Background(memory, registers, view.map_x(x), view.map_y(x)) for x in range(view.width)]
         self.colours = [back.colour for back in self.back]
         self.layers = [0] * view.width
         self.front = {view.mark_at(x) for x, back in enumerate(self.back) if back.priority and back.code}

@@ -37,23 +37,86 @@ try() {
 # Scripts to traces.
 try 'each statement makes its records' python3 tests/desk/statements.py
 try 'wrong scripts are told by line and column, and nothing is written' python3 tests/desk/wrong_scripts.py "$work/wrong"
-for both in docs/scripts/split-new.desk:split90 tests/desk/layers.desk:layers; do
-    run make "${both%:*}" -o "$work/made.trace"
-    [ "$status" -eq 0 ] && [ ! -s "$work/err" ] && grep -q ' bytes, .* records, 262 steps among them$' "$work/out" && cmp "$work/made.trace" "tests/traces/${both#*:}.trace"
-    tell "${both%:*} makes tests/traces/${both#*:}.trace" $?
+for both in 'docs/scripts/split-new.desk split90 --without display' 'tests/desk/layers.desk layers'; do
+    read -r script name options <<<"$both"
+    run make "$script" $options -o "$work/made.trace"
+    [ "$status" -eq 0 ] && [ ! -s "$work/err" ] && grep -q ' bytes, .* records, 262 steps among them$' "$work/out" && cmp "$work/made.trace" "tests/traces/$name.trace"
+    tell "$script $options makes tests/traces/$name.trace" $?
 done
 "$desk" make - -o - <tests/desk/layers.desk 2>/dev/null | cmp - tests/traces/layers.trace
 tell 'a script on standard input, a trace to standard output' $?
 mkdir "$work/a folder"
 cp docs/scripts/split-new.desk "$work/a folder/a script.desk"
-(cd "$work/a folder" && "$desk" make 'a script.desk' -o 'a trace' >/dev/null) && cmp "$work/a folder/a trace" tests/traces/split90.trace
+(cd "$work/a folder" && "$desk" make 'a script.desk' --without display -o 'a trace' >/dev/null) && cmp "$work/a folder/a trace" tests/traces/split90.trace
 tell 'names with spaces, from another folder' $?
+# What a script includes is looked for beside it, and so are its pictures.
+mkdir "$work/a folder/parts"
+python3 tests/tiles/drawing.py | python3 tools/ppm2png.py >"$work/a folder/parts/drawing.png"
+printf 'palette 0 = drawing.png\ntile 5 = drawing.png 17\n' >"$work/a folder/parts/part.desk"
+printf 'include "parts/part.desk"\nsteps 1\n' >"$work/a folder/whole.desk"
+printf 'palette 0 = parts/drawing.png\ntile 5 = parts/drawing.png 17\nsteps 1\n' >"$work/a folder/alone.desk"
+"$desk" make "$work/a folder/whole.desk" -o "$work/whole.trace" >/dev/null && "$desk" make - -o "$work/alone.trace" >/dev/null <<<"include \"$work/a folder/alone.desk\"" && cmp "$work/whole.trace" "$work/alone.trace"
+tell 'scripts in scripts, each with files beside it' $?
+printf 'include "parts/part.desk"\n  foo\n' >"$work/a folder/whole.desk"
+printf '\nreg 11 = 00\n' >"$work/a folder/parts/part.desk"
+run make "$work/a folder/whole.desk" -o "$work/none"
+[ "$status" -eq 1 ] && [ "$(sed 's/: .*//' "$work/err")" = "$work/a folder/parts/part.desk:2:5
+$work/a folder/whole.desk:2:3" ]
+tell 'errors in either are told by its own line' $?
+says 'a label that there is not' 1 "desk: docs/scripts/split-new.desk: no line has the label \`other\`; labels there are: display" make docs/scripts/split-new.desk --without other -o "$work/none"
+says 'a trace has no labels' 1 'desk: tests/traces/p1.trace: --without goes with a script, whose name ends in .desk: a trace has no labels' list tests/traces/p1.trace --without other
 printf 'steps 1\n\xff\n' >"$work/bytes.desk"
 says 'a script that is no text' 1 "$work/bytes.desk:2:1: byte FF is no text (UTF-8)" make "$work/bytes.desk" -o "$work/none"
 for _ in $(seq 30); do echo foo; done >"$work/many.desk"
 run make "$work/many.desk" -o "$work/none"
 [ "$status" -eq 1 ] && [ "$(wc -l <"$work/err")" -eq 21 ] && [ ! -e "$work/none" ]
 tell 'of many errors twenty are told' $?
+
+# Notes to an author: what is set and is not seen.
+# notes NAME TEXT SCRIPT: of this script, all else fine, the desk says so, or nothing.
+notes() {
+    printf "$3" >"$work/noted.desk"
+    run make "$work/noted.desk" -o "$work/noted.trace"
+    [ "$status" -eq 0 ] && printf "$2" | cmp - "$work/err"
+    tell "$1" $?
+}
+notes 'a sprite whose tile nothing has written, beside one that something has' "desk: note: $work/noted.desk:2: sprite 0 shows tile 257 at 2020 (register 6 has bit 2), which nothing has written; what was written is tile 1 at 0020\n" \
+    'tile 1 = 11111111 times 8\nsprite 0 = 36 40 1\nsprite 1 end\npass\n'
+notes 'none where the tile is written' '' 'tile 1 = 11111111 times 8\nsprite 0 = 36 40 1\ntile 257 = 00000000 times 8\nsprite 1 end\npass\n'
+notes 'none where register 6 has no bit 2' '' 'reg 6 = FB\ntile 1 = 11111111 times 8\nsprite 0 = 36 40 1\nsprite 1 end\npass\n'
+notes 'none where the sprite is off the screen, behind the end of the list, or on no row that is drawn' '' \
+    'tile 1 = 11111111 times 8\nsprite 0 = 160 40 1\nsprite 1 = 8 -8 1\nsprite 2 end\nsprite 3 = 8 8 1\npass\nsprite 0 = 8 100 1\nsteps 60\nsprite 0 end\npass\n'
+notes 'the other way round, of sprites 16 high' "desk: note: $work/noted.desk:3: sprite 0 shows tile 4 at 0080 (register 6 has no bit 2), which nothing has written; what was written is tile 260 at 2080\n" \
+    'reg 6 = FB\nreg 1 = 42\nsprite 0 = 36 40 5\ntile 261 = 11111111 times 8\nsprite 1 end\npass\n'
+lost='the screen shows nothing of this part of the map: where nothing scrolls it has the map'"'"'s columns 6 to 25, rows 3 to 20, and `map screen 0 0` is its upper left corner'
+notes 'a place of the map that the screen does not show' "desk: note: $work/noted.desk:2: $lost\n" 'map 6 3 = 1\nmap 0 0 = 1\nmap screen 0 0 = 1\nmap 0 3 = 1 times 7\nsprite 0 end\npass\n'
+notes 'none where scroll brings it in, or where nothing is drawn' '' 'map 5 20 = 1\nmap 6 21 = 1\nreg 8 = 01\nreg 9 = 01\nsprite 0 end\npasses 2\n'
+notes 'and of many the first three' "$(for n in 1 2 3; do printf "desk: note: $work/noted.desk:$n: $lost\\\\n"; done)desk: note: 2 more like the last one\n" 'map 0 0 = 1\nmap 1 0 = 1\nmap 2 0 = 1\nmap 3 0 = 1\nmap 4 0 = 1\nsprite 0 end\npass\n'
+notes 'of the home machine' "desk: note: $work/noted.desk:2: ${lost/columns 6 to 25, rows 3 to 20/columns 0 to 31, rows 0 to 23}\n" 'home\nmap 0 24 = 1\nmap 0 0 = 1\nsprite 0 end\npass\n'
+# And where a frame ends with the display off.
+printf 'reg 1 = 40\npass\nreg 1 = 00\npasses 2\nreg 1 = 40\npass\nreg 1 = 00\nsteps 100\n' >"$work/off.desk"
+printf 'home\nreg 1 = 40\nuntil line 255\nreg 1 = 00\npass\n' >"$work/home-off.desk"
+off='desk: note: frames 2 to 3 end with the display off; a player shows nothing new'
+for command in "show -o $work/off.png" list "differ $work/off.desk" "differ $work/off.desk -o $work/off.png --frame 1"; do
+    read -r word rest <<<"$command"
+    run $word "$work/off.desk" $rest
+    case $command in *'--frame 1') expected= ;; *) expected=$off ;; esac
+    [ "$status" -eq 0 ] && [ "$(cat "$work/err")" = "$expected" ]
+    tell "$command: frames that end with the display off" $?
+done
+for word in "show -o $work/off.png" list; do
+    run ${word%% *} "$work/home-off.desk" --home ${word#"${word%% *}"}
+    [ "$status" -eq 0 ] && [ "$(cat "$work/err")" = 'desk: note: frame 2 ends with the display off; a player shows nothing new' ]
+    tell "$word --home: a frame that ends with the display off" $?
+done
+status=0
+for script in docs/scripts/*.desk; do
+    home=
+    grep -q '^home$\|home-scene' $script && home=--home
+    run list $script $home
+    [ "$status" -eq 0 ] && [ ! -s "$work/err" ] || { echo "$script: $(cat "$work/err")"; status=1; break; }
+done
+tell 'the scripts of docs need no note' $status
 
 # Pictures as tiles.
 try 'PNGs of every kind, depth and filter become tiles, and damaged ones are told' python3 tests/desk/pngs.py "$work/png"
@@ -81,6 +144,7 @@ for trace in build/test/desk/random/*.trace; do
     texts="$texts $trace ${trace%.trace}.text" frames="$frames $trace ${trace%.trace}.ppm"
 done
 try 'listings, word for word' python3 tests/desk/listed.py
+try 'sprites and places of the map are where the desk says' python3 tests/desk/places.py
 try 'listings make their traces again, and say of each record what trace prints' python3 tests/desk/round.py $texts
 run list tests/traces/sprites.trace
 cp "$work/out" "$work/listing.desk"
@@ -113,9 +177,12 @@ tell 'and by layers that of layers' $?
 build/bin/snapshot tests/traces/split90.trace | python3 tools/ppm2png.py 2 >"$work/program.png"
 "$desk" show tests/traces/split90.trace --scale 2 -o "$work/shown.png" >/dev/null && cmp "$work/program.png" "$work/shown.png"
 tell 'split90: the file of snapshot and ppm2png.py' $?
-build/bin/layers tests/traces/layers.trace | python3 tools/ppm2png.py 2 >"$work/program.png"
-"$desk" show tests/traces/layers.trace --layers --scale 2 -o "$work/shown.png" >/dev/null && cmp "$work/program.png" "$work/shown.png" && python3 tests/desk/same.py "$work/shown.png" docs/layers.png
-tell 'layers: that of layers, and of docs/layers.png' $?
+# By layers in colours of its own, with a legend below; those of the program are what --check holds it to.
+try 'the colours of layers' python3 tests/desk/layer_colours.py
+run show tests/traces/layers.trace --layers --check -o "$work/shown.png"
+[ "$status" -eq 0 ] && grep -qx 'checked: `layers` draws the same' "$work/out" &&
+    python3 tests/desk/at.py "$work/shown.png" 0,0=32,32,32 65,24=255,0,255 27,24=204,255,153 0,144=64,64,64 3,147=32,32,32 7,147=32,32,32 8,147=24,24,24 11,147=224,224,224
+tell 'layers in colours that the eye tells apart, with a legend' $?
 build/bin/snapshot-261 tests/traces/late.trace | python3 tools/ppm2png.py >"$work/program.png"
 "$desk" show tests/traces/late.trace --table 0 --frame 2 -o "$work/shown.png" >/dev/null && cmp "$work/program.png" "$work/shown.png"
 tell 'table 0: that of snapshot-261' $?
@@ -140,9 +207,21 @@ tell '--check catches a picture that is another' $?
 run show docs/scripts/flicker.desk -o "$work/two.png"
 [ "$status" -eq 0 ] && [ "$(cat "$work/out")" = "$work/two.png: 2 frames of 160 x 144, row by row" ] && [ "$(od -An -tx1 -j16 -N8 "$work/two.png" | tr -d ' ')" = 0000014400000090 ]
 tell 'two frames are one sheet' $?
-run show docs/scripts/flicker.desk --layers --grid --frame 2 --scale 3 -o "$work/grid.png"
+run show docs/scripts/flicker.desk --grid --frame 2 --scale 3 -o "$work/grid.png"
 [ "$status" -eq 0 ] && [ "$(od -An -tx1 -j16 -N8 "$work/grid.png" | tr -d ' ')" = "$(printf '%08x%08x' $((160 * 3 + 19)) $((144 * 3 + 17)))" ]
 tell 'a grid has a line between any two tiles' $?
+# Rulers: what is written beside the picture covers no pixel of it, and the marks stand at rows and columns.
+status_rulers=0
+for scale in 1 2 3; do
+    zoom=$((scale < 2 ? 1 : 2))
+    side=$((16 * zoom + 3)) top=$((14 * zoom + 3))
+    "$desk" show docs/scripts/split-new.desk --rulers --scale $scale -o "$work/ruled.png" >/dev/null &&
+        [ "$(od -An -tx1 -j16 -N8 "$work/ruled.png" | tr -d ' ')" = "$(printf '%08x%08x' $((160 * scale + 2 * side)) $((144 * scale + top + zoom)))" ] &&
+        python3 tests/desk/at.py "$work/ruled.png" $side,$top=102,102,102 $side,$((top + scale))=255,0,0 $((side + 160 * scale - 1)),$((top + 67 * scale))=0,0,255 $side,$((top + 67 * scale - 1))=255,0,0 \
+            $((side - 1)),$((top + 64 * scale))=128,128,128 $((side - 1)),$((top + 64 * scale + 1))=24,24,24 $((side + 160 * scale)),$((top + 136 * scale))=128,128,128 $((side + 152 * scale)),$((top - 1))=128,128,128 || status_rulers=1
+done
+tell 'rulers stand beside the picture, at every scale' $status_rulers
+try 'what they say, letter by letter' python3 tests/desk/rulers.py
 run show tests/traces/areas.trace --area 1 -o "$work/effective.png"
 [ "$status" -eq 0 ] && grep -q '256 x 224' "$work/out"
 tell 'steps of the effective area are shown where they are asked for' $?
@@ -152,7 +231,7 @@ run make "$work/long.desk" -o "$work/long.trace"
 tell 'a trace that is too long for the programs is made, and the desk says so' $?
 says 'which --check tells too' 1 'desk: the trace has 96,984 bytes, and `snapshot` takes at most 65,535' show "$work/long.trace" --check -o "$work/none"
 run show "$work/long.trace" --progress -o "$work/long.png"
-[ "$status" -eq 0 ] && grep -q '40 frames' "$work/out" && grep -q '^desk: 0 of 26,866 records$' "$work/err" && [ "$(tail -n 1 "$work/err")" = 'desk: 26,866 of 26,866 records' ]
+[ "$status" -eq 0 ] && grep -q '40 frames' "$work/out" && grep -q '^desk: 0 of 26,866 records$' "$work/err" && grep -qx 'desk: 26,866 of 26,866 records' "$work/err"
 tell 'and shown, with progress' $?
 says 'a picture that is too large' 1 'desk: a picture of 160,000 x 144,000 is too large: a smaller --scale, or one --frame' show tests/traces/split90.trace --scale 1000 -o "$work/none"
 
@@ -173,6 +252,35 @@ tell 'one that begins late' $?
 run differ docs/scripts/flicker.desk docs/scripts/split-new.desk
 [ "$status" -eq 0 ] && grep -q '^desk: note: .* has 2 frames, .* 1 frame: those that both have are compared$' "$work/err"
 tell 'another number of frames is told' $?
+
+says 'differ of one' 1 'desk differ: a second trace is missing, or --without LABEL (--help tells more)' differ docs/scripts/split-old.desk
+says 'differ of two, and a label' 1 'desk differ: two traces, or one script and --without LABEL, but not both' differ docs/scripts/split-old.desk docs/scripts/split-new.desk --without display
+"$desk" differ docs/scripts/write-colour.desk --without write --brief >"$work/out" 2>"$work/err"
+[ $? -eq 0 ] && [ ! -s "$work/err" ] && [ "$(cat "$work/out")" = 'frame 1: 12,320 of 23,040 pixels differ, in rows 67 to 143
+frame 2: 23,040 of 23,040 pixels differ, in rows 0 to 143' ]
+tell 'differ --without: one script, without its marked line and with it' $?
+run differ docs/scripts/flicker.desk --layers docs/scripts/split-new.desk
+[ "$status" -eq 0 ] && grep -qx '  first: row 40, column 2: A has sprite 0; B has background' "$work/out"
+tell 'differ --layers: in words, which layers' $?
+
+# Interrupts.
+run interrupts docs/scripts/write-count.desk
+[ "$status" -eq 0 ] && [ ! -s "$work/err" ] && [ "$(cat "$work/out")" = 'frame 1: lines 1, 33, 65, 97, 129, 161, 193
+frame 2: lines 30, 62, 94, 110, 126, 142, 158, 174, 190' ]
+tell 'interrupts: the lines of each frame' $?
+printf 'reg 0 = 10\nreg 1 = 60\nreg 10 = FE\nsprite 0 end\npass\nreg 10 = 00\nsteps 1\nread BF\nuntil line 255\n' >"$work/interrupts.desk"
+run interrupts "$work/interrupts.desk"
+[ "$status" -eq 0 ] && [ "$(cat "$work/out")" = 'frame 1: lines 1, 193 to 218, 213 to 255
+frame 2: lines 0 to 1, 193 to 218, 213 to 255' ]
+tell 'interrupts: until the status is read' $?
+{ echo home; cat "$work/interrupts.desk"; } >"$work/home-interrupts.desk"
+cp "$work/out" "$work/expected"
+run interrupts "$work/home-interrupts.desk" --home
+[ "$status" -eq 0 ] && cmp "$work/expected" "$work/out"
+tell 'interrupts --home: the same' $?
+run interrupts tests/traces/p1.trace
+[ "$status" -eq 0 ] && [ "$(cat "$work/out")" = 'frame 1: none' ]
+tell 'interrupts: none' $?
 
 # Pixels and sprites.
 try 'every pixel of some rows is that of the frame that snapshot draws' python3 tests/desk/pixels.py 5 $frames
@@ -229,8 +337,8 @@ run palette tests/traces/layers.trace -o "$work/palette.png" --scale 4
 tell 'palette: its picture' $?
 
 # The home machine: its frames are what home-snapshot draws up to the end of each pass.
-cat docs/scripts/home-scene.desk docs/scripts/home-fill.desk >"$work/fill.desk"
-"$desk" make "$work/fill.desk" -o "$work/fill.trace" >/dev/null
+fill=docs/scripts/home-fill.desk
+"$desk" make $fill -o "$work/fill.trace" >/dev/null
 for frame in 1 2; do
     # behind the first pass stand 192 steps and a read
     head -c "$(($(wc -c <"$work/fill.trace") - (2 - frame) * 579))" "$work/fill.trace" | build/bin/home-snapshot | python3 tools/ppm2png.py 2 >"$work/program.png"
@@ -240,7 +348,7 @@ for frame in 1 2; do
 done
 python3 tests/desk/same.py "$work/shown.png" docs/home-fill.png
 tell 'show --home: and docs/home-fill.png' $?
-run show "$work/fill.desk" --home -o "$work/two.png"
+run show $fill --home -o "$work/two.png"
 [ "$status" -eq 0 ] && [ "$(cat "$work/out")" = "$work/two.png: 2 frames of 256 x 192, row by row, on the home machine" ] && [ "$(od -An -tx1 -j16 -N8 "$work/two.png" | tr -d ' ')" = "$(printf '%08x%08x' 516 192)" ]
 tell 'show --home: of a script, two frames are one sheet' $?
 run show "$work/fill.trace" --home --frame 2 --grid --scale 3 -o "$work/grid.png"
@@ -258,24 +366,24 @@ run show tests/traces/empty.trace --home -o "$work/shown.png"
 [ "$status" -eq 0 ] && grep -q ': 1 frame, 256 x 192' "$work/out" && [ "$(cat "$work/err")" = 'desk: note: no step of the trace has drawn a row' ]
 tell 'show --home: nothing drawn' $?
 alone='do not go together'
-says 'show --home --layers' 1 "desk show: --home and --layers $alone: the home machine tells no layers" show "$work/fill.trace" --home --layers -o "$work/none"
+says 'show --home --layers' 1 "desk show: --home and --layers $alone: the home machine has no layers" show "$work/fill.trace" --home --layers -o "$work/none"
 says 'show --home --check' 1 "desk show: --home and --check $alone: the picture is that of the program \`home-snapshot\` already" show "$work/fill.trace" --home --check -o "$work/none"
 says 'show --home --area' 1 "desk show: --home and --area $alone: the home machine has one picture, and no areas" show "$work/fill.trace" --home --area 0 -o "$work/none"
 says 'show --home --table 0' 1 "desk show: --home and --table 0 $alone: the programs of the home machine go by table 1 alone" show "$work/fill.trace" --home --table 0 -o "$work/none"
 says 'list --home --table 0' 1 "desk list: --home and --table 0 $alone: the programs of the home machine go by table 1 alone" list "$work/fill.trace" --home --table 0
-says 'make --table 0 of a script for the home machine' 1 "$work/fill.desk:3:1: the programs of the home machine go by table 1 alone" make "$work/fill.desk" --table 0 -o "$work/none"
+says 'make --table 0 of a script for the home machine' 1 "docs/scripts/home-scene.desk:3:1: the programs of the home machine go by table 1 alone" make $fill --table 0 -o "$work/none"
 says 'show --home: a step of another area, by its offset' 1 "desk: tests/traces/areas.trace: byte 3, record 2: a step of area 1, and the home machine's steps are of area 0" show tests/traces/areas.trace --home -o "$work/none"
 [ "$(build/bin/home-trace tests/traces/areas.trace | tail -n 1)" = 'bad 3' ]
 tell 'as home-trace tells it' $?
 says 'show --home: a frame that is not there' 1 "desk: $work/fill.trace: frame 3, and there are 2 frames" show "$work/fill.trace" --home --frame 3 -o "$work/none"
 says 'show --home: a trace that is too long for the program' 1 'desk: the trace has 96,984 bytes, and `home-snapshot` takes at most 65,535' show "$work/long.trace" --home -o "$work/none"
-for command in list 'show -o none.png' 'pixel 0 0' sprites 'tiles -o none.png' palette "differ $work/fill.desk"; do
+for command in list interrupts 'show -o none.png' 'pixel 0 0' sprites 'tiles -o none.png' palette "differ $fill"; do
     read -r word rest <<<"$command"
     # a row and a column stand behind the script, all else may
-    says "$word: a script for the home machine" 1 "$work/fill.desk:3:1: the script is for the home machine: \`desk make\` takes it, and \`show\` and \`list\` with --home" $word "$work/fill.desk" $rest
+    says "$word: a script for the home machine" 1 "docs/scripts/home-scene.desk:3:1: the script is for the home machine: \`desk make\` takes it, and \`show\`, \`list\` and \`interrupts\` with --home" $word $fill $rest
 done
-damaged 's/no C call/no call/I' home.py && rm "$work/copy/build" && mkdir "$work/copy/build" && "$work/copy/desk/desk" show "$work/fill.trace" --home -o "$work/none" >"$work/out" 2>"$work/err"
-[ $? -eq 2 ] && [ "$(cat "$work/err")" = "desk: no $work/copy/build/bin/home-snapshot: \`make\` makes it" ]
+damaged 's/no C call/no call/I' home.py && rm "$work/copy/build" && mkdir "$work/copy/build" && ln -s "$PWD/build/native" "$work/copy/build/native" && "$work/copy/desk/desk" show "$work/fill.trace" --home -o "$work/none" >"$work/out" 2>"$work/err"
+[ $? -eq 2 ] && [ "$(cat "$work/err")" = "desk: no $work/copy/build/bin/home-trace: \`make\` makes it" ]
 tell 'show --home: no program' $?
 [ ! -e "$work/none" ]
 tell 'nothing was written' $?
@@ -300,10 +408,10 @@ tell 'list --home: a damaged trace, and what stands before it' $?
 # Help, words that are wrong, and what cannot be read or written.
 run --help
 status_help=$status
-for command in make list show differ pixel sprites tiles palette; do
-    grep -q "^    $command " "$work/out" || status_help=1
+for command in make list interrupts show differ pixel sprites tiles palette; do
+    grep -qE "^    $command( |\$)" "$work/out" || status_help=1
 done
-for command in make list show differ pixel sprites tiles palette; do
+for command in make list interrupts show differ pixel sprites tiles palette; do
     run $command --help
     [ "$status" -eq 0 ] && [ ! -s "$work/err" ] && grep -q "^usage: desk $command " "$work/out" || status_help=1
 done
@@ -315,6 +423,20 @@ says 'a row that is not there' 1 'desk: row 144: area 0 has rows 0 to 143' pixel
 says 'a column that is not there' 1 'desk: column 160: area 0 has columns 0 to 159' pixel tests/traces/p1.trace 143 160
 says 'an area that is not there' 1 'desk: area 200: the library has no such area' show tests/traces/p1.trace --area 200 -o "$work/none"
 says 'a frame that is not there' 1 'desk: tests/traces/split90.trace: frame 2, and there is 1 frame' show tests/traces/split90.trace --frame 2 -o "$work/none"
+says 'an area that 8 bits cut to one that is' 1 'desk: area 256: the library has no such area' show tests/traces/p1.trace --area 256 -o "$work/none"
+says 'a sprite that is not there' 1 'desk sprites: argument --sprite: `64` is no number from 0 to 63 (--help tells more)' sprites tests/traces/p1.trace --sprite 64
+cp docs/scripts/split-new.desk "$work/q.desk"
+ln "$work/q.desk" "$work/other-name"
+for output in "$work/q.desk" "$work/other-name" "$work/../desk/q.desk"; do
+    says "an output that is the input: ${output##*/desk/}" 1 "desk: $output: the output is an input, which it would be written over: name another file" show "$work/q.desk" -o "$output"
+done
+cmp docs/scripts/split-new.desk "$work/q.desk"
+tell 'which is left as it was' $?
+"$desk" show - -o "$work/none" <docs/scripts/split-new.desk >"$work/out" 2>"$work/err"
+[ $? -eq 1 ] && [ "$(cat "$work/err")" = 'desk: standard input: byte 0, record 1: no record begins with the bytes 23 20. Is it a script? `-` takes a trace here: `desk make - -o -` makes one of a script' ]
+tell 'a script on standard input, where a trace is taken' $?
+cp "$work/q.desk" "$work/q.txt"
+says 'a script with another name' 1 "desk: $work/q.txt: byte 0, record 1: no record begins with the bytes 23 20. Is it a script? The name of a script ends in .desk" show "$work/q.txt" -o "$work/none"
 says 'a trace that is not there' 2 "desk: $work/none: No such file or directory" list "$work/none"
 says 'a folder in place of a trace' 2 "desk: $work: Is a directory" list "$work"
 says 'a script that is not there' 2 "desk: none.desk: No such file or directory" make none.desk -o "$work/none"
@@ -335,6 +457,9 @@ tell 'a reader that goes away is no error to tell' $?
 export DESK_LIBRARY=$work/none
 says 'no library' 2 "desk: no $work/none: \`make desk\` makes it" list tests/traces/p1.trace
 unset DESK_LIBRARY
+
+# Bad input of every kind.
+try 'no traceback, whatever is given' python3 tests/desk/hostile.py 40 "${SEED:-1}" "$work/hostile"
 
 # The pages.
 try 'docs/DESK.md is as its commands have it' python3 tests/desk/document.py docs/DESK.md "$work/page"

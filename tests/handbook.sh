@@ -76,12 +76,9 @@ if command -v python3 >/dev/null; then
     try 'its commands print what stands there, and draw its pictures' python3 tests/desk/document.py $book $work/page
     # By table 0 the pictures are the same.
     status=0
-    for both in 'at-once show --scale 2' 'scroll show --scale 2' 'count show --frame 2 --scale 2' 'sprite differ --sides'; do
+    for both in 'at-once show --scale 2' 'scroll show --scale 2' 'count show --frame 2 --scale 2' 'sprite differ --without write --sides'; do
         read -r name command options <<<"$both"
-        grep -v 'THE WRITE' docs/scripts/write-$name.desk >$work/without.desk
-        old=
-        [ $command = show ] || old=$work/without.desk
-        build/bin/desk $command --table 0 $old docs/scripts/write-$name.desk $options -o $work/table-0.png >/dev/null && python3 tests/desk/same.py $work/table-0.png docs/handbook-$name.png || status=1
+        build/bin/desk $command --table 0 docs/scripts/write-$name.desk $options -o $work/table-0.png >/dev/null && python3 tests/desk/same.py $work/table-0.png docs/handbook-$name.png || status=1
     done
     tell 'by table 0 its pictures are the same' $status
     try 'each write shows first in the row that is told' python3 tests/handbook/rows.py $book

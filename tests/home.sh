@@ -77,9 +77,12 @@ if ! command -v python3 >/dev/null; then
     exit
 fi
 
-# made NAME SCRIPT: the trace and the picture of a script behind the scene.
+# made NAME SCRIPT: the trace and the picture of a script. behind NAME LINES: those of these lines, as printf has them, behind the scene.
 made() {
-    cat docs/scripts/home-scene.desk "$2" | build/bin/desk make - -o $work/$1.trace >/dev/null && build/bin/home-snapshot $work/$1.trace >$work/$1.ppm
+    build/bin/desk make "$2" -o $work/$1.trace >/dev/null && build/bin/home-snapshot $work/$1.trace >$work/$1.ppm
+}
+behind() {
+    { cat docs/scripts/home-scene.desk; printf "$2"; } >$work/$1.desk && made "$1" $work/$1.desk
 }
 for name in bar panel fill; do
     made $name docs/scripts/home-$name.desk && python3 tools/ppm2png.py 2 <$work/$name.ppm | cmp docs/home-$name.png -
@@ -98,13 +101,11 @@ tell 'the discs meet under the fill' $?
 shows bar 104 252 4 ffff00 && shows bar 104 0 8 005500
 tell 'a sprite at column 252 is cut by the right edge, and does not come in on the left' $?
 # A status bar that follows the vertical scroll, and a panel that follows the sideways one.
-printf 'reg 0 = C0\nreg 8 = 14\nreg 9 = 28\nuntil line 255\nuntil line 191\n' >$work/both.desk
-made both $work/both.desk
+behind both 'reg 0 = C0\nreg 8 = 14\nreg 9 = 28\nuntil line 255\nuntil line 191\n'
 shows both 0 192 64 000055 && shows both 15 0 1 0055aa && shows both 184 20 172 000055 && shows both 16 192 4 0055aa && shows both 16 196 7 aa5500 && shows both 16 212 44 00aa00
 tell 'both locks at once' $?
 # Tiles of priority under the fill hold both discs back, so that nothing meets.
-{ printf 'map 29 7 = 8 priority times 2\nmap 29 8 = 8 priority times 2\n'; cat docs/scripts/home-fill.desk; } >$work/held.desk
-made held $work/held.desk
+behind held "map 29 7 = 8 priority times 2\nmap 29 8 = 8 priority times 2\n$(grep -v include docs/scripts/home-fill.desk)\n"
 [ "$(build/bin/home-trace $work/held.trace | grep '^r ' | tr '\n' ' ')" = 'r 0 80 r 0 00 ' ] && shows held 63 0 8 555555 && shows held 63 8 12 005500
 tell 'priority holds sprites back under the fill' $?
 
@@ -115,8 +116,7 @@ status=$?
 tell "its commands print what stands there, and draw its pictures: $(tail -n 1 <<<"$said")" $status
 
 # The question of the page: a colour that changes while the counter reads 90.
-printf 'until line 255\nuntil line 90\ncolour 0 = 3F\nuntil line 191\n' >$work/ninety.desk
-made ninety $work/ninety.desk
+behind ninety 'until line 255\nuntil line 90\ncolour 0 = 3F\nuntil line 191\n'
 shows ninety 90 40 8 0055aa && shows ninety 91 40 8 ffffff && shows ninety 191 40 1 ffffff
 tell 'a colour changed at line 90: row 90 has the old one, row 91 the new' $?
 

@@ -6,7 +6,7 @@ import sys
 sys.path.insert(0, str(pathlib.Path(__file__).resolve().parents[2] / "desk"))
 import png  # noqa: E402
 
-image = png.read(pathlib.Path(sys.argv[1]).read_bytes())
+image = png.read(pathlib.Path(sys.argv[1]).read_bytes(), 1 << 24)
 for word in sys.argv[2:]:
     place, colour = word.split("=")
     x, y = map(int, place.split(","))

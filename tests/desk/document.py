@@ -3,7 +3,7 @@
 shows to those that the commands draw. With --write the page and its pictures are made anew instead.
 
 A block ```console has commands, each behind `$ `, and below each what it prints on standard output and standard error. They run one after the other in
-FOLDER, which sees the project's docs and tests; a picture that the page shows is one that a command has written there."""
+FOLDER, which sees the project's docs, tests and examples; a picture that the page shows is one that a command has written there."""
 import difflib
 import os
 import pathlib
@@ -19,9 +19,9 @@ sys.path.insert(0, str(root / "desk"))
 import png  # noqa: E402
 
 folder.mkdir(parents=True, exist_ok=True)
-for name in ("docs", "tests"):
+for name in ("docs", "tests", "examples"):
     (folder / name).symlink_to(root / name)
-environment = dict(os.environ, PATH=f"{root}/build/bin:{os.environ['PATH']}", LC_ALL="C.UTF-8")
+environment = dict(os.environ, PATH=f"{root}/build/bin:{root}/build/cartridge:{os.environ['PATH']}", LC_ALL="C.UTF-8")
 ran = 0
 
 
@@ -38,7 +38,7 @@ def again(block):
 
 
 def pixels(path):
-    image = png.read(path.read_bytes())
+    image = png.read(path.read_bytes(), 1 << 24)
     return image.width, image.height, image.colours()
 
 

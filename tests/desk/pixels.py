@@ -28,7 +28,7 @@ for trace, frame in zip(sys.argv[2::2], sys.argv[3::2]):
         else:
             data = pictures.of_pixels(area.size, run.frames(area)[run.count(area)].pixels).data
         for number in [*range(0, 16, 2), *pick.sample(range(16, height), count)]:
-            options = argparse.Namespace(trace=trace, row=number, table=1, area=area.number, frame=None, now=False, progress=False)
+            options = argparse.Namespace(trace=trace, row=number, table=1, area=area.number, frame=None, now=False, progress=False, without=[])
             row, when = commands.told_row(options)
             colours = row.device.colours()
             for column in range(width):

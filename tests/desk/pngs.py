@@ -82,18 +82,18 @@ def case(name, data, script, codes):
     """This file, by this script, becomes tiles of these codes."""
     global cases
     (folder / f"{name}.png").write_bytes(data)
-    found = codes_after(language.made(script, name, folder, 1), len(codes) // 64)
+    found = codes_after(language.made(script, name, folder, 1).trace, len(codes) // 64)
     if found != codes:
         sys.exit(f"{name}: the codes are {found}, not {codes}")
     cases += 1
 
 
-def damaged(name, data, error):
+def damaged(name, data, error, words=""):
     """This file is told by what is wrong with it, and nothing is written."""
     global cases
     (folder / f"{name}.png").write_bytes(data)
     script, trace, said = folder / f"{name}.desk", folder / f"{name}.trace", io.StringIO()
-    script.write_text(f"# what is wrong is in line 2\n  tile 0 = {name}.png\n")
+    script.write_text(f"# what is wrong is in line 2\n  tile 0 = {name}.png{words}\n")
     with contextlib.redirect_stderr(said):
         status = arguments.called(["make", str(script), "-o", str(trace)])
     wanted = f"{script}:2:12: {folder}/{name}.png: {error}\n"
@@ -145,6 +145,15 @@ case("black", png(6, 8, rows_of(lambda c: (0, 0, 0, 255 * (c > 7))), 0), "palett
 case("own-colours", png(2, 8, rows_of(lambda c: COLOURS[c]), 0), "palette 0 = own-colours.png\ntile 0 = own-colours.png\n",
      tiled([list(dict.fromkeys(CODES)).index(c) for c in CODES]))
 
+# tiles column by column in pairs, for sprites 16 high: of 24 x 32 pixels the upper band's three pairs, then the lower one's; and one of them
+WIDE, LONG = 24, 32
+PIXELS = [pick.randrange(16) for _ in range(WIDE * LONG)]
+tall = png(3, 8, [PIXELS[y * WIDE : (y + 1) * WIDE] for y in range(LONG)], 0, plte, size=(WIDE, LONG))
+pairs = [[PIXELS[(8 * down + y) * WIDE + 8 * across + x] for y in range(8) for x in range(8)] for band in (0, 2) for across in range(3) for down in (band, band + 1)]
+case("tall", tall, "tile 0 = tall.png tall\n", [code for tile in pairs for code in tile])
+case("tall-one", tall, "tile 0 = tall-one.png 9 tall\n", pairs[9])
+case("not-tall", tall, "tile 0 = not-tall.png 9\n", pairs[7])
+
 # the home machine has two bits each, in one byte: by colours, by near ones of palette 1 that raw writes have set past address 31, and by its own
 HOME = [(85 * (n % 4), 85 * (n // 4), 85 * (n * 7 // 3 % 4)) for n in range(16)]
 held = " ".join(f"{r // 85 + g // 85 * 4 + b // 85 * 16:02X}" for r, g, b in HOME)
@@ -153,7 +162,7 @@ case("home-near", png(2, 8, rows_of(lambda c: [v // 85 * 64 + 50 for v in HOME[c
 case("home-own", png(2, 8, rows_of(lambda c: HOME[c]), 2), "home\npalette 1 = home-own.png\ntile 0 = home-own.png palette1\n", tiled([list(dict.fromkeys(CODES)).index(c) for c in CODES]))
 
 good = png(3, 8, rows_of(lambda c: [c]), 0, plte)
-for name, data, error in (
+for name, data, error, *words in (
     ("none", b"P6\n1 1\n255\n...", "this is no PNG"),
     ("cut", good[:-20], "the PNG is cut short"),
     ("cut-head", good[:20], "the PNG is cut short"),
@@ -161,11 +170,17 @@ for name, data, error in (
     ("laced", png(3, 8, rows_of(lambda c: [c]), 0, plte, 1), "the PNG is interlaced: save it without"),
     ("depth", png(3, 16, rows_of(lambda c: [c]), 0, plte), "the PNG is damaged: kind 3 with 16 bits"),
     ("size", png(3, 8, [row[:12] for row in rows_of(lambda c: [c])], 0, plte, size=(12, 8)), "12 x 8, and both must be multiples of 8"),
+    ("tall", png(3, 8, rows_of(lambda c: [c]), 0, plte), "16 x 8, and with `tall` the height must be a multiple of 16", " tall"),
+    ("large", good.replace(good[8:33], chunk(b"IHDR", struct.pack(">IIBBBBB", 4096, 4096, 8, 3, 0, 0, 0))), "the PNG is 4096 x 4096: too large, it may have 262,144 pixels"),
+    ("nothing", good.replace(good[8:33], chunk(b"IHDR", struct.pack(">IIBBBBB", 0, 8, 8, 3, 0, 0, 0))), "the PNG is 0 x 8: it has no pixel"),
+    ("packing", good.replace(good[8:33], chunk(b"IHDR", struct.pack(">IIBBBBB", 16, 8, 8, 3, 1, 0, 0))), "the PNG is damaged: kind 3 with 8 bits"),
+    ("third", png(3, 8, rows_of(lambda c: [c]), 0, chunk(b"PLTE", bytes(50))), "the PNG is damaged: its palette has no whole number of colours"),
+    ("many", png(3, 8, [[0] * 184] * 184, 0, plte, size=(184, 184)), "529 tiles, and there are 512: behind the file its tile can be named"),
     ("few", png(3, 8, rows_of(lambda c: [c])[:6], 0, plte), "the PNG is damaged: it has too few pixels"),
     ("no-palette", png(3, 8, rows_of(lambda c: [c]), 0), "the PNG is damaged: a pixel has a number that its palette has not"),
     ("seventeen", png(3, 8, rows_of(lambda c: [c + 1]), 0, chunk(b"PLTE", bytes(51))),
      f"the pixel at column {CODES.index(15) % 16}, row {CODES.index(15) // 16} has number 16 of the picture's palette, and a code is at most 15"),
     ("stranger", png(2, 8, rows_of(lambda c: (170, 0, 0)), 0), "the pixel at column 0, row 0 is red 170, green 0, blue 0, and no colour of the device's palette is"),
 ):
-    damaged("bad-" + name, data, error)
+    damaged("bad-" + name, data, error, *words)
 print(f"{cases} files")

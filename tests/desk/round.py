@@ -39,8 +39,8 @@ for name, text in zip(names[::2], names[1::2]):
     found = records.Trace(trace, name, home)
     for each in (False, True):
         for table in (1,) if home else (0, 1):
-            script = listing.listed(found, table, each, home)
-            if language.made(script, name, ".", table) != trace:
+            script, _ = listing.listed(found, table, each, home)
+            if language.made(script, name, ".", table).trace != trace:
                 sys.exit(f"{name}: its listing makes another trace")
     lines = [re.fullmatch(r"(.*?) +# (.*)", line).groups() for line in script.splitlines()]
     lines = [line for line in lines if not line[0].startswith("area ") and line[0] != "home"]

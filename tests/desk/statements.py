@@ -37,6 +37,17 @@ CASES = [
     ("reg 5 = 02\nsprite 0 = 207 231 0", 1, command(0x02, 0x85) + command(0x00, 0x41, 254) + command(0x80, 0x41, 255, 0)),
     ("area 1\nsprite 1 = 0 0 9", 1, command(0x01, 0x7F, 255) + command(0x82, 0x7F, 0, 9)),
     ("sprite 10 end", 1, command(0x0A, 0x7F, 0xD0)),
+    # with the early clock a sprite stands where the statement says all the same
+    ("reg 0 = 08\nsprite 3 = 20 40 7", 1, command(0x08, 0x80) + command(0x03, 0x7F, 63) + command(0x86, 0x7F, 76, 7)),
+    ("reg 0 = 08\nsprite 0 = -56 0 0\nsprite 1 = 199 0 0", 1, command(0x08, 0x80) + command(0, 0x7F, 23) + command(0x80, 0x7F, 0, 0) + command(1, 0x7F, 23) + command(0x82, 0x7F, 255, 0)),
+    ("area 1\nreg 0 = 08\nsprite 1 = 0 0 9\nsprite 1 = 252 0 9", 1, command(0x08, 0x80) + command(0x01, 0x7F, 255) + command(0x82, 0x7F, 8, 9) + command(0x01, 0x7F, 255) + command(0x82, 0x7F, 4, 9)),
+    ("home\nreg 0 = 08\nsprite 0 = 92 0 0\nsprite 0 = -8 0 0", 1, command(0x08, 0x80) + command(0, 0x7F, 255) + command(0x80, 0x7F, 100, 0) + command(0, 0x7F, 255) + command(0x80, 0x7F, 0, 0)),
+    # the map by the screen's places: from the map's column 6, row 3 on, and on the other screens from 0, 0 on
+    ("map screen 0 0 = 5", 1, command(0xCC, 0x78, 5, 0)),
+    ("map screen 19 17 = 5 down", 1, command(0x32, 0x7D, 5, 4)),
+    ("map screen 18 0 = 5 times 3", 1, command(0xF0, 0x78, 5, 0, 5, 0) + command(0x0C, 0x79, 5, 0)),
+    ("area 1\nmap screen 31 27 = 5", 1, command(0xFE, 0x7E, 5, 0)),
+    ("home\nmap screen 31 23 = 5", 1, command(0xFE, 0x7D, 5, 0)),
     ("steps 3", 1, STEP * 3),
     ("area 1\nsteps 2\narea 0\nsteps 1", 1, OTHER * 2 + STEP),
     ("until line 90", 1, STEP * 90),
@@ -44,6 +55,17 @@ CASES = [
     ("until line 0\nuntil line 90\nuntil line 90", 1, STEP * (262 + 90 + 262)),
     ("until line 0xD5\nuntil line 0xD5\nuntil line 0", 1, STEP * 262),
     ("until line 0", 0, STEP * 261),
+    ("until row 66", 1, STEP * 90),
+    ("until row 0\nuntil row 0", 1, STEP * (24 + 262)),
+    ("area 1\nuntil row 0\nuntil row 223", 1, OTHER * (262 + 223 + 6)),
+    ("home\nuntil row 191", 1, STEP * 191),
+    ("reg 0 = 10\nreg 10 = 5B\nuntil line 0\nuntil interrupt\nuntil interrupt", 1, command(0x10, 0x80) + command(0x5B, 0x8A) + STEP * (262 + 182)),
+    ("reg 1 = 20\nuntil interrupt\nread BF\nuntil interrupt", 0, command(0x20, 0x81) + STEP * 193 + b"PR\xbf" + STEP * 261),
+    # blocks and labels
+    ("repeat 3\nsteps 1\nend\nsteps 1", 1, STEP * 4),
+    ("repeat 2\n  repeat 3\n    steps 1\n  end\n  read 7E\nend # of both", 1, (STEP * 3 + b"PR\x7e") * 2),
+    ("change: steps 2\nsteps 1", 1, STEP * 3),
+    ("a-1: repeat 2\nb: steps 1\nend", 1, STEP * 2),
     ("pass\npasses 2", 1, STEP * 786),
     ("pass\npasses 2", 0, STEP * 783),
     ("read 7E\nread BF times 2", 1, b"PR\x7ePR\xbfPR\xbf"),
@@ -56,13 +78,24 @@ CASES = [
     ("home\nmap 1 1 = 5\nread BF\nuntil line 0\npass", 1, command(0x42, 0x78, 5, 0) + b"PR\xbf" + STEP * 524),
 ]
 for script, table, wanted in CASES:
-    made = language.made(script, "script", ".", table)
+    made = language.made(script, "script", "", table).trace
     if made != wanted:
         sys.exit(f"{script!r} by table {table} makes {made.hex(' ')}, not {wanted.hex(' ')}")
+# lines with a label can be left out, whole blocks and what they have wrong with them
+for script, without, wanted in (
+    ("change: steps 2\nsteps 1", ["change"], STEP),
+    ("a: repeat 2\nb: steps 1\nend\nread 7E", ["a"], b"PR\x7e"),
+    ("repeat 2\nb: steps 1\nread 7E\nend", ["b"], b"PR\x7e" * 2),
+    ("a: steps 1\nb: steps 2\nsteps 4", ["a", "b"], STEP * 4),
+    ("a: steps 0\nsteps 4", ["a"], STEP * 4),
+):
+    made = language.made(script, "script", "", 1, True, without).trace
+    if made != wanted:
+        sys.exit(f"{script!r} without {without} makes {made.hex(' ')}, not {wanted.hex(' ')}")
 # an area is one that the library takes, and no other
 for number in range(256):
     try:
-        taken = language.made(f"area {number}\nsteps 1", "script", ".", 1) == b"LS" + bytes([number])
+        taken = language.made(f"area {number}\nsteps 1", "script", "", 1).trace == b"LS" + bytes([number])
     except language.Refused:
         taken = False
     row, layers = library.Buffer(1024), library.Buffer(256)
