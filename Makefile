@@ -14,7 +14,7 @@ NATIVE := build/native/libvdp.a build/native/libvdp.so
 # What compiles a module for a machine.
 COMPILE := tools/native-module.sh tools/target.sh tools/toolchain.sh
 
-.PHONY: all build desk native install cartridge test compare memcheck damaged bench bus fuzz gears setup setup-rust setup-bus setup-c setup-cartridge prove clean help FORCE
+.PHONY: all build desk native install cartridge peers test compare memcheck damaged bench bus fuzz gears setup setup-rust setup-bus setup-c setup-cartridge prove clean help FORCE
 
 all: build ## build the programs in build/bin and the libraries for this machine and for x86-64, and show what to try
 	@sh tools/built.sh
@@ -66,8 +66,11 @@ install: ## put the library with its header, the programs, the desk and their pa
 	@if command -v rt > /dev/null || [ ! -e build/native/libvdp.so ]; then $(MAKE) --no-print-directory build; fi
 	@sh tools/install.sh "$(DESTDIR)$(PREFIX)"
 
-cartridge: setup-cartridge build/native/libvdp.a ## build/cartridge: a player of cartridges, of the library and a Z80 core, and three cartridges (examples/cartridge)
+cartridge: setup-cartridge build/native/libvdp.a ## build/cartridge: a player of cartridges, of the library and a Z80 core, and four cartridges (examples/cartridge, docs/CARTRIDGE.md)
 	@sh examples/cartridge/build.sh build/native/libvdp.a
+
+peers: build cartridge ## play our cartridges here, in MAME and in mednafen, where these are installed, and print what each shows (docs/HANDBOOK.md)
+	@python3 peers/run.py
 
 test: ## all the set-up, every proof and every test; the last line is their sum
 	@bash tests/run.sh

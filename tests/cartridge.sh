@@ -1,6 +1,7 @@
 #!/usr/bin/env bash
-# cartridge.sh: examples/cartridge: three cartridges are assembled and played on a Z80 core; their pictures are held to what they must show, and their
-# recordings, run by trace and snapshot, to the same answers and the same pixels. And what the player does with banks, ports, interrupts and bad input.
+# cartridge.sh: examples/cartridge: its cartridges are assembled and played on a Z80 core; their pictures are held to what they must show, and their
+# recordings, run by trace and snapshot, to the same answers and the same pixels. What the player does with banks, ports, interrupts and their cycles, buttons,
+# pictures and bad input. The page docs/CARTRIDGE.md, whose commands are run again, and this chip's column in the handbook's table of players.
 . "$(dirname "$0")/begin.sh"
 needs build native
 if ! sh tools/setup.sh cartridge 2>$work/said; then
@@ -20,7 +21,7 @@ fi
 player=build/cartridge/play
 
 # assembled FILE.asm: a cartridge beside it.
-assembled() { z80asm -I examples/cartridge -o "${1%.asm}.gg" "$1"; }
+assembled() { z80asm -I examples/cartridge -o "${1%.asm}.gg" "$1" && truncate -s '>32768' "${1%.asm}.gg"; }
 # rows PICTURE: its rows, a line of hex each.
 rows() { tail -c 69120 "$1" | od -An -v -tx1 -w480 | tr -d ' '; }
 # row PICTURE Y, pixel PICTURE COLUMN Y
@@ -37,6 +38,16 @@ split_at() {
             printf "\n"
         }
     }'
+}
+
+# refuses NAME STATUS LINE WORDS..: with these words the player ends so.
+refuses() {
+    local name=$1 expected=$2 line=$3 status
+    shift 3
+    $player "$@" >$work/said 2>$work/err </dev/null
+    status=$?
+    [ "$status" -eq "$expected" ] && [ ! -s $work/said ] && printf '%s\n' "$line" | cmp - $work/err
+    tell "$name" $?
 }
 
 # Played, recorded and run again, by either table.
@@ -143,7 +154,7 @@ tell "answers and recording can be had one by one" $?
 
 # The ports' other numbers: a cartridge that uses these asks the same.
 mkdir $work/mirrors
-cp examples/cartridge/question.asm $work/mirrors/
+cp examples/cartridge/question.asm examples/cartridge/end.asm $work/mirrors/
 for ports in "40 80 81" "7c 9a bd"; do
     read -r line data command <<<"$ports"
     sed -e "s/^line: *equ 0x7e/line: equ 0x$line/" -e "s/^data: *equ 0xbe/data: equ 0x$data/" -e "s/^command: *equ 0xbf/command: equ 0x$command/" \
@@ -268,16 +279,125 @@ for both in "nop 01:38:02" "in_a,(0xbf) 01:02"; do
     tell "an interrupt that has to wait, with ${word/_/ }: $bytes" $?
 done
 
-# What is wrong is told in one line.
-# refuses NAME STATUS LINE WORDS..: with these words the player ends so.
-refuses() {
-    local name=$1 expected=$2 line=$3 status
-    shift 3
-    $player "$@" >$work/said 2>$work/err </dev/null
-    status=$?
-    [ "$status" -eq "$expected" ] && [ ! -s $work/said ] && printf '%s\n' "$line" | cmp - $work/err
-    tell "$name" $?
+# An interrupt takes 13 cycles of its line itself: a handler whose last write comes 218 cycles behind it writes in the next line, one of 206 in its own.
+cat >$work/cycles.asm <<'ASM'
+        org 0
+        di
+        im 1
+        ld sp, 0xdff0
+        jp start
+        ds 0x38 - $
+        ld a, 2 * 3             ; colour 3
+        out (command), a
+        ld a, 0xc0
+        out (command), a
+        xor a
+        nop
+        out (data), a
+        ld b, 11
+        djnz $
+        ds late
+        ld a, 0x0f
+        out (data), a           ; blue
+        ret
+start:  ld hl, setup
+        call registers
+        call red
+        ld de, 0                ; tile 0: all of it colour 3
+        call video
+        ld b, 8
+tile_0: ld a, 0xff
+        out (data), a
+        out (data), a
+        xor a
+        out (data), a
+        out (data), a
+        djnz tile_0
+        ld de, list
+        call video
+        ld a, 0xd0
+        out (data), a
+again:  in a, (line)
+        cp 0xe0
+        jr nz, again
+        call red
+        in a, (command)         ; what waits is passed over
+        ei
+        halt
+        jr again
+red:    ld hl, first
+        ld a, 2 * 3
+        ld b, 2
+        jp colours
+setup:  db 0x14, 0xc0, 0xff, 0xff, 0xff, 0xff, 0xfb, 0, 0, 0, 91
+first:  db 0x0f, 0x00
+        include 'chip.asm'
+        include 'end.asm'
+ASM
+# first_blue PLAYER NOPS: the first blue row of it, with so many nops in the handler.
+first_blue() {
+    { echo "late: equ $2"; cat $work/cycles.asm; } >$work/late.asm
+    assembled $work/late.asm && $1 --frames 4 --picture $work/late.ppm $work/late.gg >/dev/null && rows $work/late.ppm | grep -n -m 1 "$(plain 0000ff)" | cut -d: -f1
 }
+[ "$(first_blue $player 0)" = 68 ]
+tell "an interrupt's own cycles: a write 206 cycles behind it is in its line, and shows from row 67 on" $?
+[ "$(first_blue $player 3)" = 69 ]
+tell "and one 218 cycles behind it in the next line: row 68" $?
+sed 's/cycles -= taken ? taken : /cycles -= taken ? 0 : /' examples/cartridge/play.c >$work/slip.c
+! cmp -s examples/cartridge/play.c $work/slip.c && cc -std=c99 -O2 -Iinclude $work/slip.c build/native/libvdp.a -lz80ex -o $work/slip && [ "$(first_blue $work/slip 3)" = 68 ]
+tell "a player that does not count them shows it a row too early, and is caught" $?
+
+# Buttons: a cartridge that shows the two ports as it finds them in each frame, in the recording.
+cat >$work/buttons.asm <<'ASM'
+        org 0
+wait:   in a, (0x7e)
+        cp 0xc1
+        jr nz, wait
+        in a, (0x00)
+        out (0xbe), a
+        in a, (0xdc)
+        out (0xbe), a
+next:   in a, (0x7e)
+        cp 0xc1
+        jr z, next
+        jr wait
+ASM
+assembled $work/buttons.asm
+$player --frames 8 --press 2:start --press 3-4:up --press 4:left --press 5:1 --press 6:2 --press 6:down --press 7:right --record $work/buttons.trace $work/buttons.gg >/dev/null &&
+    [ "$(written $work/buttons.trace)" = ' c0 ff 40 ff c0 fe c0 fa c0 ef c0 dd c0 f7 c0 ff' ]
+tell "buttons are down in the frames that --press names, and in no others" $?
+for press in start 0:start 1:fire 1: 5-4:up 1-:up x:up 1:start,2:up 9999999999:up ''; do
+    refuses "--press '$press'" 1 "play: --press: FRAME:BUTTON or FRAME-FRAME:BUTTON, with start, up, down, left, right, 1 or 2, and not '$press'" --press "$press" build/cartridge/split.gg
+done
+
+# Pictures: PNG by the name, of any frame.
+$player --frames 30 --frame 24 --picture $work/frame.ppm build/cartridge/split.gg >$work/said && cmp $work/split.ppm $work/frame.ppm && grep -q '^30 frames: ' $work/said
+tell "--frame: the picture of an earlier frame, while it plays on" $?
+$player --frame 24 --picture $work/frame.png build/cartridge/split.gg >$work/said && grep -q '^24 frames: ' $work/said
+tell "--frame alone plays as far as that" $?
+if command -v python3 >/dev/null; then
+    python3 tools/ppm2png.py <$work/split.ppm >$work/other.png && python3 tests/desk/same.py $work/frame.png $work/other.png && [ "$(head -c 4 $work/frame.png | tail -c 3)" = PNG ]
+    tell "a picture whose name ends in .png is a PNG with the same pixels" $?
+else
+    skip "the player's PNG" "no python3 here"
+fi
+
+# The page for authors, and the column of this chip in the handbook's table of players (the others' columns are made by `make peers`).
+if command -v python3 >/dev/null; then
+    said=$(python3 tests/desk/document.py docs/CARTRIDGE.md $work/page 2>&1)
+    status=$?
+    [ $status -eq 0 ] || printf '%s\n' "$said"
+    tell "docs/CARTRIDGE.md: its commands print what stands there, and draw its picture: $(tail -n 1 <<<"$said")" $status
+    python3 peers/run.py --here docs/HANDBOOK.md >$work/said 2>$work/err || { cat $work/err; false; }
+    tell "docs/HANDBOOK.md has what this chip shows of $(($(wc -l <$work/said) - 2)) questions, beside other players" $?
+    sed 's/^| glow-worms of nine on one line (sprites.gg) | 8 /| glow-worms of nine on one line (sprites.gg) | 9 /' docs/HANDBOOK.md >$work/other.md
+    ! python3 peers/run.py --here $work/other.md >$work/said 2>$work/err && grep -q 'has another column of this chip' $work/err
+    tell "and another answer there is caught" $?
+else
+    skip "the page for authors" "no python3 here"
+fi
+
+# What is wrong is told in one line.
 good=build/cartridge/split.gg
 : >$work/empty.gg
 truncate -s 4194305 $work/large.gg
@@ -288,8 +408,24 @@ refuses "a folder" 2 "play: $work: Is a directory" $work
 refuses "an empty file" 1 "play: $work/empty.gg: it is empty, and no cartridge" $work/empty.gg
 refuses "a file that is too large" 1 "play: $work/large.gg: it has more than 4,194,304 bytes, and is no cartridge" $work/large.gg
 refuses "input without an end" 1 "play: /dev/zero: it has more than 4,194,304 bytes, and is no cartridge" /dev/zero
+dd if=build/cartridge/split.gg of=$work/largest.gg conv=notrunc status=none
 $player --frames 1 $work/largest.gg >/dev/null
 tell "the largest file" $?
+refuses "text" 1 "play: README.md: it is text, and no cartridge" README.md
+refuses "a source" 1 "play: examples/cartridge/split.asm: it is text, and no cartridge" examples/cartridge/split.asm
+refuses "a PNG" 1 "play: docs/split90.png: it is a picture (PNG), and no cartridge" docs/split90.png
+refuses "a PPM" 1 "play: $work/split.ppm: it is a picture (PPM), and no cartridge" $work/split.ppm
+refuses "a recording" 1 "play: $work/split.trace: it is a recording, and no cartridge: build/bin/desk shows it" $work/split.trace
+refuses "a program" 1 "play: $player: it is a program for this machine, and no cartridge" $player
+gzip -c $good >$work/packed.gg
+refuses "one that is packed" 1 "play: $work/packed.gg: it is packed (gzip): unpack the cartridge first" $work/packed.gg
+truncate -s 32768 $work/zeros.gg
+$player --frames 2 $work/zeros.gg >$work/said 2>$work/err
+[ $? -eq 1 ] && [ "$(cat $work/said)" = '2 frames: 524 steps, 0 port calls, 0 refused' ] && [ "$(cat $work/err)" = "play: $work/zeros.gg: its program has not used the chip in all this time: is it a cartridge?" ]
+tell "a program that never uses the chip" $?
+refuses "a frame that is not played" 1 "play: --frame: frame 3, and 2 are played" --frames 2 --frame 3 --picture $work/none.ppm $good
+refuses "a frame without a picture" 1 "play: --frame: it goes with --picture" --frame 3 $good
+refuses "no press" 1 "play: --press: FRAME:BUTTON is missing behind it" $good --press
 for number in 0 -1 1000001 99999999999999999999 x 1x 1.5 ' 1' +1 ''; do
     refuses "'$number' frames" 1 "play: --frames: a number from 1 to 1000000, not '$number'" --frames "$number" $good
 done

@@ -40,15 +40,15 @@ for file in build/bin/*; do
     programs="$programs $name"
 done
 
-rm -f "$desk"/desk/*.py
-install -m 644 desk/*.py "$desk/desk/"
+rm -f "$desk"/desk/*.py "$desk"/desk/*.json
+install -m 644 desk/*.py desk/*.json "$desk/desk/"
 install -m 755 desk/desk "$desk/desk/"
 ln -sfn ../../include "$desk/include"
 ln -sfn ../.. "$desk/build/native"
 ln -sfn ../../../bin "$desk/build/bin"
 ln -sfn ../lib/humusloft/desk/desk "$to/bin/desk"
 
-for page in TRACES TILES SAVES DESK HANDBOOK HOME RULES; do install -m 644 docs/$page.md "$pages/"; done
+for page in TRACES TILES SAVES DESK HANDBOOK CARTRIDGE HOME RULES; do install -m 644 docs/$page.md "$pages/"; done
 install -m 644 docs/*.png LICENSE NOTICE "$pages/"
 install -m 644 docs/scripts/* "$pages/scripts/"
 

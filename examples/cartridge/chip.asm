@@ -1,4 +1,4 @@
-; chip.asm: what the three cartridges share: the ports of the video chip, and how to speak to it. Included behind a cartridge's own code.
+; chip.asm: what the cartridges share: the ports of the video chip, and how to speak to it. Included behind a cartridge's own code.
 
 line:    equ 0x7e               ; read: the line counter
 data:    equ 0xbe               ; the chosen memory

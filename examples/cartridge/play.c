@@ -3,7 +3,7 @@
  * build/bin/trace and build/bin/snapshot answer the same again. README.md beside this file shows how.
  *
  * The machine: the file under C000, 8 KiB of memory from there on, which stand there again from E000; 228 cycles of the
- * processor, then a step of the chip; the chip's interrupt at 0038. No sound, and nobody at the buttons.
+ * processor, then a step of the chip; the chip's interrupt at 0038. No sound; buttons are pressed as the command line says.
  *
  * Exit status: 0 played; 1 the command line or the cartridge is no good; 2 something could not be read or written.
  */
@@ -21,9 +21,11 @@
 #define PLAIN_SIZE     0xC000              /* a file up to this size stands in memory as it is */
 #define CARTRIDGE_MOST (256L * PAGE_SIZE)  /* a page's number is a byte */
 #define FRAMES_MOST    1000000L
+#define FRAMES_USUAL   60L
+#define PRESSES_MOST   256
 
-/* What was asked for. */
-static long frames = 60;
+/* What was asked for; 0 frames where no number was named. */
+static long frames, picture_frame;
 static uint8_t table = VDP_CHART_TABLE;
 static const char *cartridge_name, *picture_name, *recording_name, *answers_name;
 
@@ -40,12 +42,23 @@ static uint8_t frame[VDP_VISIBLE_FRAME_SIZE];
 static int interrupt;
 static unsigned long steps, calls, refused;
 
+/* The buttons, by the port that has them and the bit that is 0 while one is down; and which is down from frame to frame. */
+static const struct button {
+    const char *name;
+    uint8_t start_bit, pad_bit;
+} buttons[] = {{"start", 0x80, 0}, {"up", 0, 0x01}, {"down", 0, 0x02}, {"left", 0, 0x04}, {"right", 0, 0x08}, {"1", 0, 0x10}, {"2", 0, 0x20}};
+static struct {
+    long from, to;
+    const struct button *button;
+} presses[PRESSES_MOST];
+static int press_count;
+
 /* The recording, as far as it goes. */
 static int recording_on;
 static uint8_t recording[VDP_LONGEST_RECORDING];
 static size_t used;
 static unsigned long records;
-static FILE *answers;
+static FILE *answers, *picture_file;
 
 /* A line on standard error, and the end. */
 static void stop(int status, const char *what, const char *why)
@@ -146,6 +159,18 @@ static void memory_write(Z80EX_CONTEXT *cpu, Z80EX_WORD address, Z80EX_BYTE valu
         pages[address - 0xFFFD] = value;
 }
 
+/* The bits of the buttons that are down in this frame, of port 00 or of port DC. */
+static uint8_t pressed(int of_start)
+{
+    long now = (long)(steps / pass_steps()) + 1;
+    uint8_t bits = 0;
+
+    for (int n = 0; n < press_count; n++)
+        if (presses[n].from <= now && now <= presses[n].to)
+            bits |= of_start ? presses[n].button->start_bit : presses[n].button->pad_bit;
+    return bits;
+}
+
 /* Of a port's number the top two bits and the lowest choose: 40 to 7F the counters, 80 to BF the chip's two ports. */
 static Z80EX_BYTE port_read(Z80EX_CONTEXT *cpu, Z80EX_WORD port, void *data)
 {
@@ -155,7 +180,8 @@ static Z80EX_BYTE port_read(Z80EX_CONTEXT *cpu, Z80EX_WORD port, void *data)
     case 0x41: return chip_read(VDP_PORT_LINE + 1);
     case 0x80: return chip_read(VDP_PORT_DATA);
     case 0x81: return chip_read(VDP_PORT_COMMAND);
-    default: return (port & 0xFF) == 0 ? 0xC0 : 0xFF; /* no button is down; 00 also tells that the machine is an exported one */
+    case 0xC0: return 0xFF & ~pressed(0);
+    default: return (port & 0xFF) == 0 ? 0xC0 & ~pressed(1) : 0xFF; /* 00 also tells, by bit 6, that the machine is an exported one */
     }
 }
 
@@ -175,7 +201,9 @@ static Z80EX_BYTE bus_on_interrupt(Z80EX_CONTEXT *cpu, void *data)
     return 0xFF; /* nothing drives the bus: in mode 0 that is RST 38, as in mode 1 */
 }
 
-/* Plays all the frames: a pass of steps each, and before each step a line's cycles. */
+static void write_picture(void);
+
+/* Plays all the frames: a pass of steps each, and before each step a line's cycles. The picture is that of its frame. */
 static void play(void)
 {
     unsigned long all = (unsigned long)frames * pass_steps();
@@ -193,8 +221,33 @@ static void play(void)
             cycles -= taken ? taken : z80ex_step(cpu);
         }
         chip_step();
+        if (steps == (unsigned long)picture_frame * pass_steps())
+            write_picture();
     }
     z80ex_destroy(cpu);
+}
+
+/* Tells files that are something else by how they begin, and text by its bytes: no program is made of text alone. */
+static void refuse_other_files(void)
+{
+    static const struct {
+        const char *mark, *what;
+        size_t length;
+    } others[] = {
+        {"\x89PNG", "it is a picture (PNG), and no cartridge", 4}, {"P6\n", "it is a picture (PPM), and no cartridge", 3},
+        {"\x7F" "ELF", "it is a program for this machine, and no cartridge", 4}, {"PK\x03\x04", "it is packed (zip): unpack the cartridge first", 4},
+        {"\x1F\x8B", "it is packed (gzip): unpack the cartridge first", 2}, {"PW\xBF", "it is a recording, and no cartridge: build/bin/desk shows it", 3},
+        {"LS\x00", "it is a recording, and no cartridge: build/bin/desk shows it", 3},
+    };
+    size_t text = 0;
+
+    for (size_t n = 0; n < sizeof others / sizeof *others; n++)
+        if (cartridge_size >= others[n].length && memcmp(cartridge, others[n].mark, others[n].length) == 0)
+            stop(1, cartridge_name, others[n].what);
+    while (text < cartridge_size && (cartridge[text] >= 0x20 || (cartridge[text] >= '\t' && cartridge[text] <= '\r')) && cartridge[text] != 0x7F && cartridge[text] < 0xF8)
+        text++;
+    if (text == cartridge_size)
+        stop(1, cartridge_name, "it is text, and no cartridge");
 }
 
 /* Reads the cartridge whole. */
@@ -216,6 +269,7 @@ static void read_cartridge(void)
         stop(1, cartridge_name, "it is empty, and no cartridge");
     if (cartridge_size > CARTRIDGE_MOST)
         stop(1, cartridge_name, "it has more than 4,194,304 bytes, and is no cartridge");
+    refuse_other_files();
 }
 
 /* A file to write to; none where no name was given. */
@@ -242,20 +296,101 @@ static void close_written(FILE *file, const char *name)
         stop_by_number(name, errno);
 }
 
-/* The frame as build/bin/snapshot writes it. */
-static void write_picture(FILE *file)
+/* The sums that a PNG is held to: of a part of the file, and of the bytes that are packed. */
+static uint32_t part_sum(uint32_t sum, const uint8_t *bytes, size_t count)
+{
+    for (size_t n = 0; n < count; n++) {
+        sum ^= bytes[n];
+        for (int bit = 0; bit < 8; bit++)
+            sum = sum >> 1 ^ (sum & 1 ? 0xEDB88320u : 0);
+    }
+    return sum;
+}
+
+static uint32_t packed_sum(const uint8_t *bytes, size_t count)
+{
+    uint32_t low = 1, high = 0;
+
+    for (size_t n = 0; n < count; n++) {
+        low = (low + bytes[n]) % 65521;
+        high = (high + low) % 65521;
+    }
+    return high << 16 | low;
+}
+
+static void write_number(uint8_t *to, uint32_t number)
+{
+    for (int n = 0; n < 4; n++)
+        to[n] = (uint8_t)(number >> (24 - 8 * n));
+}
+
+static void write_part(FILE *file, const char *mark, const uint8_t *bytes, size_t count)
+{
+    uint8_t number[4];
+
+    write_number(number, (uint32_t)count);
+    write_bytes(file, picture_name, number, 4);
+    write_bytes(file, picture_name, mark, 4);
+    write_bytes(file, picture_name, bytes, count);
+    write_number(number, ~part_sum(part_sum(0xFFFFFFFFu, (const uint8_t *)mark, 4), bytes, count));
+    write_bytes(file, picture_name, number, 4);
+}
+
+/* The frame as a PNG: each row in a block of its own, not packed, behind a byte that says it has no filter. */
+static void write_png(FILE *file)
+{
+    enum { LINE = 1 + 3 * VDP_VISIBLE_WIDTH, BLOCK = 5 + LINE };
+    static uint8_t raw[LINE * VDP_VISIBLE_HEIGHT], packed[2 + BLOCK * VDP_VISIBLE_HEIGHT + 4] = {0x78, 0x01};
+    uint8_t head[13] = {0, 0, 0, VDP_VISIBLE_WIDTH, 0, 0, 0, VDP_VISIBLE_HEIGHT, 8, 2};
+
+    for (unsigned y = 0; y < VDP_VISIBLE_HEIGHT; y++) {
+        uint8_t *line = raw + LINE * y, *block = packed + 2 + BLOCK * y;
+
+        for (unsigned x = 0; x < VDP_VISIBLE_WIDTH; x++)
+            memcpy(line + 1 + 3 * x, frame + 4 * (VDP_VISIBLE_WIDTH * y + x), 3);
+        block[0] = y == VDP_VISIBLE_HEIGHT - 1; /* the last one */
+        block[1] = LINE % 256, block[2] = LINE / 256;
+        block[3] = (uint8_t)~block[1], block[4] = (uint8_t)~block[2];
+        memcpy(block + 5, line, LINE);
+    }
+    write_number(packed + sizeof packed - 4, packed_sum(raw, sizeof raw));
+    write_bytes(file, picture_name, "\x89PNG\r\n\x1A\n", 8);
+    write_part(file, "IHDR", head, sizeof head);
+    write_part(file, "IDAT", packed, sizeof packed);
+    write_part(file, "IEND", NULL, 0);
+}
+
+/* And as build/bin/snapshot writes it. */
+static void write_ppm(FILE *file)
 {
     fprintf(file, "P6\n%d %d\n255\n", VDP_VISIBLE_WIDTH, VDP_VISIBLE_HEIGHT);
     for (unsigned pixel = 0; pixel < VDP_VISIBLE_WIDTH * VDP_VISIBLE_HEIGHT; pixel++)
         write_bytes(file, picture_name, frame + 4 * pixel, 3);
 }
 
+/* The frame as it is now; which kind of file the name tells. */
+static void write_picture(void)
+{
+    size_t length = picture_name ? strlen(picture_name) : 0;
+
+    if (!picture_file)
+        return;
+    if (length >= 4 && strcmp(picture_name + length - 4, ".png") == 0)
+        write_png(picture_file);
+    else
+        write_ppm(picture_file);
+    close_written(picture_file, picture_name);
+}
+
 static const char usage[] =
-    "usage: play [--frames N] [--table 0|1] [--picture FILE] [--record FILE] [--answers FILE] CARTRIDGE.gg\n"
-    "Plays a handheld's cartridge for some frames, without sound, and with nobody at the buttons.\n"
-    "  --frames N      so many frames, 1 to 1000000; 60 with no number named\n"
+    "usage: play [--frames N] [--table 0|1] [--press WHEN:BUTTON].. [--frame N] [--picture FILE] [--record FILE] [--answers FILE] CARTRIDGE.gg\n"
+    "Plays a handheld's cartridge for some frames, without sound.\n"
+    "  --frames N      so many frames, 1 to 1000000; with no number named 60, or as many as --frame asks for\n"
     "  --table 0|1     the line table: 0 has 261 steps to a frame, 1 has 262, and is taken where none is named\n"
-    "  --picture FILE  writes the last frame, a binary PPM\n"
+    "  --press 120:start     a button is down in frame 120; --press 120-130:right from frame 120 to 130. Buttons: start, up, down,\n"
+    "                  left, right, 1, 2. May be given again, for others\n"
+    "  --picture FILE  writes the last frame: a PNG where the name ends in .png, else a binary PPM\n"
+    "  --frame N       the picture is that of frame N, and not of the last one\n"
     "  --record FILE   writes all that was asked of the chip, as far as 65535 bytes hold it, for build/bin/trace and\n"
     "                  build/bin/snapshot (with table 0 for build/bin/trace-261 and build/bin/snapshot-261)\n"
     "  --answers FILE  writes what the chip answered to it, as build/bin/trace prints it\n"
@@ -275,6 +410,27 @@ static long number(const char *option, const char *text, long least, long most)
         exit(1);
     }
     return value;
+}
+
+/* FRAME:BUTTON or FRAME-FRAME:BUTTON. */
+static void read_press(const char *option, const char *text)
+{
+    char *end;
+    long from = strtol(text, &end, 10), to = from;
+
+    if (text[0] >= '0' && text[0] <= '9' && *end == '-' && end[1] >= '0' && end[1] <= '9')
+        to = strtol(end + 1, &end, 10);
+    if (text[0] >= '0' && text[0] <= '9' && *end == ':' && from >= 1 && from <= to && to <= FRAMES_MOST)
+        for (size_t n = 0; n < sizeof buttons / sizeof *buttons; n++)
+            if (strcmp(end + 1, buttons[n].name) == 0) {
+                if (press_count == PRESSES_MOST)
+                    stop(1, option, "more than 256 of them");
+                presses[press_count].from = from, presses[press_count].to = to, presses[press_count].button = &buttons[n];
+                press_count++;
+                return;
+            }
+    fprintf(stderr, "play: %s: FRAME:BUTTON or FRAME-FRAME:BUTTON, with start, up, down, left, right, 1 or 2, and not '%s'\n", option, text);
+    exit(1);
 }
 
 static void read_words(int count, char **words)
@@ -297,15 +453,20 @@ static void read_words(int count, char **words)
                                 : strcmp(word, "--answers") == 0 ? &answers_name
                                                                  : NULL;
             int is_frames = strcmp(word, "--frames") == 0, is_table = strcmp(word, "--table") == 0;
+            int is_frame = strcmp(word, "--frame") == 0, is_press = strcmp(word, "--press") == 0;
 
-            if (!name && !is_frames && !is_table)
+            if (!name && !is_frames && !is_table && !is_frame && !is_press)
                 stop(1, word, "no such option; --help tells which there are");
             if (++n == count)
-                stop(1, word, is_frames || is_table ? "a number is missing behind it" : "a file's name is missing behind it");
+                stop(1, word, name ? "a file's name is missing behind it" : is_press ? "FRAME:BUTTON is missing behind it" : "a number is missing behind it");
             if (name)
                 *name = words[n];
             else if (is_frames)
                 frames = number(word, words[n], 1, FRAMES_MOST);
+            else if (is_frame)
+                picture_frame = number(word, words[n], 1, FRAMES_MOST);
+            else if (is_press)
+                read_press(word, words[n]);
             else
                 table = (uint8_t)number(word, words[n], VDP_OLD_TABLE, VDP_CHART_TABLE);
         } else if (cartridge_name) {
@@ -316,6 +477,16 @@ static void read_words(int count, char **words)
     }
     if (!cartridge_name)
         stop(1, "no cartridge is named", "play CARTRIDGE.gg, and --help tells more");
+    if (picture_frame && !picture_name)
+        stop(1, "--frame", "it goes with --picture");
+    if (!frames)
+        frames = picture_frame > 0 ? picture_frame : FRAMES_USUAL;
+    if (!picture_frame)
+        picture_frame = frames;
+    if (picture_frame > frames) {
+        fprintf(stderr, "play: --frame: frame %ld, and %ld are played\n", picture_frame, frames);
+        exit(1);
+    }
     if ((picture_name && strcmp(picture_name, cartridge_name) == 0) || (recording_name && strcmp(recording_name, cartridge_name) == 0)
         || (answers_name && strcmp(answers_name, cartridge_name) == 0))
         stop(1, cartridge_name, "the cartridge itself would be written over");
@@ -323,7 +494,7 @@ static void read_words(int count, char **words)
 
 int main(int count, char **words)
 {
-    FILE *picture_file, *recording_file;
+    FILE *recording_file;
 
     if (vdp_version() != VDP_VERSION)
         stop(2, "libvdp", "the library is not the one of this program's header");
@@ -338,10 +509,6 @@ int main(int count, char **words)
     vdp_new_table(state, sizeof state, table);
     play();
 
-    if (picture_file) {
-        write_picture(picture_file);
-        close_written(picture_file, picture_name);
-    }
     if (recording_file) {
         write_bytes(recording_file, recording_name, recording, used);
         close_written(recording_file, recording_name);
@@ -353,5 +520,7 @@ int main(int count, char **words)
     printf("%ld frames: %lu steps, %lu port calls, %lu refused\n", frames, steps, calls, refused);
     close_written(stdout, "standard output");
     free(cartridge);
+    if (calls == 0)
+        stop(1, cartridge_name, "its program has not used the chip in all this time: is it a cartridge?");
     return 0;
 }

@@ -17,8 +17,8 @@ sea:    equ 0x0941              ; its colour: red 1, green 4, blue 9
         rlca
         jr c, screen_end        ; bit 7: the screen's end
         in a, (line)
-        cp 90
-        jr nz, leave
+        cp 128                  ; of its two interrupts the first: which line it is exactly, players do not agree on
+        jr nc, leave
         ld a, 2 * 3             ; colour 3, all within the line's 228 cycles
         out (command), a
         ld a, 0xc0
@@ -111,7 +111,7 @@ sleep:
         jr sleep
 
 ;          0     1     2     3     4     5     6     7  8  9  10
-setup:  db 0x10, 0x80, 0xff, 0xff, 0xff, 0xff, 0xfb, 0, 0, 0, 91
+setup:  db 0x14, 0x80, 0xff, 0xff, 0xff, 0xff, 0xfb, 0, 0, 0, 91
 foam:   db 0xed, 0x0f
 sky:    db 0xa6, 0x0e
 
@@ -142,3 +142,4 @@ clouds: dw names + 2 * (32 * 4 + 8)
         dw names + 2 * (32 * 4 + 22)
 
         include 'chip.asm'
+        include 'end.asm'

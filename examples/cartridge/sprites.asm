@@ -191,7 +191,7 @@ place:
 humps:  db 0, 0, 1, 2, 3, 3, 2, 1
 
 ;          0     1     2     3     4     5     6     7  8  9  10
-setup:  db 0x00, 0x80, 0xff, 0xff, 0xff, 0xff, 0xff, 0, 0, 0, 0xff
+setup:  db 0x04, 0x80, 0xff, 0xff, 0xff, 0xff, 0xff, 0, 0, 0, 0xff
 
 ; Each colour: red + 16 * green, blue. 0 sky, 1 grass, 2 earth, 3 stones, 4 moon; of the sprites 1 worm, 2 bird, 3 glow-worms.
 palette:
@@ -290,3 +290,4 @@ animals:
         db %00000000
 
         include 'chip.asm'
+        include 'end.asm'
