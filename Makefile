@@ -62,6 +62,18 @@ build/cross/%/libvdp.a: build/modules/face.ll include/vdp.h tools/native-lib.sh 
 	@TARGET=$* sh tools/native-lib.sh $< build/cross/$*
 	@echo "build/cross/$*/libvdp.a compiled for $*"
 
+.PHONY: page setup-page
+page: build/desk.html ## the desk as a page: build/desk.html, one file that opens in a browser (docs/PAGE.md)
+	@echo "build/desk.html is the desk as a page: open it in a browser (docs/PAGE.md)"
+
+# The same module once more, as WebAssembly.
+build/native/vdp.wasm: build/modules/face.ll tools/wasm-module.sh tools/toolchain.sh
+	@mkdir -p build/native
+	@sh tools/wasm-module.sh build/modules/face.ll $@
+
+build/desk.html: build/native/vdp.wasm build/native/libvdp.so $(wildcard page/* desk/*) include/vdp.h docs/scripts/split-old.desk
+	@python3 page/build.py build/native/vdp.wasm $@
+
 install: ## put the library with its header, the programs, the desk and their pages under PREFIX=/usr/local
 	@if command -v rt > /dev/null || [ ! -e build/native/libvdp.so ]; then $(MAKE) --no-print-directory build; fi
 	@sh tools/install.sh "$(DESTDIR)$(PREFIX)"
@@ -117,6 +129,9 @@ setup-bus: # and to count turns of the bus
 
 setup-cartridge: # and to play cartridges
 	@sh tools/setup.sh cartridge
+
+setup-page: # and to try the page in a browser
+	@sh tools/setup.sh page
 
 clean: ## remove what was built
 	rm -rf build target

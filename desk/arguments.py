@@ -104,6 +104,9 @@ def parser():
     output(sub, "a PNG of them", False)
     looks(sub, 16, False, False)
     running(sub, False)
+    sub = command("page", "put a trace in a page that opens in a browser (docs/PAGE.md)", commands.page, "trace")
+    output(sub, "the page")
+    sub.add_argument("--home", action="store_true", help="the trace is for the home machine (docs/HOME.md)")
     return top
 
 

@@ -13,6 +13,7 @@ import lettering
 import library
 import listing
 import machines
+import page as pages
 import pictures
 import play
 import png
@@ -390,3 +391,20 @@ def palette(options):
     if options.output:
         data = b"".join(colour[:3] for colour in colours)
         save(options.output, pictures.scaled(pictures.Picture(16, 2, data), options.scale), "colours 0 to 15, below them 16 to 31")
+
+
+# ---- a page
+def page(options):
+    name, script, at_home = options.trace, "", options.home
+    if files.is_script(name):
+        made = language.script(name, options.table, True, options.without)
+        for text in made.notes:
+            note(text)
+        data, script, at_home = made.trace, files.text(name), made.home or at_home
+    else:
+        data = trace_bytes(options, name, at_home, options.without)
+    records.Trace(data, shown(name), at_home)
+    text = pages.made(pages.given(name, data, script, at_home, options.table, {})).encode("utf-8")
+    files.write(options.output, text)
+    if options.output != "-":
+        say(f"{shown(options.output)}: a page with {shown(name)} in it, {many(len(text), 'byte')}; it opens in a browser, from disk")
