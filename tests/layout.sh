@@ -27,7 +27,7 @@ bare=$(grep -L '^-- .*Assumes nothing' $(find crates -path '*/specs/*.antt' ! -n
 tell "every definition file says what it assumes" $?
 
 # A rule begins a line of docs/RULES.md with its number. Where no definition renders it, `(in FILE)` behind the number names who answers for it.
-texts='README.md Makefile crates docs include examples peers player desk oracle bench tests tools'
+texts='README.md Makefile crates docs include examples peers player desk page oracle bench tests tools'
 rules=$(sed -nE 's/^\*\*(R[0-9]+\.[0-9]+)\*\*.*/\1/p' docs/RULES.md)
 twice=$(printf '%s\n' "$rules" | sort | uniq -d)
 [ -z "$twice" ] || printf 'used twice: %s\n' $twice

@@ -77,10 +77,10 @@ count proofs
 
 # What the suites test, made once; a suite that is run by itself makes it.
 printf '\n== make\n'
-try make make --no-print-directory build native desk
+try make make --no-print-directory build native desk page
 cat $logs/make.log
 read -r status seconds <$logs/make.end
-tell "make build native desk ($seconds s)" "$status"
+tell "make build native desk page ($seconds s)" "$status"
 export BUILT=1
 
 # The longest first, so that none of them is left alone at the end.

@@ -1,11 +1,12 @@
 #!/bin/sh
-# setup.sh [c] [rust] [bus] [cartridge] [cross] [cargo]: makes this machine ready to build and to run what is built; with words, also
+# setup.sh [c] [rust] [bus] [cartridge] [cross] [cargo] [page]: makes this machine ready to build and to run what is built; with words, also
 #   c          to compile C
 #   rust       to test, to compare and to measure
 #   bus        to count turns of the bus
 #   cartridge  to play cartridges
 #   cross      to compile C for the machines that there are libraries for (tools/target.sh), and to run it here
 #   cargo      to build the player's file as its page says
+#   page       to try the page in a browser, and the types of its calls
 # Does nothing, quickly, where all is there. Whatever is wrong is told in one line, before anything is built.
 # To build, rt is all that is needed on x86-64; on Arm (aarch64), where rt makes x86-64 code, also a C compiler, which links programs. Debian and its kin;
 # elsewhere install the packages that it names by hand.
@@ -15,7 +16,7 @@ cd "$(dirname "$0")/.."
 say() { printf 'setup: %s\n' "$*"; }
 fail() { printf 'setup: error: %s\n' "$*" >&2; exit 1; }
 
-c=false rust=false bus=false cartridge=false cross=false cargo=false
+c=false rust=false bus=false cartridge=false cross=false cargo=false page=false
 machine=$(uname -m)
 for word; do
     case $word in
@@ -25,7 +26,8 @@ for word; do
     cartridge) c=true cartridge=true ;;
     cross) c=true cross=true ;;
     cargo) c=true cargo=true ;;
-    *) fail "unknown: $word (there are: c, rust, bus, cartridge, cross, cargo)" ;;
+    page) page=true ;;
+    *) fail "unknown: $word (there are: c, rust, bus, cartridge, cross, cargo, page)" ;;
     esac
 done
 [ "$machine" = x86_64 ] || c=true
@@ -67,6 +69,10 @@ missing() {
             has "$name-gcc" "gcc-$(echo "$name" | tr _ -)"
             there "/usr/$name/include/stdio.h" || echo "libc6-dev-${both#*:}-cross"
         done
+    fi
+    if $page; then
+        has chromium chromium
+        has tsc node-typescript
     fi
 }
 
