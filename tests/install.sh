@@ -50,7 +50,7 @@ fi
 # The pages, and what they show.
 pages="$prefix/share/doc/humusloft"
 status=0
-for page in TRACES TILES SAVES DESK HANDBOOK CARTRIDGE HOME RULES; do [ -s "$pages/$page.md" ] || { echo "no $page.md"; status=1; }; done
+for page in TRACES TILES SAVES DESK PAGE HANDBOOK CARTRIDGE HOME RULES; do [ -s "$pages/$page.md" ] || { echo "no $page.md"; status=1; }; done
 for link in $(grep -ohE '\]\([^)#:]+\.(png|desk|md)' "$pages"/*.md | sed 's/](//' | sort -u); do
     [ -e "$pages/$link" ] || [[ $link == ../* ]] || { echo "no $link"; status=1; }
 done

@@ -1,25 +1,16 @@
 #!/usr/bin/env bash
 # page.sh: the desk as a page, in a real browser without a window: its pictures beside the native library's, the list of the Rust's answers, its sentences beside
 # those of the desk, every control, what is wrong with a trace, a long one, its speed and size; and its sources, whose types are checked.
-set -u
-cd "$(dirname "$0")/.."
-unset MAKEFLAGS MAKELEVEL
-. tools/tell.sh
-skip() {
-    echo "SKIPPED: the page: $1"
-    skipped=1
+. "$(dirname "$0")/begin.sh"
+without() {
+    skip 'the page' "$1"
     total
     exit
 }
-command -v python3 >/dev/null || skip 'no python3 here'
-said=$(sh tools/setup.sh page 2>&1) || skip "$(tail -n 1 <<<"$said")"
-if ! make --no-print-directory desk page; then
-    echo '0 passed, 1 failed'
-    exit 1
-fi
-work=$PWD/build/test/page
-rm -rf "$work"
-mkdir -p "$work"
+command -v python3 >/dev/null || without 'no python3 here'
+said=$(sh tools/setup.sh page 2>&1) || without "$(tail -n 1 <<<"$said")"
+needs desk page
+work=$PWD/$work
 
 tsc -p page >"$work/types"
 status=$?

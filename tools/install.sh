@@ -2,7 +2,7 @@
 # install.sh FOLDER: puts under FOLDER what `make` made for this machine:
 #   include, lib        the header, the libraries and a pkg-config file
 #   bin                 the programs and the desk
-#   lib/humusloft       the desk's own files, and by links what it looks for beside them: the header, the library and the programs
+#   lib/humusloft       the desk's own files, its page where `make page` made it, and by links what it looks for beside them: the header, the library and the programs
 #   share/doc/humusloft the pages, with their pictures and scripts
 # All links are told from where they stand, so that the whole can be moved.
 set -eu
@@ -40,15 +40,16 @@ for file in build/bin/*; do
     programs="$programs $name"
 done
 
-rm -f "$desk"/desk/*.py "$desk"/desk/*.json
+rm -f "$desk"/desk/*.py "$desk"/desk/*.json "$desk/build/desk.html"
 install -m 644 desk/*.py desk/*.json "$desk/desk/"
+[ ! -e build/desk.html ] || install -m 644 build/desk.html "$desk/build/"
 install -m 755 desk/desk "$desk/desk/"
 ln -sfn ../../include "$desk/include"
 ln -sfn ../.. "$desk/build/native"
 ln -sfn ../../../bin "$desk/build/bin"
 ln -sfn ../lib/humusloft/desk/desk "$to/bin/desk"
 
-for page in TRACES TILES SAVES DESK HANDBOOK CARTRIDGE HOME RULES; do install -m 644 docs/$page.md "$pages/"; done
+for page in TRACES TILES SAVES DESK PAGE HANDBOOK CARTRIDGE HOME RULES; do install -m 644 docs/$page.md "$pages/"; done
 install -m 644 docs/*.png LICENSE NOTICE "$pages/"
 install -m 644 docs/scripts/* "$pages/scripts/"
 
