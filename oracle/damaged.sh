@@ -20,12 +20,12 @@ failed=0
 compared "the library as it is" build/native/libvdp.a
 [ $status -eq 0 ] || failed=1
 
-# damage NAME FUNCTION EDIT: a sed script on the text of this function, which must change one line of it.
+# damage NAME FUNCTION EDIT [LINES]: a sed script on the text of this function, which must change one line of it, or so many.
 damage() {
     sed -E -e "/^define .*@\"$2\"\\(/,/^}/$3" build/native/vdp.ll >$here/damaged.ll
     changed=$(diff build/native/vdp.ll $here/damaged.ll | grep -c '^>') || true
-    [ "$changed" -eq 1 ] || {
-        echo "$1: the edit changes $changed lines of $2 and not one: $3"
+    [ "$changed" -eq "${4:-1}" ] || {
+        echo "$1: the edit changes $changed lines of $2 and not ${4:-1}: $3"
         failed=1
         return
     }
@@ -39,11 +39,11 @@ damage "table 1: the counter jumps at DC and not at DB" raster::jump_line 's/sto
 damage "the second version's mark is 56 55 and not 56 54" block::mark_of 's/store i8 84,/store i8 85,/'
 damage "a block of the first version has table 1 and not 0" block::table_byte 's/store i8 0,/store i8 1,/'
 damage "the list of sprites ends at D1 and not at D0" sprites::next_on 's/(icmp eq i8 %[ar][0-9]+), -48$/\1, -47/'
-damage "status bit 7 is set at C2 and not at C1" step::ended 's/(icmp eq i8 %[ar][0-9]+), -63$/\1, -62/'
-damage "the screen's end is reported at C2 and not at C1" step::report_of 's/(icmp ne i8 %[ar][0-9]+), -63$/\1, -62/'
-damage "a sprite's layer is 65 + n and not 64 + n" tile::owner_of 's/(add nuw i64) 64,/\1 65,/'
-damage "a pixel that is held back takes its column from a sprite that was drawn there" tile::owner_of 's/icmp eq i8 (%[ar][0-9]+), 0$/icmp ne i8 \1, 1/'
-damage "159 bytes are enough for the layers of a visible row" step::column_count 's/store i64 160,/store i64 159,/'
+damage "status bit 7 is set at C2 and not at C1" points::ended 's/(icmp eq i8 %[ar][0-9]+), -63$/\1, -62/'
+damage "the screen's end is reported at C2 and not at C1" points::report_of 's/(icmp ne i8 %[ar][0-9]+), -63$/\1, -62/'
+damage "a sprite's layer is 65 + n and not 64 + n" column::owner_of 's/(add nuw i64) 64,/\1 65,/'
+damage "a pixel that is held back takes its column from a sprite that was drawn there" column::owner_of 's/icmp eq i8 (%[ar][0-9]+), 0$/icmp ne i8 \1, 1/'
+damage "159 bytes are enough for the layers of a row of 160" points::column_count 's/store i64 160,/store i64 159,/' 2
 
 [ $failed -eq 0 ] && echo "damaged: every damaged copy was caught" || echo "damaged: FAILED"
 exit $failed
