@@ -1,15 +1,15 @@
 #!/usr/bin/env python3
-"""tidy.py FILE..: lays out antt files of crates/ as this project has them. What nothing uses is no longer brought in; comments that name a place of the
-source by its line go; in the answer to a need the places on the way to a fact, `c .before .before ..`, get names by `let at-.. = .. in`; long lines are
-broken where the fewest brackets are open.
+"""tidy.py FILE..: lays out antt files of crates/ as this project has them. What nothing uses is no longer brought in, and what comes from one place by as
+few lines as there is room for; comments that name a place of the source by its line go; in the answer to a need the places on the way to a fact,
+`c .before .before ..`, get names by `let at-.. = .. in`; long lines are broken where the fewest brackets are open, and there best behind an arrow, else
+before a sign that joins two sides.
 
 tidy.py --check FILE..: changes nothing; prints what a file brings in and does not use, and where a line is longer than 160 characters. Status 1 where
 there is any."""
 import re
 import sys
 
-LONGEST = 160
-WIDTH = 150
+WIDTH = 160
 
 USE = re.compile(r"^use ([^\s{]+?)(?:\.\{([^}]*)\}| as (\S+)|)[ \t]*$", re.M)
 COMMENT = re.compile(r"(^|\s)--(\s.*)?$", re.M)
@@ -17,6 +17,15 @@ PLACE = re.compile(r"^ *-- (\S*/)?\S+\.rt:\d+:\d+.*\n", re.M)
 # A place that has its name already, or a way to one that has none: how far it goes, and what is asked of the place.
 PATH = re.compile(r"let \S+ =\s+c(?:\s+\.before)+\s+in\b|(?<![\w.·'₀-₉-])c((?: \.before)+)(?: \.([^\s(){};,]+))?")
 START = {"args", "good", "pre"}
+# What is declared, up to its type.
+SIGNATURE = re.compile(r"^( *(?:(?:abbrev |unfoldable )?pub )?[^\s(){}]+ :) (.+)$")
+# Where a line may go on below, the best first: what ends before it, and what begins there.
+PLACES = [
+    (re.compile(before + "$"), re.compile(after))
+    for before, after in [("[→;]", ""), ("", "[×⊎↔] "), ("", "[≡≢] "), ("", r"(?:&&|\|\||∷|∙|\+\+) "), ("", "[({]"), ("", "")]
+]
+# And where it may not.
+NEVER = re.compile(r"(?:^|[\s(])(?:[λ=:≡≢×⊎↔∷∙<≤]|&&|\|\||\+\+|Type|record)$"), re.compile(r"[.=→:]|where\b|Type \d+ where\b")
 
 
 def spoken(text):
@@ -51,22 +60,34 @@ def unused(text):
 
 
 def imports(text):
-    """Each `use` line without what is not used, and none that is too long."""
+    """Each `use` line without what is not used, and none that is too long; those of one place are joined where that makes them fewer."""
     gone = unused(text)
 
-    def one(match):
-        path, inside, _ = match.groups()
-        kept = [item for name, item in brought(match) if name not in gone]
-        if not kept:
-            return "\0"
-        if inside is None:
-            return match.group(0)
+    def laid(path, items):
         lines = [[]]
-        for item in kept:
+        for item in items:
             if len(f"use {path}.{{{', '.join(lines[-1] + [item])}}}") > WIDTH and lines[-1]:
                 lines.append([])
             lines[-1].append(item)
-        return "\n".join(f"use {path}.{{{', '.join(line)}}}" for line in lines)
+        return [f"use {path}.{{{', '.join(line)}}}" for line in lines if line]
+
+    kept, places = {}, {}
+    for match in USE.finditer(text):
+        kept[match.start()] = [item for name, item in brought(match) if name not in gone]
+        if match.group(2) is not None and kept[match.start()]:
+            places.setdefault(match.group(1), []).append(match.start())
+    for path, starts in places.items():
+        items = [item for start in starts for item in kept[start]]
+        if len(laid(path, items)) < sum(len(laid(path, kept[start])) for start in starts):
+            kept.update({start: [] for start in starts})
+            kept[starts[0]] = items
+
+    def one(match):
+        path, inside, _ = match.groups()
+        items = kept[match.start()]
+        if not items:
+            return "\0"
+        return match.group(0) if inside is None else "\n".join(laid(path, items))
 
     return re.sub(r"\0\n?", "", USE.sub(one, text))
 
@@ -108,23 +129,30 @@ def clauses(text):
     return re.sub(r"^\S+ c(?: [^=\n]*)? =(?: .*)?(?:\n[ ]+\S.*)*", lambda match: named(match.group(0)), text, flags=re.M)
 
 
+def place(line):
+    """Where a long line is best broken."""
+    depth, best = 0, None
+    start = len(line) - len(line.lstrip(" "))
+    for at, sign in enumerate(line[: WIDTH + 1]):
+        depth += {"(": 1, "{": 1, ")": -1, "}": -1}.get(sign, 0)
+        if sign == " " and at > start + 20 and not NEVER[0].search(line[:at]) and not NEVER[1].match(line, at + 1):
+            rank = next(rank for rank, (before, after) in enumerate(PLACES) if before.search(line[:at]) and after.match(line, at + 1))
+            if (rank == 0 or at > start + 50) and (best is None or (depth, rank) <= best[:2]):
+                best = (depth, rank, at)
+    return best[2] if best else line.rfind(" ", 0, WIDTH)
+
+
 def broken(line):
     """A long line as several."""
     indent = len(line) - len(line.lstrip(" "))
     if len(line) <= WIDTH or line.lstrip().startswith(("--", "use ", "pub use ", "unfolding ")):
         return [line]
-    answer = re.match(r"^(\S.*? =) (.*)$", line)
-    if indent == 0 and answer:
-        return [answer.group(1)] + broken("    " + answer.group(2))
+    head = SIGNATURE.match(line) or indent == 0 and re.match(r"^(\S.*? =) (.*)$", line)
     out = []
+    if head:
+        out, line = [head.group(1)], " " * (indent + 4) + head.group(2)
     while len(line) > WIDTH:
-        depth, best = 0, None
-        least = len(line) - len(line.lstrip(" ")) + 50
-        for at, sign in enumerate(line[:WIDTH]):
-            depth += {"(": 1, "{": 1, ")": -1, "}": -1}.get(sign, 0)
-            if sign == " " and at > least and line[at + 1] not in ".=→:" and line[at - 1] not in "λ=" and (best is None or depth <= best[0]):
-                best = (depth, at)
-        at = best[1] if best else line.rfind(" ", 0, WIDTH)
+        at = place(line)
         out.append(line[:at])
         line = " " * (indent + 4) + line[at + 1 :]
     return out + [line]
@@ -158,7 +186,7 @@ def main(words):
             print(f"{name}: brings in {word} and does not use it")
             found = 1
         for number, line in enumerate(text.split("\n"), 1):
-            if len(line) > LONGEST:
+            if len(line) > WIDTH:
                 print(f"{name}:{number}: {len(line)} characters")
                 found = 1
     return found

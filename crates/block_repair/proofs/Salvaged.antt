@@ -18,11 +18,8 @@ use Rattle.laws.proofs.Tests.{split, both, clash, either}
 use Rattle.front.specs.declared.WriteDest.{WriteDest}
 use Rattle.front.specs.declared.WriteDest.the-variants.{None, Vram, Cram}
 use Rattle.vdp.specs.Refusals.{size}
-use Rattle.block.specs.Block.{sized, markOf}
-use Rattle.inplace.specs.Fields.{flagFrom, chosenFrom}
-use Rattle.block.specs.Block.{colourAt, coloursAt, stateOf}
-use Rattle.inplace.specs.Fields.{latchFits}
-use Rattle.block.specs.Block.{wellFormed}
+use Rattle.block.specs.Block.{sized, markOf, colourAt, coloursAt, stateOf, wellFormed}
+use Rattle.inplace.specs.Fields.{flagFrom, chosenFrom, latchFits}
 use Rattle.block.proofs.Whole.{sized-low}
 use Rattle.block.proofs.RoundTrip.{Said, said}
 use Rattle.block_repair.specs.Repair.{within, held, choice, address, matching, dirty, mendedAt, mended, differing, changes}

@@ -43,11 +43,9 @@ use Rattle.step.specs.Frame.{frameAfter, FrameStepLeaves}
 use Rattle.points.specs.Bytes.{alsoLayers}
 use Rattle.dump.specs.Sheet.{dumpLines}
 use Rattle.step.proofs.Kept.{write-keeps, read-keeps}
-use Rattle.step.proofs.Laws.{stepped-row, stepped-report, stepped-raster, stepped-addr, stepped-dest, stepped-interrupt}
-use Rattle.points.proofs.Laws.{row-refusing, frame-refusing}
-use Rattle.step.proofs.Laws.{step-accepted, step-exact, dump-exact}
-use Rattle.points.proofs.Laws.{frame-fits, frame-memory}
+use Rattle.step.proofs.Laws.{stepped-row, stepped-report, stepped-raster, stepped-addr, stepped-dest, stepped-interrupt, step-accepted, step-exact, dump-exact}
 use Rattle.step.proofs.Laws.{frame-step-length, frame-step-other, frame-step-here}
+use Rattle.points.proofs.Laws.{row-refusing, frame-refusing, frame-fits, frame-memory}
 use Rattle.step.proofs.Pixels.{pixel-exact}
 use Rattle.face.proofs.Exact.{none}
 use Rattle.tile_codes.specs.Calls.{readTileLines, writeTileLines, readTileRefusal, writeTileRefusal}

@@ -37,14 +37,12 @@ use Rattle.home.specs.Ports.{readLines}
 use Rattle.home.specs.Step.{register, lineOf, counterUp, stepped, stepWith, rowStep, frameStep, frameAfter, FrameStepLeaves}
 use Rattle.home.proofs.Exact.{read-exact, never-six, outside-only}
 use Rattle.home.proofs.Kept.{write-keeps, read-keeps}
-use Rattle.home.proofs.Laws.{step-exact, step-either, is-stepped, refused-raster, frame-fits, frame-memory, stepped-row, stepped-report}
-use Rattle.home.proofs.Laws.{stepped-raster, stepped-aimed, stepped-clean, stepped-interrupt, colours-now, frame-step-length, frame-step-other}
-use Rattle.home.proofs.Laws.{frame-step-here}
+use Rattle.home.proofs.Laws.{step-exact, step-either, is-stepped, refused-raster, frame-fits, frame-memory, stepped-row, stepped-report, stepped-raster}
+use Rattle.home.proofs.Laws.{stepped-aimed, stepped-clean, stepped-interrupt, colours-now, frame-step-length, frame-step-other, frame-step-here}
 use Rattle.tile_codes.specs.Calls.{readTileLines, writeTileLines, readTileRefusal, writeTileRefusal}
 use Rattle.face.proofs.Exact.{none, never}
 use Rattle.demands.specs.Machine.{Told}
-use Rattle.demands.specs.Home.{Call, out, input, frame-step, row-step, dump-tileset, write-tile, read-tile, after, refusalOf, told, Steps, home}
-use Rattle.demands.specs.Home.{NeverSix}
+use Rattle.demands.specs.Home.{Call, out, input, frame-step, row-step, dump-tileset, write-tile, read-tile, after, refusalOf, told, Steps, home, NeverSix}
 use Rattle.demands.specs.Pass.{History, NoStepOn, Run, watched, pass, ready, answer, frameAt, Demand3}
 use Rattle.demands.specs.Chart.{TableKept, Charted}
 use Rattle.demands.specs.Rows.{RowsDrawn}

@@ -27,9 +27,8 @@ use Rattle.points.specs.declared.DrawnRow.{DrawnRow}
 use Rattle.points.specs.declared.DrawnRow.the-variants.{NoRow, Drawn}
 use Rattle.step.specs.Step.{rowLines, frameLines, readingOf, refusedStep, stepped, stepWith}
 use Rattle.points.specs.Points.{comingRow}
-use Rattle.points.specs.Bytes.{layersBy, rowFilled, frameFilled, comingLayers, layersFilled}
+use Rattle.points.specs.Bytes.{layersBy, rowFilled, frameFilled, comingLayers, layersFilled, alsoLayers}
 use Rattle.step.specs.Frame.{rowAfter, frameAfter}
-use Rattle.points.specs.Bytes.{alsoLayers}
 use Rattle.step.specs.Layers.{layersAfter}
 use Rattle.points.proofs.Laws.{row-refusing, frame-refusing}
 use Rattle.points.proofs.Steps.{under-also, not-last}

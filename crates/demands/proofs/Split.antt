@@ -27,8 +27,7 @@ use Rattle.points.proofs.Rows.{row-low, row-line}
 use Rattle.demands.specs.Machine.{Machine, register}
 use Rattle.demands.specs.Pass.{Run, watched, pass, through, ready, latched, answer, lineSet, rowAtEnd, pictureAt}
 use Rattle.demands.specs.Chart.{comesAt, placeSet}
-use Rattle.demands.specs.Split.{Moment, NewAt, New, firstNew, NewRows, Split, ColourSplit, pixelAtEnd, fourBytes, OnlyColour, WhichPixels}
-use Rattle.demands.specs.Split.{Twins, Changed}
+use Rattle.demands.specs.Split.{Moment, NewAt, New, firstNew, NewRows, Split, ColourSplit, pixelAtEnd, fourBytes, OnlyColour, WhichPixels, Twins, Changed}
 use Rattle.demands.proofs.Counter.{line}
 use Rattle.demands.proofs.Lines.{line-next}
 use Rattle.demands.proofs.Lawful.{Lawful}

@@ -16,9 +16,8 @@ use Rattle.refusal.proofs.Tables.{Passed, Refusing, passed}
 use Rattle.points.specs.declared.DrawnRow.{DrawnRow}
 use Rattle.points.specs.declared.DrawnRow.the-variants.{NoRow, Drawn}
 use Rattle.step.specs.Step.{lineOf, counterUp, rowOn, coloursNow, stepped, frameLines, stepWith, frameStep}
-use Rattle.step.proofs.Laws.{stepped-refusal, dirtyAfter, cacheAfter, stepped-dirty, stepped-cache, stepped-cram, step-exact, step-accepted}
+use Rattle.step.proofs.Laws.{stepped-refusal, dirtyAfter, cacheAfter, stepped-dirty, stepped-cache, stepped-cram, step-exact, step-accepted, step-left}
 use Rattle.points.proofs.Laws.{frame-refusing}
-use Rattle.step.proofs.Laws.{step-left}
 use Rattle.step.proofs.Kept.{Clean}
 
 -- ---- colours

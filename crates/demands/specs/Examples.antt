@@ -23,11 +23,8 @@ use Rattle.vdp.specs.Device.{made, fresh}
 use Rattle.refusal.specs.Refusals.{refusalNumber}
 use Rattle.front.specs.Ports.{frontWrite, frontRead}
 use Rattle.vdp.specs.Ports.{portWrite, portRead}
-use Rattle.vdp.specs.Calls.{Call, write, read, Answer}
-use Rattle.vdp.specs.Calls.{w, r}
-use Rattle.vdp.specs.Calls.{after, answer, afterAll, answers, start}
-use Rattle.points.specs.Points.{rowOn, bitsOf, endedBy, reportBy, interruptBy, pointsOf}
-use Rattle.points.specs.Points.{interruptNumber}
+use Rattle.vdp.specs.Calls.{Call, write, read, Answer, w, r, after, answer, afterAll, answers, start}
+use Rattle.points.specs.Points.{rowOn, bitsOf, endedBy, reportBy, interruptBy, pointsOf, interruptNumber}
 use Rattle.step.specs.Step.{lineOf, stepped, stepWith, frameStep}
 use Rattle.demands.specs.Split.{fourBytes}
 

@@ -18,9 +18,8 @@ use Rattle.vdp.specs.declared.VdpState.{VdpState}
 use Rattle.refusal.specs.declared.Refusal.the-variants.{Accepted, LayerLength}
 use Rattle.refusal.specs.Refusals.{Line, first, under}
 use Rattle.step.specs.Step.{rowLines, frameLines, readingOf, stepWith, rowStep, frameStep}
-use Rattle.points.specs.Bytes.{rowFilled, frameFilled}
+use Rattle.points.specs.Bytes.{rowFilled, frameFilled, alsoLayers}
 use Rattle.step.specs.Frame.{rowAfter, frameAfter}
-use Rattle.points.specs.Bytes.{alsoLayers}
 use Rattle.step.specs.Layers.{layersAfter}
 
 -- ---- one column

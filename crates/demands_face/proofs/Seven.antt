@@ -26,9 +26,8 @@ use Rattle.refusal.specs.declared.Refusal.the-variants.{UnknownArea}
 use Rattle.refusal.specs.Refusals.{refusalNumber, Line, line, first}
 use Rattle.vdp.specs.Refusals.{size}
 use Rattle.vdp.specs.Ports.{portWrite, portRead}
-use Rattle.block.specs.Block.{sized, fits, markOf}
+use Rattle.block.specs.Block.{sized, fits, markOf, wellFormed, stateOf}
 use Rattle.inplace.specs.Fields.{chosenFrom}
-use Rattle.block.specs.Block.{wellFormed, stateOf}
 use Rattle.block.proofs.Whole.{fits-own, length-of}
 use Rattle.block.proofs.RoundTrip.{block-back}
 use Rattle.block.proofs.Shapes.{state-shape}

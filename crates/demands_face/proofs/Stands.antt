@@ -33,9 +33,8 @@ use Rattle.block_repair.specs.Salvaged.{nothingWrong}
 use Rattle.block_repair.proofs.Salvaged.{stays-so}
 use Rattle.step.specs.Step.{rowLines, frameLines, stepWith}
 use Rattle.step.proofs.Laws.{step-left}
-use Rattle.face.specs.Face.{Called}
+use Rattle.face.specs.Face.{Called, refused, onArea, newTableCall, outOn, outCall, inputOn, inputCall, stepOn, stepCall, rowStepOn, rowStepCall, dumpCall}
 use Rattle.word.specs.Word.{stepWord}
-use Rattle.face.specs.Face.{refused, onArea, newTableCall, outOn, outCall, inputOn, inputCall, stepOn, stepCall, rowStepOn, rowStepCall, dumpCall}
 use Rattle.face.specs.Layers.{layerLines, layerOn, layerCall, rowTable, rowFills, frameTable, frameFills}
 use Rattle.face.specs.Repair.{repairCall}
 use Rattle.face.specs.Refused.{refusalIn}
@@ -46,10 +45,9 @@ use Rattle.demands.specs.Handheld.{Call, out, input, frame-step, row-step, laye
 use Rattle.demands.proofs.Sound.{table-kept}
 use Rattle.demands.proofs.Handheld.{handheld-lawful}
 use Rattle.demands_face.specs.Face.{Refused}
-use Rattle.demands_face.specs.Calls.{FaceCall, vdp-new, vdp-new-table, vdp-out, vdp-input, vdp-step, vdp-row-step, vdp-layer-step}
-use Rattle.demands_face.specs.Calls.{vdp-layer-row-step, vdp-dump-tileset, vdp-pixel, vdp-repair, vdp-write-tile, vdp-read-tile, vdp-record-out}
-use Rattle.demands_face.specs.Calls.{vdp-record-input, vdp-record-step, vdp-record-next, vdp-version, called, MadeBlock, by-new, by-new-table}
-use Rattle.demands_face.specs.Calls.{makes, steps, face}
+use Rattle.demands_face.specs.Calls.{FaceCall, vdp-new, vdp-new-table, vdp-out, vdp-input, vdp-step, vdp-row-step, vdp-layer-step, vdp-layer-row-step}
+use Rattle.demands_face.specs.Calls.{vdp-dump-tileset, vdp-pixel, vdp-repair, vdp-write-tile, vdp-read-tile, vdp-record-out, vdp-record-input}
+use Rattle.demands_face.specs.Calls.{vdp-record-step, vdp-record-next, vdp-version, called, MadeBlock, by-new, by-new-table, makes, steps, face}
 use Rattle.demands_face.proofs.Lawful.{Fine, Does, stays, does, Quietly, stays-so as leaves, does-so}
 
 -- the size of a memory

@@ -8,8 +8,7 @@ use lib.Dec.{eqb}
 use lib.ListN.{length}
 use Rattle.refusal.specs.declared.Refusal.the-variants.{Accepted}
 use Rattle.demands.specs.Machine.{Machine, register, lineOf}
-use Rattle.demands.specs.Pass.{History, deviceAfter, becomesZero, latchedAlong, latched, Between, then, Run, until, through, ready, answer, frameAt}
-use Rattle.demands.specs.Pass.{watched}
+use Rattle.demands.specs.Pass.{History, deviceAfter, becomesZero, latchedAlong, latched, Between, then, Run, until, through, ready, answer, frameAt, watched}
 use Rattle.demands.proofs.Lawful.{Lawful}
 use Rattle.demands.proofs.Sound.{sound}
 use Rattle.demands_face.specs.Face.{Face, toldBy, blockAfter, RefusedOf, FaceRun, stepAt, steppedAt, point, Goes, watchedBy, Through}

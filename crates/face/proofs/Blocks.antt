@@ -16,8 +16,7 @@ use Rattle.block.proofs.Whole.{fits-sized}
 use Rattle.block.proofs.RoundTrip.{length-block, good-block, state-back}
 use Rattle.refusal.specs.Refusals.{Line}
 use Rattle.face.specs.Layers.{layerOn, layerCall}
-use Rattle.face.specs.Face.{onArea, newTableCall, outOn, outCall, inputOn, inputCall, stepOn, stepCall, rowStepOn, rowStepCall, dumpOn}
-use Rattle.face.specs.Face.{dumpCall}
+use Rattle.face.specs.Face.{onArea, newTableCall, outOn, outCall, inputOn, inputCall, stepOn, stepCall, rowStepOn, rowStepCall, dumpOn, dumpCall}
 
 pub new-on :
     (b : List ℕ) (t : LineTable) → fits t (length b) ≡ true →

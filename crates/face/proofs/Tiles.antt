@@ -12,8 +12,7 @@ use lib.ListN.{length}
 use Rattle.laws.proofs.Tests.{same-cond}
 use Rattle.refusal.specs.declared.Refusal.{Refusal}
 use Rattle.refusal.specs.Refusals.{refusalNumber, first}
-use Rattle.tile_codes.specs.Calls.{readTileLines, writeTileLines, readTileRefusal, writeTileRefusal, unless, tileWritten, tileRead, WriteLeaves}
-use Rattle.tile_codes.specs.Calls.{ReadLeaves}
+use Rattle.tile_codes.specs.Calls.{readTileLines, writeTileLines, readTileRefusal, writeTileRefusal, unless, tileWritten, tileRead, WriteLeaves, ReadLeaves}
 use Rattle.face.specs.Face.{Leaves}
 use Rattle.face.specs.Refused.{refusalIn, LeftBehind}
 use Rattle.face.specs.Tiles.{writeTileCall, readTileCall}

@@ -12,8 +12,7 @@ use Rattle.vdp.specs.declared.VdpState.{VdpState}
 use Rattle.refusal.specs.Refusals.{Line, under}
 use Rattle.block.specs.Block.{wellFormed, stateOf}
 use Rattle.step.specs.Step.{rowLines, frameLines, readingOf, stepWith}
-use Rattle.points.specs.Bytes.{rowFilled, frameFilled}
-use Rattle.points.specs.Bytes.{alsoLayers}
+use Rattle.points.specs.Bytes.{rowFilled, frameFilled, alsoLayers}
 use Rattle.step.specs.Layers.{layersAfter}
 use Rattle.face.specs.Face.{Called, onBlock, onArea, steppedTo, Leaves}
 

@@ -11,8 +11,7 @@ use Rattle.front.specs.declared.FrontWritten.{FrontWritten}
 use Rattle.front.specs.declared.FrontRead.{FrontRead}
 use Rattle.front.specs.declared.Latch.{Latch}
 use Rattle.refusal.specs.declared.Refusal.{Refusal}
-use Rattle.front.specs.Front.{front}
-use Rattle.front.specs.Front.{changed}
+use Rattle.front.specs.Front.{front, changed}
 use Rattle.inplace.specs.declared.Sent.{Sent}
 use Rattle.inplace.specs.declared.Got.{Got}
 use Rattle.inplace.specs.Fields.{flagOf, flagFrom, chosenOf, chosenFrom, latchFlag, latchByte, latchFrom, latchFits}

@@ -21,8 +21,7 @@ use Rattle.picture.specs.declared.RenderArea.{RenderArea}
 use Rattle.picture.specs.declared.RenderArea.the-variants.{VisibleOnly, EffectiveArea, TrueEdges}
 use Rattle.picture.specs.Tile.{codeAt, namesAt, mapColour}
 use Rattle.picture.specs.View.{View, early, cutMark, visible, visibleStand, visibleSeen, visibleEnd, effectiveStand, trueEdges, edgeStand}
-use Rattle.picture.specs.Picture.{Canvas, front, solid, heldBack, marked, struck, drawn, laid, bare, tableAt, topOf, tall, onLine, listed}
-use Rattle.picture.specs.Picture.{withSprites, picture}
+use Rattle.picture.specs.Picture.{Canvas, front, solid, heldBack, marked, struck, drawn, laid, bare, tableAt, topOf, tall, onLine, listed, withSprites, picture}
 use Rattle.picture.specs.Picture.{back as map-at}
 use Rattle.picture.specs.Screen.{pictureOf}
 use Rattle.picture.specs.Area.{screenOf, columns}

@@ -19,8 +19,7 @@ use Rattle.refusal.specs.Refusals.{whole, under}
 use Rattle.refusal.proofs.Tables.{Passed, Refusing, under-either, refuses}
 use Rattle.points.specs.declared.DrawnRow.{DrawnRow}
 use Rattle.points.specs.declared.DrawnRow.the-variants.{NoRow, Drawn}
-use Rattle.points.specs.Points.{Reading, comingRow, comingPicture}
-use Rattle.points.specs.Points.{rowLines, frameLines}
+use Rattle.points.specs.Points.{Reading, comingRow, comingPicture, rowLines, frameLines}
 use Rattle.points.specs.Bytes.{rowWith, frameWith, rowFilled, frameFilled}
 use Rattle.points.proofs.Rows.{row-low, frame-rows}
 

@@ -18,8 +18,7 @@ use Rattle.raster.specs.declared.LineTable.the-variants.{Steps261}
 use Rattle.block.specs.Block.{fits}
 use Rattle.face.proofs.Blocks.{new-on}
 use Rattle.face.specs.Face.{Called, Leaves, newTableCall, outCall, inputCall, rowStepCall}
-use Rattle.replay.specs.Replay.{sumOf, rowSum, agreed, World, world, turn, wrote, read, stepped, turned, Run, run, after, ran, start, tallied}
-use Rattle.replay.specs.Replay.{replayed}
+use Rattle.replay.specs.Replay.{sumOf, rowSum, agreed, World, world, turn, wrote, read, stepped, turned, Run, run, after, ran, start, tallied, replayed}
 
 -- ---- checksums
 pub part-low : (i b : ℕ) → i < 1024 → b < 256 → (i + 1) * b ≤ 261120

@@ -9,11 +9,10 @@ use lib.ListN.{length}
 use Rattle.laws.specs.Bits.{bit}
 use Rattle.laws.specs.Lists.{at}
 use Rattle.laws.specs.Paint.{ofBytes}
-use Rattle.picture.specs.Area.{rowSize}
+use Rattle.picture.specs.Area.{rowSize, areaFrom}
 use Rattle.raster.specs.declared.LineTable.the-variants.{Steps261}
 use Rattle.vdp.specs.Device.{made}
 use Rattle.block.specs.Block.{oldSize, blockOf}
-use Rattle.picture.specs.Area.{areaFrom}
 use Rattle.face.specs.Face.{Called, outCall, inputCall, rowStepCall}
 use Rattle.replay.specs.declared.Tally.{Tally}
 

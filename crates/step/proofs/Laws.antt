@@ -29,8 +29,7 @@ use Rattle.points.specs.declared.VdpInt.the-variants.{NoInterrupt, InterruptGen
 use Rattle.points.specs.declared.DrawnRow.{DrawnRow}
 use Rattle.points.specs.declared.DrawnRow.the-variants.{NoRow, Drawn}
 use Rattle.step.specs.declared.Stepped.{Stepped}
-use Rattle.points.specs.Points.{risen, rowOn, comingPicture, bitsOf, atEnd, endedBy, reportBy, interruptBy, pointsOf}
-use Rattle.points.specs.Points.{rowLines, frameLines}
+use Rattle.points.specs.Points.{risen, rowOn, comingPicture, bitsOf, atEnd, endedBy, reportBy, interruptBy, pointsOf, rowLines, frameLines}
 use Rattle.step.specs.Step.{register, lineOf, coloursNow, rowPicture, readingOf, counterUp, cleaned, stepped, refusedStep, stepWith}
 use Rattle.step.specs.Frame.{drawnBytes, rowAfter, frameAfter}
 use Rattle.dump.specs.Sheet.{dumpRefusal, sheetAfter, dumpLines}

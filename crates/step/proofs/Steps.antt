@@ -13,10 +13,8 @@ use Rattle.refusal.specs.Refusals.{Line, under}
 use Rattle.laws.proofs.Tests.{split}
 use Rattle.points.specs.declared.Points.{Points}
 use Rattle.step.specs.declared.Stepped.{Stepped}
-use Rattle.points.specs.Points.{Reading, reading}
-use Rattle.points.specs.Points.{rowLines, pointsWith}
-use Rattle.points.specs.Bytes.{rowFilled, RowPointsLeave}
-use Rattle.points.specs.Bytes.{FramePointsLeave, alsoLayers, RowLayerPointsLeave, FrameLayerPointsLeave}
+use Rattle.points.specs.Points.{Reading, reading, rowLines, pointsWith}
+use Rattle.points.specs.Bytes.{rowFilled, RowPointsLeave, FramePointsLeave, alsoLayers, RowLayerPointsLeave, FrameLayerPointsLeave}
 use Rattle.step.specs.Step.{coloursNow, readingOf, joined, stepped, refusedStep, stepWith, rowStep}
 use Rattle.step.specs.Layers.{layersAfter, RowLayersLeave, FrameLayersLeave}
 use Rattle.step.specs.Frame.{rowAfter, frameAfter, RowStepLeaves, FrameStepLeaves}

@@ -10,10 +10,8 @@ use lib.Dec.{ltb, lit≤}
 use lib.ListN.{length}
 use Rattle.laws.proofs.Tests.{split}
 use Rattle.refusal.specs.declared.Refusal.{Refusal}
-use Rattle.refusal.specs.declared.Refusal.the-variants.{Accepted, UnknownPort, HorizontalCounter, HighRegister, NothingChosen, PaletteRead}
-use Rattle.refusal.specs.declared.Refusal.the-variants.{NoPaletteByte}
-use Rattle.refusal.specs.declared.Refusal.the-variants.{OutsideMemory, VramLength, PixelLength, BlockMalformed, UnknownArea, FrameTooLong}
-use Rattle.refusal.specs.declared.Refusal.the-variants.{UnknownTile}
+use Rattle.refusal.specs.declared.Refusal.the-variants.{Accepted, UnknownPort, HorizontalCounter, HighRegister, NothingChosen, PaletteRead, NoPaletteByte}
+use Rattle.refusal.specs.declared.Refusal.the-variants.{OutsideMemory, VramLength, PixelLength, BlockMalformed, UnknownArea, FrameTooLong, UnknownTile}
 use Rattle.refusal.specs.declared.Refusal.the-variants.{CodesLength, HighCode, LayerLength, ListLength, RecordRoom}
 use Rattle.refusal.specs.Refusals.{refusalNumber}
 use Rattle.trace_run.specs.declared.Device.{Device}

@@ -31,8 +31,7 @@ use Rattle.home.specs.declared.HomeRead.{HomeRead}
 use Rattle.home.specs.declared.HomeStepped.{HomeStepped}
 use Rattle.home.specs.Ports as homePorts
 use Rattle.home.specs.Step as homeStep
-use Rattle.points.specs.Bytes.{layersBy}
-use Rattle.points.specs.Bytes.{alsoLayers}
+use Rattle.points.specs.Bytes.{layersBy, alsoLayers}
 use Rattle.step.specs.Layers.{rowLayers, layersAfter, RowLayersLeave}
 use Rattle.points.proofs.Rows.{row-in}
 use Rattle.step.proofs.Steps.{aside}

@@ -1,8 +1,7 @@
 -- `background::render_whole_tile` meets its contract: the eight pixels from x on, which are a whole tile.
 use borrow.Author.Needs.{needs}
-use mathlib.Core.Path.{_∙_, sym}
+use mathlib.Core.Path.{_∙_, sym, _≡_}
 use Prim.Native.Nat.{_+_, _%_, _<_}
-use mathlib.Core.Path.{_≡_}
 use native.Mathlib.Omega.{arith}
 use Rattle.laws.proofs.Bits.{number-ext}
 use Rattle.laws.proofs.Paint.{painted-cong}

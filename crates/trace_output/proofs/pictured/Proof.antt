@@ -8,8 +8,7 @@ use Rattle.picture.specs.Screen.{frameSize}
 use Rattle.trace_text.specs.Text.{longLine}
 use Rattle.trace_run.specs.Run.{held, start, turnFor, after}
 use Rattle.trace_output.specs.Output.{screenFor, pictureRoom}
-use Rattle.trace_output.proofs.Outputs.{frame-bytes, many-pixels, drawn-short, snapshot-no-room, snapshot-no-frame, snapshot-long}
-use Rattle.trace_output.proofs.Outputs.{snapshot-whole}
+use Rattle.trace_output.proofs.Outputs.{frame-bytes, many-pixels, drawn-short, snapshot-no-room, snapshot-no-frame, snapshot-long, snapshot-whole}
 use Rattle.trace_output.proofs.Outputs.{snapshot-leaves, lent}
 use Rattle.trace_run.proofs.Runs.{moves-for, ran-small, world-more}
 use Rattle.trace_output.proofs.pictured.Statement.{statement}
