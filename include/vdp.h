@@ -1,7 +1,8 @@
-/* vdp.h: the C face of libvdp, the video chip of the handheld. For C99 and C++11, or later.
+/* vdp.h: the C face of libvdp, the video chip of the handheld, and of the home machine that the dock plays. For C99 and C++11, or later.
  *
  * The library keeps nothing of its own and asks nothing of a system. The caller owns and lends
  *   - the state block: 220 bytes, or 219 of the first version: the whole device but its video memory (layout below);
+ *   - or, of a home machine, a home block of 186 bytes, for the calls vdp_home_...;
  *   - the video memory: exactly 16,384 bytes;
  *   - a frame, a row or a tile sheet that a call draws into; the layers of a row; the codes of a tile; a recording.
  * A lent buffer is a pointer and a length in bytes; no alignment is needed. The buffers of one call must not overlap, and each
@@ -9,12 +10,13 @@
  *
  * A save is the state block and the video memory: keep both, and put both back. (docs/SAVES.md tells what stands in a block.)
  * A reset is vdp_new, or vdp_new_table, on the same block. Neither touches the video memory: clear it, or leave it, as the
- * machine does that you play. What the command bytes are is told in section 3 of docs/RULES.md; what the registers do, and how
- * the video memory is laid out (map, tiles, sprites), in section 5; lines and interrupts are in section 4.
+ * machine does that you play. (A home block is no save format: see there.) What the command bytes are is told in section 3 of
+ * docs/RULES.md; what the registers do, and how the video memory is laid out (map, tiles, sprites), in section 5; lines and
+ * interrupts are in section 4; the home machine is in section 20.
  *
- * Every call ends, for any bytes in any of them, and answers one 32-bit word (vdp_pixel, see there, one of 64 bits):
+ * Every call ends, for any bytes in any of them, and answers one 32-bit word (vdp_pixel and vdp_home_pixel, see there, one of 64 bits):
  *   bits 0 to 7    refusal (VDP_OK and so on, below; vdp_refusal_text has them in words)
- *   vdp_input:     bits 8 to 15   the byte that was read, 0 on a refusal
+ *   a port read:   bits 8 to 15   the byte that was read, 0 on a refusal
  *   the steps:     bit 8          interrupt
  *                  bits 9, 10     display report (VDP_NO_DISPLAY and so on)
  *                  bits 16 to 23  the number of the row that was drawn, 0 if none
@@ -37,8 +39,8 @@
  *
  * Threads: two calls may run at the same time where every buffer that they share is const in both. So calls on different blocks
  * may run side by side, also over one video memory as long as each only reads it (the steps, vdp_input, vdp_pixel,
- * vdp_dump_tileset and vdp_read_tile do), and on one block vdp_pixel and vdp_dump_tileset; a buffer that one of them may write
- * is that call's alone, over its whole length.
+ * vdp_dump_tileset and vdp_read_tile do), and on one block vdp_pixel and vdp_dump_tileset; so it is of the home machine's calls;
+ * a buffer that one of them may write is that call's alone, over its whole length.
  */
 #ifndef HUMUSLOFT_VDP_H
 #define HUMUSLOFT_VDP_H
@@ -53,7 +55,7 @@ extern "C" {
 /* The number of this face, 65536 * major + 256 * minor + small; vdp_version() gives that of the library at hand. Major goes
  * up where a program that was right may have to change, minor where calls are added, small where neither is so. */
 #define VDP_VERSION_MAJOR 4
-#define VDP_VERSION_MINOR 5
+#define VDP_VERSION_MINOR 6
 #define VDP_VERSION_SMALL 0
 #define VDP_VERSION (65536 * VDP_VERSION_MAJOR + 256 * VDP_VERSION_MINOR + VDP_VERSION_SMALL)
 
@@ -74,6 +76,10 @@ extern "C" {
 #define VDP_TILESET_SIZE         131072 /* 128 x 256 pixels of 4 bytes: 512 tiles, 16 across */
 #define VDP_LIST_SIZE            220    /* the list of a repair */
 #define VDP_TILE_CODES           64     /* the codes of a tile, 0 to 15, row by row */
+#define VDP_HOME_STATE_SIZE      186    /* a home block */
+#define VDP_HOME_FRAME_SIZE      196608 /* 256 x 192 pixels of 4 bytes */
+#define VDP_HOME_ROW_SIZE        1024
+#define VDP_HOME_LAYERS_SIZE     256
 
 /* Sizes in pixels. A pixel is four bytes: red, green, blue, 255. */
 #define VDP_VISIBLE_WIDTH    160
@@ -82,6 +88,8 @@ extern "C" {
 #define VDP_EFFECTIVE_HEIGHT 224
 #define VDP_TILESET_WIDTH    128
 #define VDP_TILESET_HEIGHT   256
+#define VDP_HOME_WIDTH       256
+#define VDP_HOME_HEIGHT      192
 
 /* Tiles in video memory, 32 bytes each. */
 #define VDP_TILES 512
@@ -109,6 +117,7 @@ extern "C" {
 /* Layers: which of them owns a pixel of the row. Where sprite n, 0 to 63, was the last one drawn it is VDP_LAYER_SPRITE + n. */
 #define VDP_LAYER_BACKGROUND 0  /* the background, and no sprite was held back behind it */
 #define VDP_LAYER_HELD_BACK  1  /* the background, whose priority held back a pixel of one sprite or more; none was drawn */
+#define VDP_LAYER_FILLED     2  /* the home machine alone: columns 0 to 7 where register 0 bit 5 fills them, whatever stands under it */
 #define VDP_LAYER_SPRITE     64
 
 /* Refusals. "Unchanged" means every byte of every buffer; "latch empty" means that only the command latch is emptied. */
@@ -124,11 +133,11 @@ extern "C" {
 #define VDP_REFUSED_PIXELS_LENGTH 9  /* frame or row too short, or sheet not exactly VDP_TILESET_SIZE bytes: unchanged */
 #define VDP_REFUSED_BLOCK         10 /* state block malformed: unchanged */
 #define VDP_REFUSED_AREA          11 /* area number above 2: unchanged */
-#define VDP_REFUSED_FRAME_LONG    12 /* frame longer than its area's size: unchanged */
+#define VDP_REFUSED_FRAME_LONG    12 /* frame longer than its area's size, or than VDP_HOME_FRAME_SIZE: unchanged */
 #define VDP_REFUSED_TILE          13 /* tile number above 511: unchanged */
 #define VDP_REFUSED_CODES_LENGTH  14 /* codes not exactly VDP_TILE_CODES bytes: unchanged */
 #define VDP_REFUSED_CODE          15 /* a code above 15: unchanged */
-#define VDP_REFUSED_LAYERS_LENGTH 16 /* layer buffer with fewer bytes than a row of the area has pixels: unchanged */
+#define VDP_REFUSED_LAYERS_LENGTH 16 /* layer buffer with fewer bytes than a row has pixels: unchanged */
 #define VDP_REFUSED_LIST_LENGTH   17 /* list of a repair under VDP_LIST_SIZE bytes: unchanged */
 #define VDP_REFUSED_RECORD_ROOM   18 /* a record is longer than the room left in the recording: unchanged */
 
@@ -247,12 +256,68 @@ uint32_t vdp_record_step(uint8_t *recording, size_t recording_len, size_t used, 
  * all other bits are 0: of a bad record all but its kind, so that a reader stops there, at the offset that the trace programs name. */
 uint32_t vdp_record_next(const uint8_t *recording, size_t recording_len, size_t at);
 
+/* ---- The home machine: the chip of the dock, 256 x 192 pixels and no areas (docs/HOME.md; docs/RULES.md, section 20).
+ *
+ * Its calls are the handheld's, on a home block: a device but its video memory, which is lent as there. A home block is no save format: a program keeps one for
+ * as long as the major number of this face stays. By offset it is the state block up to VDP_AT_COMMAND_BYTE, with a mark of its own, and has no palette latch; then
+ * comes what stands below. It is malformed (refusal 10) if its length is not VDP_HOME_STATE_SIZE, its mark is not 56 48 (hex), a flag, dirty or the table is above 1,
+ * chosen is above 2, or the command byte is not 0 while its flag is 0. A state block of the handheld is malformed for these calls, and a home block for all others
+ * (to vdp_repair, which takes a block whatever its bytes are, by its length).
+ *
+ * Answers, refusals and what a refused call leaves are as the handheld has them. 6 and 11 never come: a palette write stores at once, and there are no areas. */
+#define VDP_HOME_AT_VERTICAL_SCROLL 23 /* as latched when the counter last became 0 */
+#define VDP_HOME_AT_DIRTY           24 /* flag: the cached colours are to be rebuilt before the next row */
+#define VDP_HOME_AT_TABLE           25 /* the line table */
+#define VDP_HOME_AT_PALETTE         26 /* 32 bytes, one a colour: two bits each for red (lowest), green and blue; the upper two show nothing */
+#define VDP_HOME_AT_COLOURS         58 /* 128 bytes, 32 cached colours of red, green, blue, 255; all zero until the first row is drawn */
+
+/* Makes the block a fresh home machine that goes by this table. Refusal: 10, for another length than VDP_HOME_STATE_SIZE or a table above 1 (what the block held does
+ * not matter). No other call changes its table. Video memory is not asked for, and stays as it is. */
+uint32_t vdp_home_new_table(uint8_t *state, size_t state_len, uint8_t table);
+
+/* The same with no table named: VDP_CHART_TABLE. */
+uint32_t vdp_home_new(uint8_t *state, size_t state_len);
+
+/* Writes a byte to a port. Refusals, in this order: 10, 8, 1, 3, 4, 7. */
+uint32_t vdp_home_out(uint8_t *state, size_t state_len, uint8_t *vram, size_t vram_len, uint16_t port, uint8_t value);
+
+/* Reads a byte from a port. Refusals, in this order: 10, 8, 1, 2, 4, 5, 7. */
+uint32_t vdp_home_input(uint8_t *state, size_t state_len, const uint8_t *vram, size_t vram_len, uint16_t port);
+
+/* One step of the line counter, drawing the step's row, if it has one, at its place in the frame: row y is drawn by the step that sets the counter to y, 0 to 191.
+ * The frame has exactly VDP_HOME_FRAME_SIZE bytes. Refusals, in this order: 10, 8, 9, 12; as of the handheld's steps, by the lengths alone, on every line. */
+uint32_t vdp_home_step(uint8_t *state, size_t state_len, const uint8_t *vram, size_t vram_len, uint8_t *frame,
+                       size_t frame_len);
+
+/* The same step, with the row drawn at the start of a row buffer of VDP_HOME_ROW_SIZE bytes or more. Refusals, in this order: 10, 8, 9. */
+uint32_t vdp_home_row_step(uint8_t *state, size_t state_len, const uint8_t *vram, size_t vram_len, uint8_t *row,
+                           size_t row_len);
+
+/* The step on a frame, with the layers of its row, if it draws one, in the first VDP_HOME_LAYERS_SIZE bytes of the layer buffer. The bytes past them never change,
+ * and with no row drawn none does. All else is as vdp_home_step has it. Refusals, in this order: 10, 8, 9, 12, 16. */
+uint32_t vdp_home_layer_step(uint8_t *state, size_t state_len, const uint8_t *vram, size_t vram_len, uint8_t *frame,
+                             size_t frame_len, uint8_t *layers, size_t layers_len);
+
+/* The same of the step on a row buffer, as vdp_home_row_step has it. Refusals, in this order: 10, 8, 9, 16. */
+uint32_t vdp_home_layer_row_step(uint8_t *state, size_t state_len, const uint8_t *vram, size_t vram_len, uint8_t *row,
+                                 size_t row_len, uint8_t *layers, size_t layers_len);
+
+/* One pixel of the row as it would be drawn now, the fill among it, with the block's registers, latched scroll and colours (made anew from the palette where they are
+ * dirty), whatever its counter reads. Nothing is written. Answers as vdp_pixel does; there is a pixel where the row is below VDP_HOME_HEIGHT and the column below
+ * VDP_HOME_WIDTH. Refusals, in this order: 10, 8. */
+uint64_t vdp_home_pixel(const uint8_t *state, size_t state_len, const uint8_t *vram, size_t vram_len, uint32_t row,
+                        uint32_t column);
+
+/* Draws all tiles into a sheet of VDP_TILESET_SIZE bytes, as vdp_dump_tileset does. Refusals, in this order: 10, 8, 9. */
+uint32_t vdp_home_dump_tileset(const uint8_t *state, size_t state_len, const uint8_t *vram, size_t vram_len,
+                               uint8_t *pixels, size_t pixels_len);
+
 /* The number of the library's face: VDP_VERSION of the header that belongs to it. */
 uint32_t vdp_version(void);
 
 /* The parts of an answer. */
 static inline unsigned vdp_refusal(uint32_t answer) { return answer & 0xFF; }
-static inline uint8_t vdp_byte(uint32_t answer) { return (uint8_t)(answer >> 8); }          /* of vdp_input */
+static inline uint8_t vdp_byte(uint32_t answer) { return (uint8_t)(answer >> 8); }          /* of a port read */
 static inline unsigned vdp_changed(uint32_t answer) { return answer >> 8 & 0xFF; }          /* of vdp_repair */
 static inline size_t vdp_recorded(uint32_t answer) { return answer >> 8 & 0xFF; }           /* of vdp_record_out, _input and _step */
 static inline int vdp_interrupt(uint32_t answer) { return (int)(answer >> 8 & 1); }         /* of a step */
@@ -260,10 +325,10 @@ static inline unsigned vdp_report(uint32_t answer) { return answer >> 9 & 3; }  
 static inline unsigned vdp_row(uint32_t answer) { return answer >> 16 & 0xFF; }             /* of a step */
 static inline int vdp_drawn(uint32_t answer) { return (int)(answer >> 24 & 1); }            /* of a step */
 
-static inline int vdp_there(uint64_t pixel) { return (int)(pixel >> 24 & 1); }              /* of vdp_pixel */
-static inline uint8_t vdp_red(uint64_t pixel) { return (uint8_t)(pixel >> 32); }            /* of vdp_pixel */
-static inline uint8_t vdp_green(uint64_t pixel) { return (uint8_t)(pixel >> 40); }          /* of vdp_pixel */
-static inline uint8_t vdp_blue(uint64_t pixel) { return (uint8_t)(pixel >> 48); }           /* of vdp_pixel */
+static inline int vdp_there(uint64_t pixel) { return (int)(pixel >> 24 & 1); }              /* of a pixel */
+static inline uint8_t vdp_red(uint64_t pixel) { return (uint8_t)(pixel >> 32); }            /* of a pixel */
+static inline uint8_t vdp_green(uint64_t pixel) { return (uint8_t)(pixel >> 40); }          /* of a pixel */
+static inline uint8_t vdp_blue(uint64_t pixel) { return (uint8_t)(pixel >> 48); }           /* of a pixel */
 
 static inline unsigned vdp_record_kind(uint32_t next) { return next & 0xFF; }               /* of vdp_record_next */
 static inline uint8_t vdp_record_port(uint32_t next) { return (uint8_t)(next >> 8); }       /* of vdp_record_next */

@@ -60,16 +60,16 @@ for lib in crates/*/src/lib.rt; do
     crate=$(basename "$(dirname "$(dirname "$lib")")")
     for f in $(sed -nE 's/^ *pub (extern "C" )?fn ([a-z0-9_]+).*/\2/p; s/^pub use [a-z_]+::([a-z0-9_]+);/\1/p' "$lib"); do
         grep -q "^Exceptions: .*\`$crate::$f\`" docs/CONTRACTS.md && continue
-        name=$(sed -nE "s/^use Rattle\.$crate\.proofs\.([A-Za-z]+\.)?$f( as ([a-z_-]+))?\$/\3/p" crates/demands/proofs/Outcome.antt)
-        grep -qE "^use Rattle\.$crate\.proofs\.([A-Za-z]+\.)?$f( |\$)" crates/demands/proofs/Outcome.antt &&
-            grep -q " ${name:-$f}\.Reads\.Learnt" crates/demands/proofs/Outcome.antt || bare="$bare $crate::$f"
+        name=$(sed -nE "s/^use Rattle\.$crate\.proofs\.([A-Za-z]+\.)?$f( as ([a-z_-]+))?\$/\3/p" crates/demands/proofs/Outcome*.antt)
+        grep -qE "^use Rattle\.$crate\.proofs\.([A-Za-z]+\.)?$f( |\$)" crates/demands/proofs/Outcome*.antt &&
+            grep -q " ${name:-$f}\.Reads\.Learnt" crates/demands/proofs/Outcome*.antt || bare="$bare $crate::$f"
     done
 done
 [ -z "$bare" ] || printf 'no theorem of one outcome:%s\n' "$bare"
 [ -z "$bare" ]
 tell "every public function has its theorem of one outcome, or is an exception of docs/CONTRACTS.md" $?
 
-# The calls that refusal 7 is shown never to come from: the constructors of `Call` and `FaceCall`, each with the name of its function.
+# The calls that refusal 7 is shown never to come from: the constructors of `Call`, `FaceCall` and `HomeCall`, each with the name of its function.
 # constructors FILE TYPE: those of a data type, as the code writes them. named FILE WORDS: the names behind `-- WORDS: `, up to the full stop.
 constructors() { awk -v type="$2" '/^[^ ]/ { on = $0 ~ "^pub data " type " " } on && /^  [a-z]/ { print $1 }' "$1" | tr - _; }
 named() { sed -nE "s/^-- $2: ([a-z0-9_, ]+)\..*/\1/p" "$1" | tr -d ' ' | tr , '\n'; }
@@ -87,9 +87,17 @@ tell "the theorem on refusal 7 speaks of every call of a device, and what else i
 calls_of Home home tile_codes
 tell "and of every call of a home device" $?
 
-diff <(sed -nE 's/^pub extern "C" fn ([a-z0-9_]+).*/\1/p' crates/face/src/lib.rt | sort) <(constructors crates/demands_face/specs/Calls.antt FaceCall | sort) &&
-    [ -n "$(constructors crates/demands_face/specs/Calls.antt FaceCall)" ]
+# face_calls FILE TYPE WORDS..: the functions of the C face that `grep WORDS` finds are the constructors of this type.
+face_calls() {
+    local calls
+    calls=$(constructors "crates/demands_face/specs/$1.antt" "$2")
+    shift 2
+    [ -n "$calls" ] && diff <(sed -nE 's/^pub extern "C" fn ([a-z0-9_]+).*/\1/p' crates/face/src/lib.rt | grep "$@" | sort) <(printf '%s\n' "$calls" | sort)
+}
+face_calls Calls FaceCall -v ^vdp_home_
 tell "and of every function of the C face" $?
+face_calls HomeCalls HomeCall ^vdp_home_
+tell "and of those on a home block" $?
 
 # docs/CONTRACTS.md names each edit as CRATE/`NAME`, and no other.
 told=$(grep -oE '[a-z_0-9]+/`[a-z_0-9]+`' docs/CONTRACTS.md | tr -d '`' | sort -u)
@@ -113,9 +121,11 @@ for edit in crates/*/must-fail/*.edit; do
         untried="$untried $edit"
         continue
     fi
-    first=$(grep -m 1 ': error: ' "$log")
-    case $first in
-    *'that can be named from here'* | *'is not in scope'* | *'has no field'* | *'expected type `tie.'* | '') unfit="$unfit $log" ;;
+    # The first error, with the lines that it goes on by; a hint among them may speak of a scope.
+    first=$(awk '/: error: / { if (on++) exit; print; next } on { if (!/^  /) exit; print }' "$log")
+    case ${first%%$'\n'*} in
+    *'that can be named from here'* | *'is not in scope'* | *'expected type `tie.'* | *'was not admitted'* | '') unfit="$unfit $log" ;;
+    *) case $first in *'has no field'*) unfit="$unfit $log" ;; esac ;;
     esac
 done
 [ -z "$untried" ] || printf 'not tried:%s\n' "$untried"

@@ -5,8 +5,8 @@ use mathlib.Core.List.{List}
 use mathlib.Core.Bool.{Bool, cond, _&&_}
 use Prim.Native.Nat.{ℕ, _+_, _-_, _%_, _≤_, _<_}
 use lib.ListN.{length}
-use lib.Dec.{eqb}
-use Rattle.laws.specs.Bits.{any}
+use lib.Dec.{eqb, ltb}
+use Rattle.laws.specs.Bits.{bit, any}
 use Rattle.laws.specs.Lists.{at}
 use Rattle.laws.specs.Sizes.{vramSize}
 use Rattle.picture.specs.declared.Screen.{Screen}
@@ -31,6 +31,14 @@ cutOf VisibleOnly s = s
 cutOf EffectiveArea s = 0
 cutOf TrueEdges s = 0
 cutOf Home s = 0
+
+-- R20.4, R20.5: the map's column that column 0 of home row `line` shows: scrolled sideways, but not in the first 16 rows where register 0 bit 6 is set
+abbrev pub homeColumn : List ℕ → ℕ → ℕ
+homeColumn reg line = cond (bit (at reg 0) 6 && ltb line 16) 0 ((256 - at reg 8) % 256)
+
+-- R20.5: the map's line that its columns from 192 on show, where those before them show line y: the row's own where register 0 bit 7 is set
+abbrev pub homeLast : List ℕ → ℕ → ℕ → ℕ
+homeLast reg line y = cond (bit (at reg 0) 7) line y
 
 -- bit i of the priority mask after the pixels below n
 unfoldable pub prioTo : List ℕ → ℕ → ℕ → ℕ → ℕ → ℕ → ℕ → Bool

@@ -10,7 +10,7 @@ ghost use Rattle.laws.specs.Paint.{painted};
 ghost use Rattle.laws.specs.Sizes.{vramSize};
 ghost use Rattle.bitmap.specs.Mask.{withByte, bytesOf};
 ghost use Rattle.picture.specs.Tile.{turned, namesAt, tileLine};
-ghost use Rattle.background.specs.Background.{Room, backColour, backFront, shade, prioTo, placeAt, Whole, cutOf};
+ghost use Rattle.background.specs.Background.{Room, backColour, backFront, shade, prioTo, placeAt, Whole, cutOf, homeColumn, homeLast};
 use bitmap::Bitmap;
 use picture::Screen;
 
@@ -58,6 +58,25 @@ pub fn cut_of(screen: Screen, s: u8) -> u8
         Screen::TrueEdges => 0,
         Screen::Home => 0,
     }
+}
+
+// The map's column that column 0 of home row `line` shows.
+pub fn home_column(reg: [u8; 11], line: usize) -> usize
+    ensures { λ r. ⌜ r ≡ homeColumn reg line ⌝ }
+    ensures { λ r. ⌜ r < 256 ⌝ }
+{
+    if small::both(small::is_set(reg[0], 6), line < 16) {
+        0
+    } else {
+        (256 - small::wide(reg[8])) % 256
+    }
+}
+
+// The map's line that its columns from 192 on show, where those before them show line y.
+pub fn home_line(reg: [u8; 11], line: usize, y: usize) -> usize
+    ensures { λ r. ⌜ r ≡ homeLast reg line y ⌝ }
+{
+    if small::is_set(reg[0], 7) { line } else { y }
 }
 
 // Where the pixels of one tile, from x on, mark: the row's first tile `cut` places to the left of them, around the circle.

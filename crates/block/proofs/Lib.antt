@@ -1,5 +1,4 @@
 -- The laws of the block.
-pub mod Copies
 pub mod Whole
 pub mod RoundTrip
 pub mod Shapes

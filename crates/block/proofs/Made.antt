@@ -5,23 +5,20 @@ use mathlib.Core.Bool.{true}
 use mathlib.Core.List.{List}
 use Prim.Native.Nat.{ℕ, _≤_, _<_}
 use native.Mathlib.Omega.{arith}
-use lib.ListN.{length, set, replicate}
+use lib.ListN.{length, set}
 use Rattle.laws.specs.Table.{table, tableFrom}
 use Rattle.raster.specs.declared.LineTable.{LineTable}
 use Rattle.raster.specs.Raster.{lineTableNumber}
 use Rattle.vdp.specs.Device.{made}
-use Rattle.block.specs.Block.{markOf, fits, freshIn, head, small, last, colourBytes, blockOf}
+use Rattle.block.specs.Block.{markOf, fits, freshIn, head, small, last, blockOf}
+use Rattle.block_parts.specs.Parts.{colourBytes, stamped}
 use Rattle.block.proofs.Whole.{fits-sized, sized-low, sized-high}
 
--- the bytes that are not 0, m the second of the mark
-abbrev pub stamped : List ℕ → ℕ → List ℕ
-stamped x m = set (set (set (set (set (set (set (set (set x 0 0x56) 1 m) 5 0xFF) 6 0xFF) 7 0xFF) 8 0xFF) 9 0xFF) 13 1) 26 1
-
-old : (t : LineTable) → stamped (replicate 219 0) 0x53 ≡ blockOf 219 (made t)
+old : (t : LineTable) → stamped 219 0x53 26 ≡ blockOf 219 (made t)
 unfolding blockOf head small last colourBytes table tableFrom
 old t = refl
 
-new : (t : LineTable) → set (stamped (replicate 220 0) 0x54) 219 (lineTableNumber t) ≡ blockOf 220 (made t)
+new : (t : LineTable) → set (stamped 220 0x54 26) 219 (lineTableNumber t) ≡ blockOf 220 (made t)
 unfolding blockOf head small last colourBytes table tableFrom
 new t = refl
 
@@ -29,12 +26,12 @@ module _ (t : LineTable) (b : List ℕ) (room : fits t (length b) ≡ true) wher
   pub low : 219 ≤ length b
   low = sized-low (length b) (fits-sized t (length b) room)
 
-  module _ {x : List ℕ} {m : ℕ} (ex : x ≡ replicate (length b) 0) (em : m ≡ markOf (length b)) where
-    pub fresh-old : length b ≤ 219 → stamped x m ≡ freshIn t b
+  module _ {x : List ℕ} {m : ℕ} (ex : x ≡ stamped (length b) m 26) (em : m ≡ markOf (length b)) where
+    pub fresh-old : length b ≤ 219 → x ≡ freshIn t b
     unfolding freshIn
     fresh-old h = let e : length b ≡ 219 = omega (arith, low) in rw (ex, em, room, e) (old t)
 
-    pub fresh-new : {n : ℕ} → 219 < length b → n ≡ lineTableNumber t → set (stamped x m) 219 n ≡ freshIn t b
+    pub fresh-new : {n : ℕ} → 219 < length b → n ≡ lineTableNumber t → set x 219 n ≡ freshIn t b
     unfolding freshIn
     fresh-new h en =
         let e : length b ≡ 220 = omega (arith, sized-high (length b) (fits-sized t (length b) room)) in

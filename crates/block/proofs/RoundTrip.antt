@@ -7,14 +7,11 @@ use Prim.Native.Nat.{ℕ, zero, suc, _+_, _*_, _/_, _%_, _<_, _≤_}
 use native.Mathlib.Omega.{arith}
 use borrow.Author.Tests.{eq-eqb, eqb-true, leb-true}
 use lib.Dec.{eqb, leb}
-use lib.ListN.{length, take, drop, length-append, length-take, length-drop, drop-of-length-le, List·getD-append}
-use lib.Seq.{take-at, drop-at, drop-drop, getD-take, getD-drop}
+use lib.ListN.{length, take, drop, length-drop, drop-of-length-le}
+use lib.Seq.{getD-drop}
 use Rattle.laws.specs.Lists.{at}
-use Rattle.laws.specs.Paint.{byteOfColour, ofBytes}
 use Rattle.laws.specs.Table.{tableFrom}
-use Rattle.laws.proofs.Bytes.{byte-0, byte-1, byte-2, byte-3, of-bytes}
-use Rattle.laws.proofs.Parts.{part-table, parted, at-past}
-use Rattle.laws.proofs.Tables.{is-table, getD-table}
+use Rattle.laws.proofs.Parts.{part-table}
 use Rattle.laws.proofs.Tests.{both, either, split}
 use Rattle.raster.specs.declared.LineTable.{LineTable}
 use Rattle.raster.specs.declared.LineTable.the-variants.{Steps261, Steps262}
@@ -23,10 +20,12 @@ use Rattle.vdp.specs.declared.VdpState.{VdpState}
 use Rattle.inplace.specs.Fields.{flagFrom, chosenFrom, latchFlag, latchFrom, latchFits}
 use Rattle.inplace.proofs.Fields.{flag-back, flag-ok, flag-in, chosen-back, chosen-ok, chosen-in, latch-back, latch-ok, latch-flag-in, latch-byte-in}
 use Rattle.inplace.proofs.Fields.{byte-ok, address-back}
-use Rattle.block.specs.Block.{sized, markOf, fits, last, head, small, colourAt, colourBytes, coloursAt, blockOf, stateOf, marked, flagged}
-use Rattle.block.specs.Block.{wellFormed, Shape}
-use Rattle.block.proofs.Copies.{length-colourBytes, colour-byte}
-use Rattle.block.proofs.Whole.{length-small, last-old, last-new, length-last, fits-sized, length-of, long}
+use Rattle.block_parts.specs.Parts.{registersIn, colourBytes, coloursFrom, fieldsFit}
+use Rattle.block_parts.proofs.Copies.{length-colourBytes, colours-back, colours-in}
+use Rattle.block_parts.proofs.Fields.{fit}
+use Rattle.block_parts.proofs.Format.{parts, small-at, cache-at, behind-at, registers-of, palette-of, length-whole}
+use Rattle.block.specs.Block.{sized, markOf, fits, last, head, small, blockOf, stateOf, marked, flagged, wellFormed, Shape}
+use Rattle.block.proofs.Whole.{length-head, length-small, last-old, last-new, length-last, fits-sized, length-of, long}
 
 -- ---- the table
 number-ok : (t : LineTable) → leb (lineTableNumber t) 1 ≡ true
@@ -35,63 +34,42 @@ number-ok Steps262 = refl
 
 -- ---- a device is read back
 module _ (n : ℕ) (s : VdpState) (g : Shape s) where
-  rest : List ℕ
+  abbrev rest : List ℕ
   rest = s .cram ++ (colourBytes (s .«color_cache») ++ last n s)
 
-  front : length (head n s ++ s .reg) ≡ 14
-  unfolding head
-  front = ap (λ (n : ℕ). suc (suc (suc n))) (g .registers)
+  abbrev cached : List ℕ
+  cached = colourBytes (s .«color_cache»)
 
   field : (k : ℕ) → at (blockOf n s) (14 + k) ≡ at (small s ++ rest) k
-  unfolding blockOf head rest
-  field k = at-past (head n s ++ s .reg) (small s ++ rest) 14 k front
-
-  after : drop 27 (blockOf n s) ≡ rest
-  unfolding blockOf head small rest
-  after = sym (drop-drop 13 14 (blockOf n s)) ∙ ap (drop 13) (drop-at (head n s ++ s .reg) (small s ++ rest) 14 front)
-
-  behind : (k : ℕ) → at (blockOf n s) (91 + k) ≡ at (colourBytes (s .«color_cache») ++ last n s) k
-  unfolding rest
-  behind k =
-      let e : 91 + k ≡ 27 + (64 + k) = omega arith in
-      ap (at (blockOf n s)) e
-      ∙ sym (getD-drop 27 (blockOf n s) (64 + k) 0)
-      ∙ ap (λ (l : List ℕ). at l (64 + k)) after
-      ∙ at-past (s .cram) (colourBytes (s .«color_cache») ++ last n s) 64 k (g .palette)
-
-  cached : (k : ℕ) → k < 128 → at (blockOf n s) (91 + k) ≡ at (colourBytes (s .«color_cache»)) k
-  cached k h =
-      behind k ∙ List·getD-append (colourBytes (s .«color_cache»)) (last n s) 0 k (rw (length-colourBytes (s .«color_cache»)) h)
+  unfolding blockOf
+  field =
+      small-at (head n s) (s .reg) (small s) (s .cram) cached (last n s) 13 64 (length-head n s) (g .registers) (length-small s) (g .palette)
+      (length-colourBytes (s .«color_cache»))
 
   table-byte : at (blockOf n s) 219 ≡ at (last n s) 0
-  table-byte = behind 128 ∙ at-past (colourBytes (s .«color_cache»)) (last n s) 128 0 (length-colourBytes (s .«color_cache»))
+  unfolding blockOf
+  table-byte =
+      behind-at (head n s) (s .reg) (small s) (s .cram) cached (last n s) 13 64 (length-head n s) (g .registers) (length-small s) (g .palette)
+      (length-colourBytes (s .«color_cache»)) 0
 
-  one-byte : (i j : ℕ) → i < 32 → j < 4 → at (blockOf n s) (91 + 4 * i + j) ≡ byteOfColour (at (s .«color_cache») i) j
-  one-byte i j hi hj =
-      let e : 91 + 4 * i + j ≡ 91 + (4 * i + j) = omega arith in
-      ap (at (blockOf n s)) e ∙ cached (4 * i + j) (omega arith) ∙ sym (colour-byte (s .«color_cache») i j hi hj)
+  cache-back : coloursFrom 91 (blockOf n s) ≡ s .«color_cache»
+  unfolding blockOf
+  cache-back =
+      colours-back 91 (blockOf n s) (s .«color_cache») (g .cache) (g .colour)
+      (cache-at (head n s) (s .reg) (small s) (s .cram) cached (last n s) 13 64 (length-head n s) (g .registers) (length-small s) (g .palette)
+      (length-colourBytes (s .«color_cache»)))
 
-  one-colour : (i : ℕ) → i < 32 → at (s .«color_cache») i ≡ colourAt (blockOf n s) (91 + 4 * i)
-  unfolding colourAt
-  one-colour i hi =
-      let z : 91 + 4 * i ≡ 91 + 4 * i + 0 = omega arith in
-      let k : List ℕ = blockOf n s in
-      sym
-      (ap (λ (n : ℕ). ofBytes (at k n) (at k (91 + 4 * i + 1)) (at k (91 + 4 * i + 2)) (at k (91 + 4 * i + 3))) z
-      ∙ rw (one-byte i 0 hi (omega arith), one-byte i 1 hi (omega arith), one-byte i 2 hi (omega arith), one-byte i 3 hi (omega arith))
-      (of-bytes (at (s .«color_cache») i) (g .colour i)))
-
-  colours-back : coloursAt (blockOf n s) ≡ s .«color_cache»
-  unfolding coloursAt
-  colours-back = sym (is-table (s .«color_cache») 32 (λ i. colourAt (blockOf n s) (91 + 4 * i)) (g .cache) one-colour)
-
-  registers-back : take 11 (drop 3 (blockOf n s)) ≡ s .reg
-  unfolding blockOf head
-  registers-back = take-at (s .reg) (small s ++ (s .cram ++ (colourBytes (s .«color_cache») ++ last n s))) 11 (g .registers)
+  registers-back : registersIn (blockOf n s) ≡ s .reg
+  unfolding blockOf
+  registers-back =
+      registers-of (head n s) (s .reg) (small s) (s .cram) cached (last n s) 13 64 (length-head n s) (g .registers) (length-small s) (g .palette)
+      (length-colourBytes (s .«color_cache»))
 
   palette-back : take 64 (drop 27 (blockOf n s)) ≡ s .cram
-  unfolding rest
-  palette-back = ap (take 64) after ∙ take-at (s .cram) (colourBytes (s .«color_cache») ++ last n s) 64 (g .palette)
+  unfolding blockOf
+  palette-back =
+      palette-of (head n s) (s .reg) (small s) (s .cram) cached (last n s) 13 64 (length-head n s) (g .registers) (length-small s) (g .palette)
+      (length-colourBytes (s .«color_cache»))
 
   -- what each byte from 14 to 26 is
   byte : (k : ℕ) {x : ℕ} → at (small s ++ rest) k ≡ x → at (blockOf n s) (14 + k) ≡ x
@@ -136,20 +114,15 @@ module _ (n : ℕ) (s : VdpState) (g : Shape s) where
         «cram_byte1» = (ap (λ (x : ℕ). latchFrom x (at k 24)) (byte 9 refl) ∙ ap (latchFrom (latchFlag (s .«cram_byte1»))) (byte 10 refl) ∙
             latch-back (s .«cram_byte1»)) i;
         «cram_dirty» = (ap flagFrom (byte 12 refl) ∙ flag-back (s .«cram_dirty»)) i;
-        «color_cache» = colours-back i;
+        «color_cache» = cache-back i;
       }
 
   pub length-block : sized n ≡ true → length (blockOf n s) ≡ n
-  unfolding blockOf head
-  length-block h = simp length-append (omega (
-    arith,
-    g .registers,
-    g .palette,
-    length-small s,
-    length-colourBytes (s .«color_cache»),
-    length-last n s
-        h,
-  ))
+  unfolding blockOf
+  length-block h =
+      length-whole (head n s) (s .reg) (small s) (s .cram) cached (last n s) 13 64 (length-head n s) (g .registers) (length-small s) (g .palette)
+      (length-colourBytes (s .«color_cache»))
+      ∙ length-last n s h
 
   mark-back : (at (blockOf n s) 0 ≡ 0x56) × (at (blockOf n s) 1 ≡ markOf n)
   unfolding blockOf head
@@ -207,6 +180,7 @@ module _ (b : List ℕ) (w : wellFormed b ≡ true) where
   pub record Said : Type 0 where
     pub mark-0 : at b 0 ≡ 0x56
     pub mark-1 : at b 1 ≡ markOf (length b)
+    pub fields : fieldsFit b ≡ true
     pub flag-15 : at b 15 ≤ 1
     pub chosen-20 : at b 20 ≤ 2
     pub flag-21 : at b 21 ≤ 1
@@ -219,33 +193,28 @@ module _ (b : List ℕ) (w : wellFormed b ≡ true) where
   pub said : Said
   unfolding wellFormed
   said =
-      let c = latchFits (at b 21) (at b 22) in
       let p = latchFits (at b 23) (at b 24) in
-      let all = both (sized (length b)) (marked b && flagged b && c && p) w .1 in
-      let three = both (marked b && flagged b && c) p all in
-      let two = both (marked b && flagged b) c (three .0) in
-      let one = both (marked b) (flagged b) (two .0) in
+      let all = both (sized (length b)) (marked b && fieldsFit b && flagged b && p) w .1 in
+      let three = both (marked b && fieldsFit b && flagged b) p all in
+      let two = both (marked b && fieldsFit b) (flagged b) (three .0) in
+      let one = both (marked b) (fieldsFit b) (two .0) in
       let mark = both (eqb (at b 0) 0x56) (eqb (at b 1) (markOf (length b))) (one .0) in
-      let t15 = leb (at b 15) 1 in
-      let t20 = leb (at b 20) 2 in
-      let t21 = leb (at b 21) 1 in
       let t23 = leb (at b 23) 1 in
       let t26 = leb (at b 26) 1 in
-      let f219 = both (t15 && t20 && t21 && t23 && t26) (leb (at b 219) 1) (one .1) in
-      let f26 = both (t15 && t20 && t21 && t23) t26 (f219 .0) in
-      let f23 = both (t15 && t20 && t21) t23 (f26 .0) in
-      let f21 = both (t15 && t20) t21 (f23 .0) in
-      let f20 = both t15 t20 (f21 .0) in
+      let f219 = both (t23 && t26) (leb (at b 219) 1) (two .1) in
+      let f26 = both t23 t26 (f219 .0) in
+      let f = fit b (one .1) in
       record {
         mark-0 = eqb-true (at b 0) 0x56 (mark .0);
         mark-1 = eqb-true (at b 1) (markOf (length b)) (mark .1);
-        flag-15 = leb-true (at b 15) 1 (f20 .0);
-        chosen-20 = leb-true (at b 20) 2 (f20 .1);
-        flag-21 = leb-true (at b 21) 1 (f21 .1);
-        flag-23 = leb-true (at b 23) 1 (f23 .1);
+        fields = one .1;
+        flag-15 = f .flag-15;
+        chosen-20 = f .chosen-20;
+        flag-21 = f .flag-21;
+        flag-23 = leb-true (at b 23) 1 (f26 .0);
         flag-26 = leb-true (at b 26) 1 (f26 .1);
         table-219 = leb-true (at b 219) 1 (f219 .1);
-        command = two .1;
+        command = f .command;
         palette = three .1;
       }
 
@@ -273,29 +242,6 @@ module _ (b : List ℕ) (w : wellFormed b ≡ true) (bytes : (i : ℕ) → at b 
       )
       (part-table 13 14 b (omega (arith, long b w)))
 
-  four : (i r : ℕ) → r < 4 → byteOfColour (colourAt b i) r ≡ at b (i + r)
-  unfolding colourAt
-  four i zero h = let z : i + 0 ≡ i = omega arith in rw z
-      (byte-0 (at b i) (at b (i + 1)) (at b (i + 2)) (at b (i + 3)) (bytes i) (bytes (i + 1)) (bytes (i + 2)) (bytes (i + 3)))
-  four i (suc zero) h = byte-1 (at b i) (at b (i + 1)) (at b (i + 2)) (at b (i + 3)) (bytes i) (bytes (i + 1)) (bytes (i + 2)) (bytes (i + 3))
-  four i (suc (suc zero)) h = byte-2 (at b i) (at b (i + 1)) (at b (i + 2)) (at b (i + 3)) (bytes i) (bytes (i + 1)) (bytes (i + 2)) (bytes (i + 3))
-  four i (suc (suc (suc zero))) h = byte-3 (at b i) (at b (i + 1)) (at b (i + 2)) (at b (i + 3)) (bytes i) (bytes (i + 1)) (bytes (i + 2))
-      (bytes (i + 3))
-  four i (suc (suc (suc (suc r)))) h = absurd (omega arith)
-
-  colours-in : colourBytes (coloursAt b) ≡ take 128 (drop 91 b)
-  unfolding colourBytes coloursAt
-  colours-in =
-      sym
-      (is-table (take 128 (drop 91 b)) 128 (λ k. byteOfColour (at (coloursAt b) (k / 4)) (k % 4))
-      (simp (length-take, length-drop) (omega (arith, long b w)))
-      (λ k h.
-      let q : k / 4 < 32 = omega arith in
-      let r : k % 4 < 4 = omega arith in
-      let e : 91 + k ≡ 91 + 4 * (k / 4) + k % 4 = omega arith in
-      getD-take 128 (drop 91 b) k 0 h ∙ getD-drop 91 b k 0 ∙ ap (at b) e ∙ sym (four (91 + 4 * (k / 4)) (k % 4) r) ∙ ap
-      (λ (c : ℕ). byteOfColour c (k % 4)) (sym (getD-table 32 (λ i. colourAt b (91 + 4 * i)) (k / 4) q))))
-
   last-in : last (length b) (stateOf b) ≡ drop 219 b
   unfolding stateOf
   last-in =
@@ -313,13 +259,4 @@ module _ (b : List ℕ) (w : wellFormed b ≡ true) (bytes : (i : ℕ) → at b 
   -- the block of the device that a block holds
   pub block-back : blockOf (length b) (stateOf b) ≡ b
   unfolding blockOf stateOf
-  block-back =
-      rw (head-in, small-in, colours-in, last-in)
-      (sym
-      (parted 3 0 b
-      ∙ ap (λ (x : List ℕ). take 3 b ++ x)
-      (parted 11 3 b
-      ∙ ap (λ (x : List ℕ). take 11 (drop 3 b) ++ x)
-      (parted 13 14 b
-      ∙ ap (λ (x : List ℕ). take 13 (drop 14 b) ++ x)
-      (parted 64 27 b ∙ ap (λ (x : List ℕ). take 64 (drop 27 b) ++ x) (parted 128 91 b))))))
+  block-back = rw (head-in, small-in, colours-in 91 b bytes (omega (arith, long b w)), last-in) (sym (parts 13 64 b))

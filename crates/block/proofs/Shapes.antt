@@ -1,6 +1,6 @@
 -- A fresh device of either table has the shape that the block asks, so has that of a well-formed block, and every port call keeps it.
 -- Assumes nothing.
-use Prim.Native.Nat.{ℕ, zero, suc, _+_, _-_, _*_, _%_, _≤_, _<_}
+use Prim.Native.Nat.{ℕ, zero, suc, _+_, _-_, _%_, _≤_, _<_}
 use mathlib.Core.Path.{_≡_, refl, ap, _∙_}
 use mathlib.Core.List.{List}
 use mathlib.Core.Bool.{Bool, true}
@@ -11,7 +11,6 @@ use lib.ListN.{length, take, drop, set, length-set, length-take, length-drop, re
 use lib.Seq.{getD-take, getD-drop}
 use Rattle.laws.specs.Lists.{at}
 use Rattle.laws.proofs.Parts.{set-below}
-use Rattle.laws.proofs.Tables.{getD-table}
 use Rattle.laws.proofs.Tests.{either}
 use Rattle.raster.specs.declared.Raster.{Raster}
 use Rattle.raster.specs.declared.LineTable.{LineTable}
@@ -26,8 +25,8 @@ use Rattle.front.specs.Ports.{frontWrite, frontRead}
 use Rattle.vdp.specs.Ports.{oddPalette, paletteWrite, portWrite, portRead}
 use Rattle.front.proofs.Kept.{write-kept, read-registers}
 use Rattle.inplace.specs.Fields.{latchByte, latchFrom}
-use Rattle.block.specs.Block.{colourAt, coloursAt, wellFormed, stateOf, Shape}
-use Rattle.block.proofs.Copies.{length-coloursAt}
+use Rattle.block_parts.proofs.Copies.{length-coloursFrom, colour-low}
+use Rattle.block.specs.Block.{wellFormed, stateOf, Shape}
 use Rattle.block.proofs.Whole.{long}
 
 zeros : (n i : ℕ) → at (replicate n 0) i ≡ 0
@@ -60,27 +59,16 @@ module _ (b : List ℕ) (w : wellFormed b ≡ true) (bytes : (i : ℕ) → at b 
   latch-low : (f x : ℕ) → x < 256 → latchByte (latchFrom f x) < 256
   latch-low f x h = either (λ (l : Latch). latchByte l < 256) (eqb f 0) (λ _. omega arith) (λ _. h)
 
-  colour-low : (i : ℕ) → at (coloursAt b) i < 4294967296
-  unfolding coloursAt colourAt
-  colour-low i =
-      elim (decLt i 32) [
-        | yes l ↦ rw (getD-table 32 (λ k. colourAt b (91 + 4 * k)) i l)
-            (omega (arith, bytes (91 + 4 * i), bytes (91 + 4 * i + 1), bytes (91 + 4 * i + 2), bytes (91 + 4 * i + 3)))
-        | no l ↦
-            let h : length (coloursAt b) ≤ i = omega (arith, length-coloursAt b) in
-            rw (List·getD-eq-default (coloursAt b) 0 h) (omega arith)
-      ]
-
   pub state-shape : Shape (stateOf b)
   unfolding stateOf
   state-shape =
       record {
         registers = simp (length-take, length-drop) (omega (arith, long b w));
         palette = simp (length-take, length-drop) (omega (arith, long b w));
-        cache = length-coloursAt b;
+        cache = length-coloursFrom 91 b;
         byte = part-byte 64 27;
         latched = latch-low (at b 23) (at b 24) (bytes 24);
-        colour = colour-low;
+        colour = colour-low 91 b bytes;
       }
 
 module _ {s : VdpState} (g : Shape s) where

@@ -1,23 +1,21 @@
 -- R7.5, R7.6: the state block, a device as 219 or 220 bytes: mark, status, registers (from 3 on), the raster, address, read buffer, chosen memory, the two
 -- latches, scroll, dirty, palette (from 27 on), cache (from 91 on) and, in its second version, the table (219).
 -- Assumes nothing.
-use Prim.Native.Nat.{ℕ, _+_, _*_, _/_, _%_, _<_}
+use Prim.Native.Nat.{ℕ, _/_, _%_, _<_}
 use mathlib.Core.Path.{_≡_}
 use mathlib.Core.List.{List, [], _∷_, _++_}
 use mathlib.Core.Bool.{Bool, cond, _||_, _&&_}
-use lib.ListN.{length, take, drop, set}
-use lib.Seq.{paste}
+use lib.ListN.{length, take, drop}
 use lib.Dec.{leb, eqb}
 use Rattle.laws.specs.Lists.{at}
-use Rattle.laws.specs.Paint.{byteOfColour, ofBytes}
-use Rattle.laws.specs.Table.{table}
-use Rattle.raster.specs.declared.Raster.{Raster}
 use Rattle.raster.specs.declared.LineTable.{LineTable}
 use Rattle.raster.specs.declared.LineTable.the-variants.{Steps261, Steps262}
 use Rattle.raster.specs.Raster.{lineTableNumber, lineTableFrom}
 use Rattle.vdp.specs.declared.VdpState.{VdpState}
 use Rattle.vdp.specs.Device.{made}
 use Rattle.inplace.specs.Fields.{flagOf, flagFrom, chosenOf, chosenFrom, latchFlag, latchByte, latchFrom, latchFits}
+use Rattle.inplace.specs.InPlace.{addressIn}
+use Rattle.block_parts.specs.Parts.{registersIn, rasterIn, colourBytes, coloursFrom, fieldsFit}
 
 -- R7.5: the bytes of the first version, which knows table 0 alone, and of the second; so its length n tells a block's version, and its mark
 abbrev pub oldSize : ℕ
@@ -36,16 +34,6 @@ markOf n = cond (eqb n oldSize) 0x53 0x54
 abbrev pub fits : LineTable → ℕ → Bool
 fits Steps261 n = sized n
 fits Steps262 n = eqb n blockSize
-
--- ---- the cache: the four bytes of each colour, and the colours that stand from place 91 on
-unfoldable pub colourBytes : List ℕ → List ℕ
-colourBytes cs = table 128 (λ k. byteOfColour (at cs (k / 4)) (k % 4))
-
-unfoldable pub colourAt : List ℕ → ℕ → ℕ
-colourAt b i = ofBytes (at b i) (at b (i + 1)) (at b (i + 2)) (at b (i + 3))
-
-unfoldable pub coloursAt : List ℕ → List ℕ
-coloursAt b = table 32 (λ i. colourAt b (91 + 4 * i))
 
 -- ---- the block of a device, n bytes long: bytes 0 to 2, the registers, bytes 14 to 26, the palette, the cache, the table
 unfoldable pub head : ℕ → VdpState → List ℕ
@@ -79,23 +67,16 @@ unfoldable pub stateOf : List ℕ → VdpState
 stateOf b =
     record {
       status = at b 2;
-      reg = take 11 (drop 3 b);
-      raster =
-          record {
-            «v_counter» = at b 14;
-            «v_counter_jumped» = flagFrom (at b 15);
-            «line_interrupt_counter» = at b 16;
-            «vertical_scroll» = at b 25;
-            table = lineTableFrom (at b 219);
-          };
-      addr = at b 17 + 256 * at b 18;
+      reg = registersIn b;
+      raster = rasterIn 25 (lineTableFrom (at b 219)) b;
+      addr = addressIn b;
       «vram_buffer» = at b 19;
       dest = chosenFrom (at b 20);
       cram = take 64 (drop 27 b);
       «cmd_byte1» = latchFrom (at b 21) (at b 22);
       «cram_byte1» = latchFrom (at b 23) (at b 24);
       «cram_dirty» = flagFrom (at b 26);
-      «color_cache» = coloursAt b;
+      «color_cache» = coloursFrom 91 b;
     }
 
 -- ---- R7.6: the length, the mark that fits it, the flags, the table and the bytes under empty latches are right
@@ -103,24 +84,14 @@ abbrev pub marked : List ℕ → Bool
 marked b = eqb (at b 0) 0x56 && eqb (at b 1) (markOf (length b))
 
 abbrev pub flagged : List ℕ → Bool
-flagged b = leb (at b 15) 1 && leb (at b 20) 2 && leb (at b 21) 1 && leb (at b 23) 1 && leb (at b 26) 1 && leb (at b 219) 1
+flagged b = leb (at b 23) 1 && leb (at b 26) 1 && leb (at b 219) 1
 
 unfoldable pub wellFormed : List ℕ → Bool
-wellFormed b =
-    sized (length b) && (marked b && flagged b && latchFits (at b 21) (at b 22) && latchFits (at b 23) (at b 24))
+wellFormed b = sized (length b) && (marked b && fieldsFit b && flagged b && latchFits (at b 23) (at b 24))
 
 -- what a fresh device of table t leaves in b: b's own version, or b as it is where it has no room for it
 unfoldable pub freshIn : LineTable → List ℕ → List ℕ
 freshIn t b = cond (fits t (length b)) (blockOf (length b) (made t)) b
-
--- a block with another status and raster (the table stays: no call changes it), and one with clean colours
-abbrev pub rasterStored : ℕ → Raster → List ℕ → List ℕ
-rasterStored status r b =
-    set (set (set (set (set b 2 status) 14 (r .«v_counter»)) 15 (flagOf (r .«v_counter_jumped»))) 16 (r .«line_interrupt_counter»)) 25
-    (r .«vertical_scroll»)
-
-abbrev pub cacheStored : List ℕ → List ℕ → List ℕ
-cacheStored colours b = set (paste b 91 (colourBytes colours) 128) 26 0
 
 -- what a device has whose block they make
 pub record Sized (s : VdpState) : Type 0 where

@@ -2,13 +2,13 @@
 -- Assumes nothing.
 use mathlib.Core.Path.{_≡_, sym, ap, _∙_}
 use mathlib.Core.Bool.{Bool, false, _||_}
-use mathlib.Core.List.{List, _++_, append-assoc}
+use mathlib.Core.List.{List}
 use Prim.Native.Nat.{ℕ, _+_, _-_, _%_, _<_}
 use native.Mathlib.Omega.{arith}
 use borrow.Author.Tests.{ne-eqb}
 use lib.Dec.{eqb}
-use lib.ListN.{length, set, length-append, length-set, List·getD-append}
-use lib.Seq.{set-append-left, getD-set-other}
+use lib.ListN.{set, length-set}
+use lib.Seq.{getD-set-other}
 use Rattle.laws.specs.Lists.{at}
 use Rattle.laws.proofs.Parts.{at-past, set-past}
 use Rattle.vdp.specs.declared.VdpState.{VdpState}
@@ -20,7 +20,11 @@ use Rattle.front.specs.Front.{changed}
 use Rattle.inplace.specs.Fields.{flagOf, latchFrom}
 use Rattle.inplace.specs.InPlace.{addressIn, latchStored, addressStored, colourStored}
 use Rattle.inplace.proofs.Fields.{flag-back, latch-back, address-back}
-use Rattle.block.specs.Block.{head, small, last, colourBytes, blockOf, Sized}
+use Rattle.block_parts.specs.Parts.{colourBytes}
+use Rattle.block_parts.proofs.Copies.{length-colourBytes}
+use Rattle.block_parts.proofs.Format.{palette-at, palette-set}
+use Rattle.block_parts.proofs.Front.{address-put}
+use Rattle.block.specs.Block.{head, small, last, blockOf, Sized}
 use Rattle.block.proofs.Whole.{length-head, length-small}
 use Rattle.block_ports.specs.InPlace.{PaletteInPlace}
 
@@ -38,25 +42,11 @@ module _ (n : ℕ) (s : VdpState) (g : Sized s) where
   unfolding blockOf head small
   dirty-read = at-past (s .reg) _ 11 12 (g .registers)
 
-  -- the palette's bytes begin behind 27 others
-  before : List ℕ
-  before = (head n s ++ s .reg) ++ small s
-
-  behind : List ℕ
-  behind = colourBytes (s .«color_cache») ++ last n s
-
-  before-long : length before ≡ 27
-  unfolding before
-  before-long = simp length-append (omega (arith, g .registers, length-head n s, length-small s))
-
-  parted : blockOf n s ≡ before ++ (s .cram ++ behind)
-  unfolding blockOf before behind
-  parted = simp append-assoc
-
   colour-read : (k : ℕ) → k < 64 → at (blockOf n s) (27 + k) ≡ at (s .cram) k
-  colour-read k h =
-      let low : k < length (s .cram) = omega (arith, g .palette) in
-      ap (λ (b : List ℕ). at b (27 + k)) parted ∙ at-past before (s .cram ++ behind) 27 k before-long ∙ List·getD-append (s .cram) behind 0 k low
+  unfolding blockOf
+  colour-read =
+      palette-at (head n s) (s .reg) (small s) (s .cram) (colourBytes (s .«color_cache»)) (last n s) 13 64 (length-head n s) (g .registers)
+      (length-small s) (g .palette) (length-colourBytes (s .«color_cache»))
 
   -- ---- what is stored
   pub latch-stored : (v : ℕ) {b′ : List ℕ} → b′ ≡ latchStored 23 (Held v) (blockOf n s) → b′ ≡ blockOf n (withPaletteByte s (Held v))
@@ -65,20 +55,17 @@ module _ (n : ℕ) (s : VdpState) (g : Sized s) where
 
   pub address-stored : (a : ℕ) {b′ : List ℕ} → b′ ≡ addressStored a (blockOf n s) → b′ ≡ blockOf n (withAddr s a)
   unfolding blockOf head small last
-  address-stored a e = e ∙ rw (set-past (s .reg) _ 11 3 _ (g .registers), set-past (s .reg) _ 11 4 _ (g .registers))
+  address-stored a e = e ∙ address-put _ _ _ (s .reg) _ _ _ (g .registers) _ _ _ a
 
   dirty-stored : (t : Bool) → set (blockOf n s) 26 (flagOf t) ≡ blockOf n (withPalette s (s .cram) t)
   unfolding blockOf head small last
   dirty-stored t = rw (set-past (s .reg) _ 11 12 _ (g .registers))
 
   byte-stored : (k v : ℕ) → k < 64 → set (blockOf n s) (27 + k) v ≡ blockOf n (withPalette s (set (s .cram) k v) (s .«cram_dirty»))
-  unfolding blockOf head small last before behind
-  byte-stored k v h =
-      let low : k < length (s .cram) = omega (arith, g .palette) in
-      ap (λ (b : List ℕ). set b (27 + k) v) parted
-      ∙ set-past before (s .cram ++ behind) 27 k v before-long
-      ∙ ap (λ (l : List ℕ). before ++ l) (set-append-left (s .cram) behind k v low)
-      ∙ simp append-assoc
+  unfolding blockOf head small last
+  byte-stored =
+      palette-set (head n s) (s .reg) (small s) (s .cram) (colourBytes (s .«color_cache»)) (last n s) 13 64 (length-head n s) (g .registers)
+      (length-small s) (g .palette) (length-colourBytes (s .«color_cache»))
 
 -- a byte of the palette, and the dirty flag with it
 abbrev coloured : VdpState → ℕ → ℕ → VdpState

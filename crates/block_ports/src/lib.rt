@@ -9,17 +9,13 @@ ghost use Rattle.vdp.specs.declared.VdpState.{VdpState};
 ghost use Rattle.inplace.specs.InPlace.{addressIn};
 ghost use Rattle.block.specs.Block.{oldSize, blockOf, wellFormed, Sized};
 ghost use Rattle.block_ports.specs.InPlace.{PaletteInPlace, OutInPlace, InputInPlace};
+use block::DIRTY;
+use block::PALETTE;
+use block::PALETTE_LATCH;
 use front::Latch;
 use inplace::Got;
 use refusal::Refusal;
 use vdp::CRAM_SIZE;
-
-// The places of the palette, of its latch and of the dirty flag, and the bytes of the palette.
-const PALETTE: usize = 27;
-
-const PALETTE_LATCH: usize = 23;
-
-const DIRTY: usize = 26;
 
 // A byte for the palette (R3.7): the first of two is latched, the second stores both, and the first stays latched.
 fn write_palette(block: &mut [u8], val: u8) -> Refusal

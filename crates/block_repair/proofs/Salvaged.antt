@@ -18,8 +18,9 @@ use Rattle.laws.proofs.Tests.{split, both, clash, either}
 use Rattle.front.specs.declared.WriteDest.{WriteDest}
 use Rattle.front.specs.declared.WriteDest.the-variants.{None, Vram, Cram}
 use Rattle.vdp.specs.Refusals.{size}
-use Rattle.block.specs.Block.{sized, markOf, colourAt, coloursAt, stateOf, wellFormed}
+use Rattle.block.specs.Block.{sized, markOf, stateOf, wellFormed}
 use Rattle.inplace.specs.Fields.{flagFrom, chosenFrom, latchFits}
+use Rattle.block_parts.specs.Parts.{colourAt, coloursFrom}
 use Rattle.block.proofs.Whole.{sized-low}
 use Rattle.block.proofs.RoundTrip.{Said, said}
 use Rattle.block_repair.specs.Repair.{within, held, choice, address, matching, dirty, mendedAt, mended, differing, changes}
@@ -163,14 +164,18 @@ module _ (b : List ℕ) (s : sized (length b) ≡ true) where
         le-leb (choice b) 2 (within-low 2 (at b 20)),
         v .1,
         le-leb (within 1 (at b 21)) 1 (within-low 1 (at b 21)),
+        v .2,
+        held-fits (within 1 (at b 21)) (at b 22),
+      )
+      (rw (
         v .3,
-        le-leb
-            (within 1 (at b 23)) 1 (within-low 1 (at b 23)),
+        le-leb (within 1 (at b 23)) 1 (within-low 1 (at b 23)),
         v .5,
         le-leb (dirty b) 1 dirty-low,
         le-leb (at m 219) 1 table-low,
-      )
-      (rw (v .2, held-fits (within 1 (at b 21)) (at b 22), v .4, held-fits (within 1 (at b 23)) (at b 24))))
+        v .4,
+        held-fits (within 1 (at b 23)) (at b 24),
+      )))
 
   -- the address lies in its memory
   addressed : ltb (stateOf m .addr) (size (stateOf m .dest)) ≡ true
@@ -190,7 +195,7 @@ module _ (b : List ℕ) (s : sized (length b) ≡ true) where
       ∙ part-table 64 27 b (omega (arith, low))
 
   same-cache : stateOf m .«color_cache» ≡ stateOf b .«color_cache»
-  unfolding stateOf coloursAt colourAt table
+  unfolding stateOf coloursFrom colourAt table
   same-cache =
       table-same 32 0 (λ i. colourAt m (91 + 4 * i)) (λ i. colourAt b (91 + 4 * i))
       (λ k l h. rw (

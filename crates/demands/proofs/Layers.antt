@@ -2,22 +2,26 @@
 -- Assumes nothing.
 use mathlib.Core.Path.{_≡_, refl, sym, ap, _∙_}
 use mathlib.Core.Logic.{_↔_, _⊎_, inl, inr, ⊎-elim}
-use mathlib.Core.Bool.{Bool, true, false, _&&_, _||_}
+use mathlib.Core.Bool.{Bool, true, false, cond, _&&_, _||_}
 use mathlib.Core.List.{List, [], _∷_}
-use Prim.Native.Nat.{ℕ, _+_, _-_, _<_, _≤_}
+use Prim.Native.Nat.{ℕ, _+_, _-_, _%_, _<_, _≤_}
 use native.Mathlib.Omega.{arith}
 use lib.Dec.{eqb, leb}
 use lib.ListN.{length, drop}
 use lib.Seq.{drop-at}
 use borrow.Author.Tests.{eqb-true, lt-ltb}
+use Rattle.laws.specs.Lists.{at}
 use Rattle.laws.specs.Table.{table}
 use Rattle.laws.proofs.Tests.{split, both, clash}
 use Rattle.laws.proofs.Tables.{length-table}
+use Rattle.picture.specs.declared.Screen.{Screen}
+use Rattle.picture.specs.declared.Screen.the-variants.{VisibleOnly, EffectiveArea, TrueEdges, Home}
 use Rattle.picture.specs.declared.RenderArea.{RenderArea}
 use Rattle.picture.specs.View.{View}
-use Rattle.picture.specs.Picture.{Canvas, back, front, bare, solid, heldBack, drawn, spriteCode, withSprite, withSprites, picture}
+use Rattle.picture.specs.Picture.{Canvas, back, front, bare, solid, heldBack, drawn, spriteCode, withSprite, withSprites, picture, Row, filled}
+use Rattle.picture.specs.Screen.{viewOf, shownOn, covered, pictureOf}
 use Rattle.picture.specs.Area.{screenOf, columns}
-use Rattle.picture.specs.Layers.{stopped, ownedBy, layersWith, layers, layersIn}
+use Rattle.picture.specs.Layers.{stopped, ownedBy, layersWith, layers, layersOf, layersIn}
 use Rattle.picture.proofs.Layers.{owned-drawn, owned-stopped, owned-left, colour-drawn, colour-left, drawn-solid, length-layersIn}
 use Rattle.vdp.specs.declared.VdpState.{VdpState}
 use Rattle.refusal.specs.declared.Refusal.the-variants.{LayerLength}
@@ -32,7 +36,9 @@ use Rattle.step.specs.Frame.{rowAfter, frameAfter}
 use Rattle.step.specs.Layers.{layersAfter}
 use Rattle.points.proofs.Laws.{row-refusing, frame-refusing}
 use Rattle.points.proofs.Steps.{under-also, not-last}
-use Rattle.demands.specs.Layers.{standsAt, laidOn, columnAt, codeIn, heldAt, NoneDrawn, LastDrawn, some, OneOf, Owned, Aside}
+use Rattle.demands.specs.Layers.{standsAt, laidOn, columnAt, codeIn, heldAt, NoneDrawn, LastDrawn, some, OneOf, Tells, Owned, OwnedOf, Aside}
+use Rattle.demands.specs.Handheld.{handheld}
+use Rattle.demands.specs.Home.{home}
 
 -- ---- the sprites of a line, laid in turn on any canvas c with any layers `own`, at column x
 module _ (m g : ℕ → ℕ) (v : View) (x : ℕ) where
@@ -211,7 +217,7 @@ module _ (m g : ℕ → ℕ) (v : View) (x : ℕ) where
         (λ h. u .0 (w .0 h), λ h. w .1 (u .1 h))
 
 -- R15.1: of every column of every row, in any view
-pub owned-tells : (m g : ℕ → ℕ) (v : View) (x : ℕ) → Owned m g v x
+owned-tells : (m g : ℕ → ℕ) (v : View) (x : ℕ) → Tells m g v x (layers m g v x) (picture m g v .colour x)
 unfolding layers picture bare
 owned-tells m g v x =
     let ns = laidOn m g v in
@@ -226,6 +232,42 @@ owned-tells m g v x =
       held = λ h. elim (held-all m g v x ns c (λ k. 0) h) [ inl z ↦ absurd (omega arith) | inr z ↦ z ];
       none = λ h. none-all m g v x ns c (λ k. 0) h .1;
     }
+
+-- R20.6: and on any screen, the fill among it
+shown-colour : (s : Screen) (g : ℕ → ℕ) (p : Row) (x : ℕ) → shownOn s g p .colour x ≡ cond (covered s g x) (16 + g 7 % 16) (p .colour x)
+unfolding filled
+shown-colour VisibleOnly g p x = refl
+shown-colour EffectiveArea g p x = refl
+shown-colour TrueEdges g p x = refl
+shown-colour Home g p x = refl
+
+module _ (s : Screen) (reg : List ℕ) (scroll : ℕ) (vram : List ℕ) (y x : ℕ) where
+  abbrev view : View
+  view = viewOf s (at reg) scroll y
+
+  layer-is : layersOf s reg scroll vram y x ≡ cond (covered s (at reg) x) 2 (layers (at vram) (at reg) view x)
+  unfolding layersOf
+  layer-is = refl
+
+  colour-is : pictureOf s reg scroll vram y .colour x ≡ cond (covered s (at reg) x) (16 + at reg 7 % 16) (picture (at vram) (at reg) view .colour x)
+  unfolding pictureOf
+  colour-is = shown-colour s (at reg) (picture (at vram) (at reg) view) x
+
+  pub owned-on : Owned s reg scroll vram y x
+  owned-on =
+      record {
+        filled = λ e. (layer-is ∙ rw e, colour-is ∙ rw e);
+        shown = λ e.
+            let l : layersOf s reg scroll vram y x ≡ layers (at vram) (at reg) view x = layer-is ∙ rw e in
+            let c : pictureOf s reg scroll vram y .colour x ≡ picture (at vram) (at reg) view .colour x = colour-is ∙ rw e in
+            rw (l, c) (owned-tells (at vram) (at reg) view x);
+      }
+
+pub owned-handheld : OwnedOf handheld
+owned-handheld a vram d y x = owned-on (screenOf a) (d .reg) (d .raster .«vertical_scroll») vram y x
+
+pub owned-home : OwnedOf home
+owned-home a vram h y x = owned-on Home (h .front .reg) (h .raster .«vertical_scroll») vram y x
 
 -- ---- a step
 module _ (a : RenderArea) (vram : List ℕ) (d : VdpState) (pixels layers : List ℕ) where

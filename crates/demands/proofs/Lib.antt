@@ -18,3 +18,4 @@ pub mod Layers
 pub mod Pixel
 pub mod Edges
 pub mod Outcome
+pub mod OutcomeHome

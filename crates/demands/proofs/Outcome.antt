@@ -43,6 +43,8 @@ use Rattle.tile.proofs.own_columns
 use Rattle.background.proofs.names_at
 use Rattle.background.proofs.line_at as tile-line-at
 use Rattle.background.proofs.cut_of
+use Rattle.background.proofs.home_column
+use Rattle.background.proofs.home_line
 use Rattle.background.proofs.render_background_line
 use Rattle.stand.proofs.settings
 use Rattle.sprites.proofs.early_of
@@ -104,7 +106,6 @@ use Rattle.block.proofs.well_formed
 use Rattle.block.proofs.fresh
 use Rattle.block.proofs.mark_of
 use Rattle.block.proofs.has_room
-use Rattle.block.proofs.colour_at
 use Rattle.block.proofs.registers
 use Rattle.block.proofs.raster_in
 use Rattle.block.proofs.palette_in
@@ -292,6 +293,12 @@ tile-line-at-once κs a q z z′ w w′ e f = (e .0 ∙ sym (f .0), refl)
 
 pub cut-of-once : OneOutcome 0 cut_of.Kinds.ps cut_of.Kinds.r cut_of.Reads.Asked cut_of.Reads.Learnt
 cut-of-once κs a q z z′ w w′ e f = (e .0 ∙ sym (f .0), refl)
+
+pub home-column-once : OneOutcome 0 home_column.Kinds.ps home_column.Kinds.r home_column.Reads.Asked home_column.Reads.Learnt
+home-column-once κs a q z z′ w w′ e f = (e .0 ∙ sym (f .0), refl)
+
+pub home-line-once : OneOutcome 0 home_line.Kinds.ps home_line.Kinds.r home_line.Reads.Asked home_line.Reads.Learnt
+home-line-once κs a q z z′ w w′ e f = (e ∙ sym f, refl)
 
 pub render-background-line-once : OneOutcome 3 render_background_line.Kinds.ps render_background_line.Kinds.r render_background_line.Reads.Asked
     render_background_line.Reads.Learnt
@@ -503,9 +510,6 @@ has-room-once κs a q z z′ w w′ e f = (e ∙ sym f, refl)
 pub fresh-once : OneOutcome 1 fresh.Kinds.ps fresh.Kinds.r fresh.Reads.Asked fresh.Reads.Learnt
 fresh-once κs a q z z′ w w′ e f = (refl, λ i. ((e ∙ sym f) i, w .1))
 
-pub colour-at-once : OneOutcome 1 colour_at.Kinds.ps colour_at.Kinds.r colour_at.Reads.Asked colour_at.Reads.Learnt
-colour-at-once κs a q z z′ w w′ e f = (e ∙ sym f, refl)
-
 pub registers-once : OneOutcome 1 registers.Kinds.ps registers.Kinds.r registers.Reads.Asked registers.Reads.Learnt
 registers-once κs a q z z′ w w′ e f = (e ∙ sym f, refl)
 
@@ -659,7 +663,7 @@ pub number-once : OneOutcome 0 number.Kinds.ps number.Kinds.r number.Reads.Asked
 number-once κs a q z z′ w w′ e f = (e .0 ∙ sym (f .0), refl)
 
 pub word-of-once : OneOutcome 0 word_of.Kinds.ps word_of.Kinds.r word_of.Reads.Asked word_of.Reads.Learnt
-word-of-once κs a q z z′ w w′ e f = (e fresh ∙ sym (f fresh), refl)
+word-of-once κs a q z z′ w w′ e f = (e ∙ sym f, refl)
 
 -- ---- a trace
 pub put-numbered-once : OneOutcome 2 put_numbered.Kinds.ps put_numbered.Kinds.r put_numbered.Reads.Asked put_numbered.Reads.Learnt

@@ -1,6 +1,5 @@
 -- R13.7, the author's program itself: from a fresh device of either table, on any frame and with any video memory at each step, it waits until the
--- counter reads 90 and
--- then gives colour 3 other palette bytes.
+-- counter reads 90 and then gives colour 3 other palette bytes.
 -- Assumes nothing.
 use mathlib.Core.Path.{_≡_}
 use mathlib.Core.Logic.{_↔_, _≢_}

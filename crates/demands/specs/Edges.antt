@@ -41,12 +41,13 @@ module _ (reg vram : List ℕ) (scroll y : ℕ) where
   -- The rows are the same byte for byte, in any colours, and so are their layers and the ninth sprite. Two sprites that are right of the screen meet in
   -- area 0 alone, so where there are none status bit 5 is the same too.
   pub record SameRow : Type 0 where
-    pub bytes : (colours : List ℕ) → rowBytes colours 160 (pictureOf TrueEdges reg scroll vram y) ≡ rowBytes colours 160
-        (pictureOf VisibleOnly reg scroll vram y)
+    pub bytes :
+        (colours : List ℕ) → rowBytes colours 160 (pictureOf TrueEdges reg scroll vram y) ≡ rowBytes colours 160 (pictureOf VisibleOnly reg scroll vram y)
     pub layer : (x : ℕ) → layersOf TrueEdges reg scroll vram y x ≡ layersOf VisibleOnly reg scroll vram y x
     pub ninth : pictureOf TrueEdges reg scroll vram y .ninth ≡ pictureOf VisibleOnly reg scroll vram y .ninth
-    pub hit : ((n : ℕ) → OneOf onRow n → xByte n ≤ 208 + early (at reg)) → pictureOf TrueEdges reg scroll vram y .hit ≡ pictureOf VisibleOnly reg
-        scroll vram y .hit
+    pub hit :
+        ((n : ℕ) → OneOf onRow n → xByte n ≤ 208 + early (at reg)) →
+        pictureOf TrueEdges reg scroll vram y .hit ≡ pictureOf VisibleOnly reg scroll vram y .hit
 
 -- ---- R18.4
 -- Row 0 of a map whose tile at column 5 is solid and has priority, all others clear, with solid sprites at these X bytes; register 0 and register 8.

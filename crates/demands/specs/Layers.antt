@@ -1,19 +1,22 @@
 -- WHAT A LAYER TELLS of the colour beside it, and that a step which tells layers is otherwise the step without.
--- R15.1, R15.2: said of any view, so of every area. R15.3, R15.4: of every device, memory and buffer.
+-- R15.1, R15.2: said of any view, so of every screen. R15.3, R15.4: of every device, memory and buffer.
 -- Assumes nothing.
 use mathlib.Core.Path.{_≡_}
 use mathlib.Core.Logic.{_↔_, _≢_, _⊎_}
 use mathlib.Core.Bool.{Bool, true, false, _&&_, _||_}
 use mathlib.Core.List.{List, [], _∷_}
-use Prim.Native.Nat.{ℕ, _+_, _-_, _*_, _<_, _≤_}
+use Prim.Native.Nat.{ℕ, _+_, _-_, _*_, _%_, _<_, _≤_}
 use lib.Dec.{leb}
 use lib.ListN.{length, take, drop}
+use Rattle.laws.specs.Lists.{at}
 use Rattle.picture.specs.declared.Stand.{Stand}
+use Rattle.picture.specs.declared.Screen.{Screen}
 use Rattle.picture.specs.declared.RenderArea.{RenderArea}
 use Rattle.picture.specs.View.{View}
-use Rattle.picture.specs.Picture.{Canvas, back, front, bare, tableAt, listed, solid, drawn, spriteCode, withSprite, picture}
+use Rattle.picture.specs.Picture.{Canvas, back, front, bare, tableAt, listed, solid, drawn, spriteCode, withSprite}
 use Rattle.picture.specs.Area.{screenOf, columns}
-use Rattle.picture.specs.Layers.{stopped, layers}
+use Rattle.picture.specs.Screen.{viewOf, covered, pictureOf}
+use Rattle.picture.specs.Layers.{stopped, layersOf}
 use Rattle.vdp.specs.declared.VdpState.{VdpState}
 use Rattle.refusal.specs.declared.Refusal.the-variants.{Accepted, LayerLength}
 use Rattle.refusal.specs.Refusals.{Line, first, under}
@@ -21,6 +24,7 @@ use Rattle.step.specs.Step.{rowLines, frameLines, readingOf, stepWith, rowStep,
 use Rattle.points.specs.Bytes.{rowFilled, frameFilled, alsoLayers}
 use Rattle.step.specs.Frame.{rowAfter, frameAfter}
 use Rattle.step.specs.Layers.{layersAfter}
+use Rattle.demands.specs.Machine.{Machine}
 
 -- ---- one column
 module _ (m g : ℕ → ℕ) (v : View) where
@@ -66,21 +70,34 @@ abbrev pub OneOf : List ℕ → ℕ → Type 0
 OneOf [] n = ⊥
 OneOf (k ∷ ns) n = (n ≡ k) ⊎ OneOf ns n
 
--- R15.1: what the layer of column x tells of it
-pub record Owned (m g : ℕ → ℕ) (v : View) (x : ℕ) : Type 0 where
+-- R15.1: what the layer of column x, where no fill covers it, tells of it and of its colour
+pub record Tells (m g : ℕ → ℕ) (v : View) (x layer colour : ℕ) : Type 0 where
   -- it is 0, 1, or 64 + n of a sprite that is laid on the line
-  pub kind : (layers m g v x < 2) ⊎ ((64 ≤ layers m g v x) × OneOf (laidOn m g v) (layers m g v x - 64))
+  pub kind : (layer < 2) ⊎ ((64 ≤ layer) × OneOf (laidOn m g v) (layer - 64))
   -- 0 and 1: the colour is the background's
-  pub behind : layers m g v x < 2 → picture m g v .colour x ≡ back m g v x
+  pub behind : layer < 2 → colour ≡ back m g v x
   -- 64 + n: the colour is that of sprite n's pixel there, and its code is not 0
-  pub sprite : (n : ℕ) → layers m g v x ≡ 64 + n
-      → (picture m g v .colour x ≡ 16 + codeIn m g v n x)
+  pub sprite : (n : ℕ) → layer ≡ 64 + n
+      → (colour ≡ 16 + codeIn m g v n x)
       × (solid (standsAt m g v n .start) (standsAt m g v n .end) (spriteCode m g (v .line) n) (columnAt m g v n x) ≡ true)
   -- it is 64 + n exactly where sprite n is the last one drawn there: so of two sprites with the same code at one column there is one answer
-  pub last : (n : ℕ) → (layers m g v x ≡ 64 + n) ↔ LastDrawn m g v x n (laidOn m g v) (bare (back m g v))
+  pub last : (n : ℕ) → (layer ≡ 64 + n) ↔ LastDrawn m g v x n (laidOn m g v) (bare (back m g v))
   -- 1: priority held back a sprite's pixel there; 0: it held back none
-  pub held : layers m g v x ≡ 1 → some (laidOn m g v) (heldAt m g v x) ≡ true
-  pub none : layers m g v x ≡ 0 → some (laidOn m g v) (heldAt m g v x) ≡ false
+  pub held : layer ≡ 1 → some (laidOn m g v) (heldAt m g v x) ≡ true
+  pub none : layer ≡ 0 → some (laidOn m g v) (heldAt m g v x) ≡ false
+
+-- R15.1, R20.6: of every column of every row of a screen, by the registers, the latched scroll and video memory
+pub record Owned (s : Screen) (reg : List ℕ) (scroll : ℕ) (vram : List ℕ) (y x : ℕ) : Type 0 where
+  -- where a fill covers it the layer is 2, and the colour the fill's, whatever stands under it
+  pub filled : covered s (at reg) x ≡ true
+      → (layersOf s reg scroll vram y x ≡ 2) × (pictureOf s reg scroll vram y .colour x ≡ 16 + at reg 7 % 16)
+  -- elsewhere the layer tells what stands there, and is not 2
+  pub shown : covered s (at reg) x ≡ false
+      → Tells (at vram) (at reg) (viewOf s (at reg) scroll y) x (layersOf s reg scroll vram y x) (pictureOf s reg scroll vram y .colour x)
+
+-- so of every row that a machine's device has now, and of the handheld's and of the home machine's
+abbrev pub OwnedOf : Machine → Type 0
+OwnedOf M = (a : M .Area) (vram : List ℕ) (d : M .Device) (y x : ℕ) → Owned (M .screen a) (M .registers d) (M .raster d .«vertical_scroll») vram y x
 
 -- ---- a step
 -- With room for the layers, the answer (refusal, interrupt, report, row, and the device with its status) and the pixels are those of the step without.
@@ -88,14 +105,12 @@ pub record Aside (a : RenderArea) (vram : List ℕ) (d : VdpState) (pixels layer
   pub row-answer : columns a ≤ length layers
       → stepWith (alsoLayers (columns a) (length layers) (rowLines a vram (length pixels))) a vram d ≡ rowStep a vram (length pixels) d
   pub row-pixels : columns a ≤ length layers
-      → under (alsoLayers (columns a) (length layers) (rowLines a vram (length pixels))) (λ r. pixels)
-      (rowFilled (screenOf a) vram (readingOf d) pixels)
+      → under (alsoLayers (columns a) (length layers) (rowLines a vram (length pixels))) (λ r. pixels) (rowFilled (screenOf a) vram (readingOf d) pixels)
       ≡ rowAfter a vram d pixels
   pub frame-answer : columns a ≤ length layers
       → stepWith (alsoLayers (columns a) (length layers) (frameLines a vram (length pixels))) a vram d ≡ frameStep a vram (length pixels) d
   pub frame-pixels : columns a ≤ length layers
-      → under (alsoLayers (columns a) (length layers) (frameLines a vram (length pixels))) (λ r. pixels)
-      (frameFilled (screenOf a) vram (readingOf d) pixels)
+      → under (alsoLayers (columns a) (length layers) (frameLines a vram (length pixels))) (λ r. pixels) (frameFilled (screenOf a) vram (readingOf d) pixels)
       ≡ frameAfter a vram d pixels
   -- without room it is refused: by 16 exactly where the step without layers is accepted, else as that one is
   pub row-short : length layers < columns a → first (rowLines a vram (length pixels)) ≡ Accepted

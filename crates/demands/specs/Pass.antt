@@ -120,8 +120,7 @@ watched {M} r =
       answer = answer r;
       vram = r .vram;
       scroll = λ i. latched M (r .table) (through r i);
-      frame = frameAt
-          r;
+      frame = frameAt r;
     }
 
 module _ {M : Machine} {a : M .Area} where
@@ -164,8 +163,9 @@ pub record Demand3 {M : Machine} {a : M .Area} (w : Watched M a) : Type 0 where
   pub row-once : (y : ℕ) → y < rows (M .screen a) → ExactlyOnce (pass w) (λ i. w .answer i .row ≡ Drawn y)
   pub no-other : (i y : ℕ) → w .answer i .row ≡ Drawn y → y < rows (M .screen a)
   -- a step that does not draw row y leaves row y as it is (the rows are all of the frame)
-  pub row-kept : (i y : ℕ) → w .answer i .row ≢ Drawn y → rowOf (rowSize (M .screen a)) y (w .frame (suc i)) ≡ rowOf (rowSize (M .screen a)) y
-      (w .frame i)
+  pub row-kept :
+      (i y : ℕ) → w .answer i .row ≢ Drawn y →
+      rowOf (rowSize (M .screen a)) y (w .frame (suc i)) ≡ rowOf (rowSize (M .screen a)) y (w .frame i)
   -- R13.4: one end of the screen
   pub end-once : ExactlyOnce (pass w) (λ i. w .answer i .report ≢ NoDisplay)
   -- R13.5: at the end row y is as its own step i drew it

@@ -18,12 +18,12 @@ use Rattle.demands.specs.Pass.{Watched, pass, coloursAt, lineSet, rowAtE
 pub record RowsDrawn {M : Machine} {a : M .Area} (r : Watched M a) : Type 0 where
   -- a row whose line the jump goes back over, D5 to D9 or to DA, is drawn exactly twice
   pub twice :
-      (y : ℕ) → y < rows (M .screen a) → jumpTo ≤ y + firstLine (M .screen a) → y + firstLine (M .screen a) < jumpLine (r .table) → ExactlyTwice
-      (pass r) (λ i. r .answer i .row ≡ Drawn y)
+      (y : ℕ) → y < rows (M .screen a) → jumpTo ≤ y + firstLine (M .screen a) → y + firstLine (M .screen a) < jumpLine (r .table) →
+      ExactlyTwice (pass r) (λ i. r .answer i .row ≡ Drawn y)
   -- every other exactly once
   pub once :
-      (y : ℕ) → y < rows (M .screen a) → (y + firstLine (M .screen a) < jumpTo) ⊎ (jumpLine (r .table) ≤ y + firstLine (M .screen a)) → ExactlyOnce
-      (pass r) (λ i. r .answer i .row ≡ Drawn y)
+      (y : ℕ) → y < rows (M .screen a) → (y + firstLine (M .screen a) < jumpTo) ⊎ (jumpLine (r .table) ≤ y + firstLine (M .screen a)) →
+      ExactlyOnce (pass r) (λ i. r .answer i .row ≡ Drawn y)
   pub no-other : (i y : ℕ) → r .answer i .row ≡ Drawn y → y < rows (M .screen a)
   -- row y is drawn by the steps that set line y + 24 (in the effective area, and at home, line y), and by no other
   pub at-line : (i y : ℕ) → y < rows (M .screen a) → (r .answer i .row ≡ Drawn y) ↔ (lineSet r i ≡ y + firstLine (M .screen a))

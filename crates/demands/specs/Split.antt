@@ -121,8 +121,7 @@ pub record Twins {M : Machine} {a : M .Area} (r r₀ : Watched M a) : Type 0 whe
   pub registers : (i : ℕ) → i < pass r → M .registers (r .ready i) ≡ M .registers (r₀ .ready i)
 
 -- The pixels that change: those of number c in new rows, and no others.
-pub record Changed {M : Machine} {a : M .Area} {r : Watched M a} {L : ℕ} {old new : List ℕ} (s : Split r L old new) (r₀ : Watched M a) (c : ℕ) : Type
-    0 where
+pub record Changed {M : Machine} {a : M .Area} {r : Watched M a} {L : ℕ} {old new : List ℕ} (s : Split r L old new) (r₀ : Watched M a) (c : ℕ) : Type 0 where
   pub these :
       (i x y : ℕ) → i < pass r → r .answer i .row ≡ Drawn y → x < columns (M .screen a) → New (s .moment) y → pictureAt r i y .colour x ≡ c →
       (pixelAtEnd r x y ≡ fourBytes (at (M .coloursOf new) c)) × (pixelAtEnd r₀ x y ≡ fourBytes (at (M .coloursOf old) c))

@@ -13,22 +13,17 @@ use Rattle.vdp.specs.Device.{made}
 use Rattle.block.specs.Block.{stateOf}
 use Rattle.face.specs.Face.{outCall}
 use Rattle.demands.specs.Handheld.{handheld}
-use Rattle.demands.specs.Pass.{deviceAfter, Run, Watched, watched}
+use Rattle.demands.specs.Pass.{deviceAfter}
 use Rattle.demands.specs.Author.{recoloured, Asks, AsksNot, Answered, WhichBytes}
+use Rattle.demands.proofs.Handheld.{handheld-lawful}
 use Rattle.demands.proofs.Author.{answered, which-bytes}
-use Rattle.demands_face.specs.Face.{blockAfter, FaceRun, stepAt, point, Goes, watchedBy}
-use Rattle.demands_face.specs.Calls.{called, Way, face}
+use Rattle.demands_face.specs.Face.{Way, blockAfter, FaceRun, stepAt, point, Goes, watchedBy}
+use Rattle.demands_face.specs.Calls.{called, face}
 use Rattle.demands_face.specs.Author.{asked, unasked, AnsweredThrough}
 use Rattle.demands_face.proofs.Stands.{Stands, made-stands, in-block, out-stands}
-use Rattle.demands_face.proofs.Handheld.{through}
-use Rattle.demands_face.proofs.Seven.{reached}
-
--- what holds of two runs on records, one beside the other, holds of two through the face
-both-through :
-    (P : Watched handheld VisibleOnly → Watched handheld VisibleOnly → Type 0) → ((r r₀ : Run handheld VisibleOnly) → P (watched r) (watched r₀)) →
-    (f f₀ : FaceRun face VisibleOnly) → Goes f → Goes f₀ → P (watchedBy f) (watchedBy f₀)
-both-through P holds f f₀ g g₀ =
-    through VisibleOnly (λ w. P w (watchedBy f₀)) (λ r. through VisibleOnly (P (watched r)) (holds r) f₀ g₀) f g
+use Rattle.demands_face.proofs.Watched.{both-through}
+use Rattle.demands_face.proofs.Reached.{reached}
+use Rattle.demands_face.proofs.Handheld.{face-lawful}
 
 -- the block after the four writes
 abbrev outs : List ℕ → List ℕ → ℕ → ℕ → List ℕ
@@ -62,7 +57,7 @@ module _ (t : LineTable) (block : List ℕ) (way : ℕ → Way) (vram : ℕ → 
     writes : watchedBy f .ready 90 ≡ recoloured low high (vram 90) (watchedBy f .answer 89 .device)
     unfolding point blockAfter called
     writes =
-        let r = reached t block (g .made) (stepAt f 89 (point f 89) ∷ point f 89 .calls) in
+        let r = reached handheld-lawful face-lawful t block (g .made) (stepAt f 89 (point f 89) ∷ point f 89 .calls) in
         written (blockAfter face block (stepAt f 89 (point f 89) ∷ point f 89 .calls)) (deviceAfter handheld (r .table) (r .calls)) (r .stands)
         (vram 90) low high l h
 
@@ -78,9 +73,11 @@ module _ (t : LineTable) (block : List ℕ) (way : ℕ → Way) (vram : ℕ → 
     answered-through g₀ =
         record {
           answered =
-              both-through (λ w w₀. Asks low high w → AsksNot w w₀ → Answered low high w w₀) (λ r r₀ q q₀. answered low high r q r₀ q₀) f f₀ g g₀
+              both-through handheld-lawful face-lawful VisibleOnly (λ w w₀. Asks low high w → AsksNot w w₀ → Answered low high w w₀)
+              (λ r r₀ q q₀. answered low high r q r₀ q₀) f f₀ g g₀
               asks asks-not;
           bytes =
-              both-through (λ w w₀. Asks low high w → AsksNot w w₀ → WhichBytes low high w w₀) (λ r r₀ q q₀. which-bytes low high r q r₀ q₀) f f₀ g
+              both-through handheld-lawful face-lawful VisibleOnly (λ w w₀. Asks low high w → AsksNot w w₀ → WhichBytes low high w w₀)
+              (λ r r₀ q q₀. which-bytes low high r q r₀ q₀) f f₀ g
               g₀ asks asks-not;
         }

@@ -26,10 +26,11 @@ use Rattle.face.specs.Layers.{rowTable, rowFills, frameTable, frameFills}
 use Rattle.face.specs.Repair.{repairCall}
 use Rattle.face.specs.Kept.{SameTable}
 use Rattle.face.proofs.Kept.{out-table, input-table, step-table-kept, row-table-kept, layer-table-kept, dump-table}
+use Rattle.demands_face.specs.Face.{makes}
 use Rattle.demands_face.specs.Calls.{FaceCall, vdp-new, vdp-new-table, vdp-out, vdp-input, vdp-step, vdp-row-step, vdp-layer-step}
 use Rattle.demands_face.specs.Calls.{vdp-layer-row-step, vdp-dump-tileset, vdp-pixel, vdp-repair, vdp-write-tile, vdp-read-tile, vdp-record-out}
-use Rattle.demands_face.specs.Calls.{vdp-record-input, vdp-record-step, vdp-record-next, vdp-version, called, makes}
-use Rattle.demands_face.specs.Kept.{FormedFor, TableKept}
+use Rattle.demands_face.specs.Calls.{vdp-record-input, vdp-record-step, vdp-record-next, vdp-version, called, face}
+use Rattle.demands_face.specs.Kept.{Keeps, Makes, FormedFor, TableKept}
 
 module _ (b : List ℕ) (bytes : (i : ℕ) → at b i < 256) where
   unchanged : {c : Called} → c .block ≡ b → SameTable b c
@@ -88,26 +89,35 @@ module _ (b : List ℕ) (bytes : (i : ℕ) → at b i < 256) where
       either (λ (c : Called). (c .word ≡ 0 → ⊥) → c .block ≡ b) (leb n 1 && fits (lineTableFrom n) (length b)) (λ _ z. absurd (z refl)) (λ _ _. refl)
 
   -- ---- each call
-  kept : (c : FaceCall) → makes c ≡ false → FormedFor c b → SameTable b (called c b)
+  same : (c : FaceCall) → makes face c ≡ false → FormedFor c b → SameTable b (called c b)
   unfolding called
-  kept vdp-new e w = clash e
-  kept (vdp-new-table t) e w = clash e
-  kept (vdp-out m p v byte) e w = out-table b bytes m p v byte
-  kept (vdp-input m p) e w = input-table b bytes m p
-  kept (vdp-step m x n) e w = step-table-kept b bytes m x n
-  kept (vdp-row-step m x n) e w = row-table-kept b bytes m x n
-  kept (vdp-layer-step m x layers n) e w = layer-table-kept b bytes (frameTable m x) (frameFills m x) m x layers n
-  kept (vdp-layer-row-step m x layers n) e w = layer-table-kept b bytes (rowTable m x) (rowFills m x) m x layers n
-  kept (vdp-dump-tileset m x) e w = dump-table b m x
-  kept (vdp-pixel m n y x) e w = unchanged refl
-  kept (vdp-repair l) e w = repair-table l (w refl)
-  kept (vdp-write-tile m n codes) e w = unchanged refl
-  kept (vdp-read-tile m n codes) e w = unchanged refl
-  kept (vdp-record-out r u p v) e w = unchanged refl
-  kept (vdp-record-input r u p) e w = unchanged refl
-  kept (vdp-record-step r u n) e w = unchanged refl
-  kept (vdp-record-next r u) e w = unchanged refl
-  kept vdp-version e w = unchanged refl
+  same vdp-new e w = clash e
+  same (vdp-new-table t) e w = clash e
+  same (vdp-out m p v byte) e w = out-table b bytes m p v byte
+  same (vdp-input m p) e w = input-table b bytes m p
+  same (vdp-step m x n) e w = step-table-kept b bytes m x n
+  same (vdp-row-step m x n) e w = row-table-kept b bytes m x n
+  same (vdp-layer-step m x layers n) e w = layer-table-kept b bytes (frameTable m x) (frameFills m x) m x layers n
+  same (vdp-layer-row-step m x layers n) e w = layer-table-kept b bytes (rowTable m x) (rowFills m x) m x layers n
+  same (vdp-dump-tileset m x) e w = dump-table b m x
+  same (vdp-pixel m n y x) e w = unchanged refl
+  same (vdp-repair l) e w = repair-table l (w refl)
+  same (vdp-write-tile m n codes) e w = unchanged refl
+  same (vdp-read-tile m n codes) e w = unchanged refl
+  same (vdp-record-out r u p v) e w = unchanged refl
+  same (vdp-record-input r u p) e w = unchanged refl
+  same (vdp-record-step r u n) e w = unchanged refl
+  same (vdp-record-next r u) e w = unchanged refl
+  same vdp-version e w = unchanged refl
+
+  kept : (c : FaceCall) → makes face c ≡ false → FormedFor c b → Keeps face c b
+  kept c e w =
+      let k = same c e w in
+      record { version = k .version; table = k .table }
+
+  new : (n : ℕ) → Makes face (vdp-new-table n) n b
+  unfolding called
+  new n = record { version = λ e. new-made n e .0; table = λ e. new-made n e .1; stays = new-stays n }
 
   pub table-kept : TableKept b
-  table-kept = record { kept = kept; made = new-made; not-made = new-stays; mends = mends }
+  table-kept = record { kept = kept; made = new; mends = mends }

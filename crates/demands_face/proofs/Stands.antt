@@ -12,11 +12,12 @@ use borrow.Author.Tests.{eq-eqb, lt-ltb}
 use Rattle.laws.specs.Lists.{at, written}
 use Rattle.laws.proofs.Any.{any-none}
 use Rattle.laws.proofs.Parts.{at-past}
-use Rattle.laws.proofs.Tests.{either, split, both}
+use Rattle.laws.proofs.Tests.{either, split, both, clash}
 use Rattle.colour.specs.Colour.{coloursOf}
 use Rattle.picture.specs.declared.RenderArea.{RenderArea}
 use Rattle.picture.specs.Area.{areaFrom}
 use Rattle.raster.specs.declared.LineTable.{LineTable}
+use Rattle.raster.specs.declared.LineTable.the-variants.{Steps262}
 use Rattle.raster.specs.Raster.{lineTableFrom}
 use Rattle.vdp.specs.declared.VdpState.{VdpState}
 use Rattle.front.specs.declared.WriteDest.{WriteDest}
@@ -25,7 +26,8 @@ use Rattle.vdp.specs.Device.{made}
 use Rattle.refusal.specs.Refusals.{refusalNumber, Line}
 use Rattle.vdp.specs.Refusals.{size}
 use Rattle.refusal.proofs.Tables.{under-either}
-use Rattle.block.specs.Block.{fits, head, small, last, colourBytes, blockOf, stateOf, wellFormed, Shape}
+use Rattle.block_parts.specs.Parts.{colourBytes}
+use Rattle.block.specs.Block.{fits, head, small, last, blockOf, stateOf, wellFormed, Shape}
 use Rattle.block.proofs.RoundTrip.{good-block, state-back}
 use Rattle.block.proofs.Shapes.{made-shape, write-shape, read-shape}
 use Rattle.block_repair.specs.Repair.{matching, mended, changes, repairLines}
@@ -33,8 +35,8 @@ use Rattle.block_repair.specs.Salvaged.{nothingWrong}
 use Rattle.block_repair.proofs.Salvaged.{stays-so}
 use Rattle.step.specs.Step.{rowLines, frameLines, stepWith}
 use Rattle.step.proofs.Laws.{step-left}
-use Rattle.face.specs.Face.{Called, refused, onArea, newTableCall, outOn, outCall, inputOn, inputCall, stepOn, stepCall, rowStepOn, rowStepCall, dumpCall}
-use Rattle.word.specs.Word.{stepWord}
+use Rattle.face.specs.Face.{Called, stepWord, refused, onArea, newTableCall, outOn, outCall, inputOn, inputCall, stepOn, stepCall, rowStepOn, rowStepCall}
+use Rattle.face.specs.Face.{dumpCall}
 use Rattle.face.specs.Layers.{layerLines, layerOn, layerCall, rowTable, rowFills, frameTable, frameFills}
 use Rattle.face.specs.Repair.{repairCall}
 use Rattle.face.specs.Refused.{refusalIn}
@@ -44,11 +46,11 @@ use Rattle.face.proofs.Exact.{step-byte}
 use Rattle.demands.specs.Handheld.{Call, out, input, frame-step, row-step, layer-frame-step, layer-row-step, after, handheld}
 use Rattle.demands.proofs.Sound.{table-kept}
 use Rattle.demands.proofs.Handheld.{handheld-lawful}
-use Rattle.demands_face.specs.Face.{Refused}
+use Rattle.demands_face.specs.Face.{makes, steps, Refused}
 use Rattle.demands_face.specs.Calls.{FaceCall, vdp-new, vdp-new-table, vdp-out, vdp-input, vdp-step, vdp-row-step, vdp-layer-step, vdp-layer-row-step}
 use Rattle.demands_face.specs.Calls.{vdp-dump-tileset, vdp-pixel, vdp-repair, vdp-write-tile, vdp-read-tile, vdp-record-out, vdp-record-input}
-use Rattle.demands_face.specs.Calls.{vdp-record-step, vdp-record-next, vdp-version, called, MadeBlock, by-new, by-new-table, makes, steps, face}
-use Rattle.demands_face.proofs.Lawful.{Fine, Does, stays, does, Quietly, stays-so as leaves, does-so}
+use Rattle.demands_face.specs.Calls.{vdp-record-step, vdp-record-next, vdp-version, called, MadeBlock, by-new, by-new-table, face}
+use Rattle.demands_face.proofs.Lawful.{Begun, Fine, Does, stays, does, Quietly, stays-so as leaves, does-so}
 
 -- the size of a memory
 pub size-positive : (w : WriteDest) → 0 < size w
@@ -71,15 +73,15 @@ pub record Stands (b : List ℕ) (d : VdpState) : Type 0 where
 pub fresh : (n : ℕ) (t : LineTable) → fits t n ≡ true → Stands (blockOf n (made t)) (made t)
 fresh n t h = record { room = n; fitting = h; shape = made-shape t; is = refl }
 
-begun : (b : List ℕ) (t : ℕ) → newTableCall b t .word ≡ 0 → Stands (newTableCall b t .block) (made (lineTableFrom t))
+started : (b : List ℕ) (t : ℕ) → newTableCall b t .word ≡ 0 → Stands (newTableCall b t .block) (made (lineTableFrom t))
 unfolding newTableCall
-begun b t =
+started b t =
     either (λ (c : Called). c .word ≡ 0 → Stands (c .block) (made (lineTableFrom t))) (leb t 1 && fits (lineTableFrom t) (length b))
     (λ e _. fresh (length b) (lineTableFrom t) (both (leb t 1) (fits (lineTableFrom t) (length b)) e .1)) (λ _ z. absurd (omega arith))
 
 pub made-stands : (t : LineTable) (b : List ℕ) → MadeBlock t b → Stands b (made t)
-made-stands t b (by-new x e) = begun x 1 e
-made-stands t b (by-new-table x n e) = begun x n e
+made-stands t b (by-new x e) = started x 1 e
+made-stands t b (by-new-table x n e) = started x n e
 
 -- the device that is in it
 pub in-block : {b : List ℕ} {d : VdpState} → Stands b d → stateOf b ≡ d
@@ -244,7 +246,7 @@ module _ {b : List ℕ} {d : VdpState} (s : Stands b d) where
 
 -- ---- each call
 pub calls :
-    (c : FaceCall) (b : List ℕ) (d : VdpState) → Fine handheld d → Stands b d → (makes c ≡ true → Refused face c b) →
+    (c : FaceCall) (b : List ℕ) (d : VdpState) → Fine handheld d → Stands b d → (makes face c ≡ true → Refused face c b) →
     Does handheld Stands b d (called c b .block)
 unfolding called
 calls vdp-new b d k s q = stays (new-stays b 1 (q refl))
@@ -267,7 +269,7 @@ calls (vdp-record-next r u) b d k s q = stays refl
 calls vdp-version b d k s q = stays refl
 
 pub quietly :
-    (c : FaceCall) (b : List ℕ) (d : VdpState) → Fine handheld d → Stands b d → ((makes c || steps c) ≡ true → Refused face c b) →
+    (c : FaceCall) (b : List ℕ) (d : VdpState) → Fine handheld d → Stands b d → ((makes face c || steps face c) ≡ true → Refused face c b) →
     Quietly handheld Stands b d (called c b .block)
 unfolding called
 quietly vdp-new b d k s q = leaves (new-stays b 1 (q refl))
@@ -288,3 +290,31 @@ quietly (vdp-record-input r u p) b d k s q = leaves refl
 quietly (vdp-record-step r u n) b d k s q = leaves refl
 quietly (vdp-record-next r u) b d k s q = leaves refl
 quietly vdp-version b d k s q = leaves refl
+
+-- one that makes a device, accepted
+new-word : (b : List ℕ) (t : ℕ) → refusalIn (newTableCall b t .word) ≡ 0 → newTableCall b t .word ≡ 0
+unfolding newTableCall
+new-word b t =
+    either (λ (c : Called). refusalIn (c .word) ≡ 0 → c .word ≡ 0) (leb t 1 && fits (lineTableFrom t) (length b)) (λ _ _. refl)
+    (λ _ z. absurd (omega arith))
+
+pub begun : (c : FaceCall) (b : List ℕ) → makes face c ≡ true → refusalIn (called c b .word) ≡ 0 → Begun face (called c b .block)
+unfolding called
+begun vdp-new b e z = record { table = Steps262; made = by-new b (new-word b 1 z) }
+begun (vdp-new-table t) b e z = record { table = lineTableFrom t; made = by-new-table b t (new-word b t z) }
+begun (vdp-out m p v byte) b e z = clash (sym e)
+begun (vdp-input m p) b e z = clash (sym e)
+begun (vdp-step m x n) b e z = clash (sym e)
+begun (vdp-row-step m x n) b e z = clash (sym e)
+begun (vdp-layer-step m x layers n) b e z = clash (sym e)
+begun (vdp-layer-row-step m x layers n) b e z = clash (sym e)
+begun (vdp-dump-tileset m x) b e z = clash (sym e)
+begun (vdp-pixel m n y x) b e z = clash (sym e)
+begun (vdp-repair l) b e z = clash (sym e)
+begun (vdp-write-tile m n codes) b e z = clash (sym e)
+begun (vdp-read-tile m n codes) b e z = clash (sym e)
+begun (vdp-record-out r u p v) b e z = clash (sym e)
+begun (vdp-record-input r u p) b e z = clash (sym e)
+begun (vdp-record-step r u n) b e z = clash (sym e)
+begun (vdp-record-next r u) b e z = clash (sym e)
+begun vdp-version b e z = clash (sym e)

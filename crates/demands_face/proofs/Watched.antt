@@ -8,10 +8,11 @@ use lib.Dec.{eqb}
 use lib.ListN.{length}
 use Rattle.refusal.specs.declared.Refusal.the-variants.{Accepted}
 use Rattle.demands.specs.Machine.{Machine, register, lineOf}
-use Rattle.demands.specs.Pass.{History, deviceAfter, becomesZero, latchedAlong, latched, Between, then, Run, until, through, ready, answer, frameAt, watched}
+use Rattle.demands.specs.Pass.{History, deviceAfter, becomesZero, latchedAlong, latched, Between, then, Run, until, through, ready, answer, frameAt, Watched}
+use Rattle.demands.specs.Pass.{watched}
 use Rattle.demands.proofs.Lawful.{Lawful}
 use Rattle.demands.proofs.Sound.{sound}
-use Rattle.demands_face.specs.Face.{Face, toldBy, blockAfter, RefusedOf, FaceRun, stepAt, steppedAt, point, Goes, watchedBy, Through}
+use Rattle.demands_face.specs.Face.{Face, toldBy, makes, steps, blockAfter, RefusedOf, FaceRun, stepAt, steppedAt, point, Goes, watchedBy, Through}
 use Rattle.demands_face.proofs.Lawful.{Fine, fine, Does, stays, does, Quietly, stays-so, does-so, Steps, LawfulFace}
 
 not-both : (b : Bool) → (not b && b) ≡ false
@@ -66,7 +67,7 @@ module _ {M : Machine} (ok : Lawful M) {F : Face M} (law : LawfulFace F) {a : M 
     calls : History M
     held : Held h calls
 
-  before : (cs : List (F .Call)) → RefusedOf F (F .makes) (f .block) [] cs → Before cs
+  before : (cs : List (F .Call)) → RefusedOf F (makes F) (f .block) [] cs → Before cs
   unfolding RefusedOf blockAfter latchedAlong deviceAfter
   before [] q = record { calls = []; held = record { stands = law .made-stands (f .table) (f .block) (g .made); scroll = refl } }
   before (c ∷ cs) q = go (before cs (q .1))
@@ -83,7 +84,7 @@ module _ {M : Machine} (ok : Lawful M) {F : Face M} (law : LawfulFace F) {a : M 
     them : List (Between M)
     held : Held h (then {M = M} them k)
 
-  between : (h : List (F .Call)) (k : History M) → Held h k → (cs : List (F .Call)) → RefusedOf F (λ c. F .makes c || F .steps c) (f .block) h cs →
+  between : (h : List (F .Call)) (k : History M) → Held h k → (cs : List (F .Call)) → RefusedOf F (λ c. makes F c || steps F c) (f .block) h cs →
       Between-them (cs ++ h) k
   unfolding RefusedOf then
   between h k w [] q = record { them = []; held = w }
@@ -194,3 +195,10 @@ module _ {M : Machine} (ok : Lawful M) {F : Face M} (law : LawfulFace F) {a : M 
 
 pub through-face : {M : Machine} (ok : Lawful M) {F : Face M} (law : LawfulFace F) (a : M .Area) → Through F a
 through-face ok law a P holds f g = subst P (sym (same-watched ok law f g)) (holds (run ok law f g))
+
+-- what holds of two runs on records, one beside the other, holds of two through the face
+pub both-through :
+    {M : Machine} (ok : Lawful M) {F : Face M} (law : LawfulFace F) (a : M .Area) (P : Watched M a → Watched M a → Type 0) →
+    ((r r₀ : Run M a) → P (watched r) (watched r₀)) → (f f₀ : FaceRun F a) → Goes f → Goes f₀ → P (watchedBy f) (watchedBy f₀)
+both-through ok law a P holds f f₀ g g₀ =
+    through-face ok law a (λ w. P w (watchedBy f₀)) (λ r. through-face ok law a (P (watched r)) (holds r) f₀ g₀) f g

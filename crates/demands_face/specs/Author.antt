@@ -8,8 +8,8 @@ use lib.Dec.{eqb}
 use Rattle.picture.specs.declared.RenderArea.the-variants.{VisibleOnly}
 use Rattle.raster.specs.declared.LineTable.{LineTable}
 use Rattle.demands.specs.Author.{Answered, WhichBytes}
-use Rattle.demands_face.specs.Face.{FaceRun, watchedBy}
-use Rattle.demands_face.specs.Calls.{FaceCall, vdp-out, Way, face}
+use Rattle.demands_face.specs.Face.{Way, FaceRun, watchedBy}
+use Rattle.demands_face.specs.Calls.{FaceCall, vdp-out, face}
 
 -- BF 06, BF C0, and the two bytes of colour 3, by `vdp_out`; the last one first
 abbrev pub recolour : (low high : ℕ) → low < 256 → high < 256 → (vram : List ℕ) → List FaceCall

@@ -1,7 +1,7 @@
 -- THE HANDHELD'S C FACE: its calls, each with the name of its function. The test suite `layout` holds the list to the code.
 -- Assumes nothing.
 use mathlib.Core.Path.{_≡_}
-use mathlib.Core.Bool.{Bool, true, false}
+use mathlib.Core.Bool.{Bool}
 use mathlib.Core.List.{List, []}
 use Prim.Native.Nat.{ℕ, _<_}
 use Rattle.picture.specs.declared.RenderArea.{RenderArea}
@@ -19,7 +19,7 @@ use Rattle.face.specs.Tiles.{writeTileCall, readTileCall}
 use Rattle.face.specs.Record.{recordCall, recordStepCall, nextCall}
 use Rattle.face.specs.Version.{version}
 use Rattle.demands.specs.Handheld.{handheld}
-use Rattle.demands_face.specs.Face.{Face}
+use Rattle.demands_face.specs.Face.{Kind, making, stepping, repairing, other, isRepairing, Way, plain, with-layers, Face}
 
 -- A call of the face beside one state block, with its other arguments. Buffers are the bytes that they hold at the call, and a port write's value is a byte.
 -- Every function of the face is a call here; those that take no state leave the block.
@@ -73,55 +73,35 @@ pub data MadeBlock : LineTable → List ℕ → Type 0 where
   by-new : (b : List ℕ) → newCall b .word ≡ 0 → MadeBlock Steps262 (newCall b .block)
   by-new-table : (b : List ℕ) (t : ℕ) → newTableCall b t .word ≡ 0 → MadeBlock (lineTableFrom t) (newTableCall b t .block)
 
--- those that make a device, and those that step
-abbrev pub makes : FaceCall → Bool
-makes vdp-new = true
-makes (vdp-new-table t) = true
-makes (vdp-out m p v byte) = false
-makes (vdp-input m p) = false
-makes (vdp-step m frame n) = false
-makes (vdp-row-step m row n) = false
-makes (vdp-layer-step m frame layers n) = false
-makes (vdp-layer-row-step m row layers n) = false
-makes (vdp-dump-tileset m pixels) = false
-makes (vdp-pixel m n y x) = false
-makes (vdp-repair list) = false
-makes (vdp-write-tile m tile codes) = false
-makes (vdp-read-tile m tile codes) = false
-makes (vdp-record-out s k port value) = false
-makes (vdp-record-input s k port) = false
-makes (vdp-record-step s k n) = false
-makes (vdp-record-next s k) = false
-makes vdp-version = false
+-- what it is for
+abbrev pub kind : FaceCall → Kind
+kind vdp-new = making
+kind (vdp-new-table t) = making
+kind (vdp-out m p v byte) = other
+kind (vdp-input m p) = other
+kind (vdp-step m frame n) = stepping
+kind (vdp-row-step m row n) = stepping
+kind (vdp-layer-step m frame layers n) = stepping
+kind (vdp-layer-row-step m row layers n) = stepping
+kind (vdp-dump-tileset m pixels) = other
+kind (vdp-pixel m n y x) = other
+kind (vdp-repair list) = repairing
+kind (vdp-write-tile m tile codes) = other
+kind (vdp-read-tile m tile codes) = other
+kind (vdp-record-out s k port value) = other
+kind (vdp-record-input s k port) = other
+kind (vdp-record-step s k n) = other
+kind (vdp-record-next s k) = other
+kind vdp-version = other
 
-abbrev pub steps : FaceCall → Bool
-steps vdp-new = false
-steps (vdp-new-table t) = false
-steps (vdp-out m p v byte) = false
-steps (vdp-input m p) = false
-steps (vdp-step m frame n) = true
-steps (vdp-row-step m row n) = true
-steps (vdp-layer-step m frame layers n) = true
-steps (vdp-layer-row-step m row layers n) = true
-steps (vdp-dump-tileset m pixels) = false
-steps (vdp-pixel m n y x) = false
-steps (vdp-repair list) = false
-steps (vdp-write-tile m tile codes) = false
-steps (vdp-read-tile m tile codes) = false
-steps (vdp-record-out s k port value) = false
-steps (vdp-record-input s k port) = false
-steps (vdp-record-step s k n) = false
-steps (vdp-record-next s k) = false
-steps vdp-version = false
+-- the one that repairs
+abbrev pub repairs : FaceCall → Bool
+repairs c = isRepairing (kind c)
 
--- the two steps on a frame: `vdp_step`, and `vdp_layer_step` with a layer buffer that holds these bytes
-pub data Way : Type 0 where
-  plain : Way
-  with-layers : (layers : List ℕ) → Way
-
+-- the two steps on a frame: `vdp_step`, and `vdp_layer_step`
 abbrev pub on-frame : RenderArea → Way → (vram frame : List ℕ) → FaceCall
 on-frame a plain m frame = vdp-step m frame (areaNumber a)
 on-frame a (with-layers layers) m frame = vdp-layer-step m frame layers (areaNumber a)
 
 abbrev pub face : Face handheld
-face = record { Call = FaceCall; called = called; Made = MadeBlock; device = stateOf; makes = makes; steps = steps; Way = Way; on-frame = on-frame }
+face = record { Call = FaceCall; called = called; Made = MadeBlock; device = stateOf; kind = kind; on-frame = on-frame }

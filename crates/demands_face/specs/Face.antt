@@ -3,7 +3,7 @@
 -- Assumes nothing.
 use mathlib.Core.Path.{_≡_}
 use mathlib.Core.Logic.{_≢_}
-use mathlib.Core.Bool.{Bool, true, cond, _||_}
+use mathlib.Core.Bool.{Bool, true, false, cond, _||_}
 use mathlib.Core.List.{List, [], _∷_, _++_}
 use Prim.Native.Nat.{ℕ, zero, suc, _/_, _%_}
 use lib.Dec.{eqb}
@@ -12,10 +12,40 @@ use Rattle.refusal.specs.declared.Refusal.the-variants.{Accepted}
 use Rattle.points.specs.declared.VdpInt.the-variants.{InterruptGenerated, NoInterrupt}
 use Rattle.points.specs.declared.DisplayRefresh.the-variants.{NoDisplay, ScreenDone, ScreenDoneNoRefresh}
 use Rattle.points.specs.declared.DrawnRow.the-variants.{NoRow, Drawn}
-use Rattle.face.specs.Face.{Called}
-use Rattle.face.specs.Refused.{refusalIn}
+use Rattle.word.specs.Word.{refusalIn}
+use Rattle.word.specs.Called.{Called}
 use Rattle.demands.specs.Machine.{Told, Machine}
 use Rattle.demands.specs.Pass.{Run, Watched, watched, latchedAlong}
+
+-- what a call is for: it makes a device, steps, repairs the block, or does none of these
+pub data Kind : Type 0 where
+  making : Kind
+  stepping : Kind
+  repairing : Kind
+  other : Kind
+
+abbrev pub isMaking : Kind → Bool
+isMaking making = true
+isMaking stepping = false
+isMaking repairing = false
+isMaking other = false
+
+abbrev pub isStepping : Kind → Bool
+isStepping making = false
+isStepping stepping = true
+isStepping repairing = false
+isStepping other = false
+
+abbrev pub isRepairing : Kind → Bool
+isRepairing making = false
+isRepairing stepping = false
+isRepairing repairing = true
+isRepairing other = false
+
+-- the two ways to step on a frame: without layers, and with a layer buffer that holds these bytes
+pub data Way : Type 0 where
+  plain : Way
+  with-layers : (layers : List ℕ) → Way
 
 pub record Face (M : Machine) : Type 1 where
   -- a call on one block, with its other arguments; its word, the block that it leaves, and the one other buffer that it may write
@@ -25,11 +55,9 @@ pub record Face (M : Machine) : Type 1 where
   pub Made : LineTable → List ℕ → Type 0
   -- the device in a block
   pub device : List ℕ → M .Device
-  -- whether a call makes a device anew, and whether it steps
-  pub makes : Call → Bool
-  pub steps : Call → Bool
-  -- the ways to step on a frame, and each as a call
-  pub Way : Type 0
+  -- what a call is for
+  pub kind : Call → Kind
+  -- a step on a frame, either way, as a call
   pub on-frame : M .Area → Way → (vram frame : List ℕ) → Call
 
 -- R7.7: the parts of a step's word: the interrupt in bit 8, the report in bits 9 and 10, the row in bits 16 to 23, where bit 24 says that there is one
@@ -58,6 +86,13 @@ toldBy w d =
 
 -- ---- calls on a block
 module _ {M : Machine} (F : Face M) where
+  -- those that make a device anew, and those that step
+  abbrev pub makes : F .Call → Bool
+  makes c = isMaking (F .kind c)
+
+  abbrev pub steps : F .Call → Bool
+  steps c = isStepping (F .kind c)
+
   -- the block after calls, the last one first
   unfoldable pub blockAfter : (block : List ℕ) → List (F .Call) → List ℕ
   blockAfter b [] = b
@@ -80,7 +115,7 @@ pub record FaceRun {M : Machine} (F : Face M) (a : M .Area) : Type 0 where
   pub before : List (F .Call)
   -- the calls made just before step i, the last one first; the way of step i, and the video memory lent to it
   pub between : ℕ → List (F .Call)
-  pub way : ℕ → F .Way
+  pub way : ℕ → Way
   pub vram : ℕ → List ℕ
   -- the frame as step 0 finds it
   pub frame : List ℕ
@@ -110,9 +145,9 @@ module _ {M : Machine} {F : Face M} {a : M .Area} where
   pub record Goes (f : FaceRun F a) : Type 0 where
     -- a call has made the block, and no later one has made a device anew in it
     pub made : F .Made (f .table) (f .block)
-    pub one-device : RefusedOf F (F .makes) (f .block) [] (f .before)
+    pub one-device : RefusedOf F (makes F) (f .block) [] (f .before)
     -- of the calls between two steps none is an accepted step, nor makes a device anew
-    pub quiet : (i : ℕ) → RefusedOf F (λ c. F .makes c || F .steps c) (f .block) (earlier f i) (f .between i)
+    pub quiet : (i : ℕ) → RefusedOf F (λ c. makes F c || steps F c) (f .block) (earlier f i) (f .between i)
     -- each step is accepted
     pub accepted : (i : ℕ) → refusalIn (steppedAt f i (point f i) .word) ≡ 0
 

@@ -1,52 +1,50 @@
--- R4.8, R17.1, of every call of the C face: what it leaves of a block's version and table.
+-- R4.8, R17.1, R21.1, of every call of the C face of either machine: what it leaves of a block's length, which is its version, and of its device's table.
 -- Assumes nothing.
 use mathlib.Core.Path.{_≡_}
-use mathlib.Core.Bool.{Bool, true, false}
+use mathlib.Core.Bool.{true, false}
 use mathlib.Core.List.{List}
 use Prim.Native.Nat.{ℕ, _<_}
 use lib.ListN.{length}
 use Rattle.laws.specs.Lists.{at}
 use Rattle.raster.specs.Raster.{lineTableFrom}
+use Rattle.raster.specs.declared.LineTable.{LineTable}
 use Rattle.raster.specs.declared.LineTable.the-variants.{Steps261}
-use Rattle.block.specs.Block.{sized, wellFormed, stateOf}
+use Rattle.block.specs.Block.{sized, wellFormed}
 use Rattle.block_repair.specs.Repair.{mended}
-use Rattle.face.specs.Face.{newTableCall}
-use Rattle.face.specs.Kept.{SameTable}
-use Rattle.demands_face.specs.Calls.{FaceCall, vdp-new, vdp-new-table, vdp-out, vdp-input, vdp-step, vdp-row-step, vdp-layer-step}
-use Rattle.demands_face.specs.Calls.{vdp-layer-row-step, vdp-dump-tileset, vdp-pixel, vdp-repair, vdp-write-tile, vdp-read-tile, vdp-record-out}
-use Rattle.demands_face.specs.Calls.{vdp-record-input, vdp-record-step, vdp-record-next, vdp-version, called, makes}
+use Rattle.demands.specs.Machine.{Machine}
+use Rattle.demands_face.specs.Face.{Face, makes}
+use Rattle.demands_face.specs.Calls.{FaceCall, vdp-new-table, repairs, face}
+use Rattle.demands_face.specs.HomeCalls.{HomeCall, vdp-home-new-table, home-face}
 
-abbrev pub repairs : FaceCall → Bool
-repairs vdp-new = false
-repairs (vdp-new-table t) = false
-repairs (vdp-out m p v byte) = false
-repairs (vdp-input m p) = false
-repairs (vdp-step m frame n) = false
-repairs (vdp-row-step m row n) = false
-repairs (vdp-layer-step m frame layers n) = false
-repairs (vdp-layer-row-step m row layers n) = false
-repairs (vdp-dump-tileset m pixels) = false
-repairs (vdp-pixel m n y x) = false
-repairs (vdp-repair list) = true
-repairs (vdp-write-tile m tile codes) = false
-repairs (vdp-read-tile m tile codes) = false
-repairs (vdp-record-out s k port value) = false
-repairs (vdp-record-input s k port) = false
-repairs (vdp-record-step s k n) = false
-repairs (vdp-record-next s k) = false
-repairs vdp-version = false
+module _ {M : Machine} (F : Face M) where
+  -- the table of the device in a block
+  abbrev pub tableOf : List ℕ → LineTable
+  tableOf b = M .raster (F .device b) .table
 
+  -- call c on block b leaves its length and its table
+  pub record Keeps (c : F .Call) (b : List ℕ) : Type 0 where
+    pub version : length (F .called c b .block) ≡ length b
+    pub table : tableOf (F .called c b .block) ≡ tableOf b
+
+  -- call c, which names table n: accepted, it leaves the length, and the device has that table; refused, the block stays
+  pub record Makes (c : F .Call) (n : ℕ) (b : List ℕ) : Type 0 where
+    pub version : F .called c b .word ≡ 0 → length (F .called c b .block) ≡ length b
+    pub table : F .called c b .word ≡ 0 → tableOf (F .called c b .block) ≡ lineTableFrom n
+    pub stays : (F .called c b .word ≡ 0 → ⊥) → F .called c b .block ≡ b
+
+-- ---- of a handheld's block b, whatever its bytes
 -- where call c repairs, block b is well formed
 abbrev pub FormedFor : FaceCall → List ℕ → Type 0
 FormedFor c b = repairs c ≡ true → wellFormed b ≡ true
 
--- of a block b, whatever its bytes
 pub record TableKept (b : List ℕ) : Type 0 where
   -- every call but those that make a device leaves its version and its table; a repair does where the block is well formed
-  pub kept : (c : FaceCall) → makes c ≡ false → FormedFor c b → SameTable b (called c b)
-  -- one that makes a device leaves the version, and its device has the table that was named; refused, the block stays
-  pub made : (n : ℕ) → newTableCall b n .word ≡ 0 → (length (newTableCall b n .block) ≡ length b) ×
-      (stateOf (newTableCall b n .block) .raster .table ≡ lineTableFrom n)
-  pub not-made : (n : ℕ) → (newTableCall b n .word ≡ 0 → ⊥) → newTableCall b n .block ≡ b
+  pub kept : (c : FaceCall) → makes face c ≡ false → FormedFor c b → Keeps face c b
+  pub made : (n : ℕ) → Makes face (vdp-new-table n) n b
   -- a table byte above 1, which only a malformed block has, is mended: it becomes 0
-  pub mends : sized (length b) ≡ true → 1 < at b 219 → stateOf (mended b) .raster .table ≡ Steps261
+  pub mends : sized (length b) ≡ true → 1 < at b 219 → tableOf face (mended b) ≡ Steps261
+
+-- ---- of a home block b, whatever its bytes
+pub record HomeTableKept (b : List ℕ) : Type 0 where
+  pub kept : (c : HomeCall) → makes home-face c ≡ false → Keeps home-face c b
+  pub made : (n : ℕ) → Makes home-face (vdp-home-new-table n) n b

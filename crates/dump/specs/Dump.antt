@@ -15,8 +15,7 @@ use Rattle.picture.specs.Tile.{codeAt}
 abbrev pub isSprite : ℕ → Bool
 isSprite c = leb 256 c
 
--- R5.14: tiles of sprites 16 high in pairs, one below the other, all others 16 across: where tile c
--- of 0 to 511 stands
+-- R5.14: tiles of sprites 16 high in pairs, one below the other, all others 16 across: where tile c of 0 to 511 stands
 unfoldable pub tileColumn : Bool → ℕ → ℕ
 tileColumn tall c = cond (tall && isSprite c) (c % 32 / 2) (c % 16)
 

@@ -14,6 +14,6 @@ lineNumber tall k = 8 * tileAt tall (k / 4 % 128 / 8) (k / 4 / 128 / 8) + k / 4 
 
 -- `now` is what the first t tile lines make of the bytes `pixels`
 pub record Dumping (vram : List ℕ) (tall high : Bool) (colours pixels : List ℕ) (t : ℕ) (now : List ℕ) : Type 0 where
-  pub byte : (k : ℕ) → k < dumpSize
-      → at now k ≡ cond (ltb (lineNumber tall k) t) (dumpByte (at vram) tall high colours (k / 4 % 128) (k / 4 / 128) (k % 4) (at pixels k))
-      (at pixels k)
+  pub byte :
+      (k : ℕ) → k < dumpSize →
+      at now k ≡ cond (ltb (lineNumber tall k) t) (dumpByte (at vram) tall high colours (k / 4 % 128) (k / 4 / 128) (k % 4) (at pixels k)) (at pixels k)

@@ -24,7 +24,8 @@ use Rattle.refusal.specs.Refusals.{refusalNumber, Line, under, whole}
 use Rattle.vdp.specs.Refusals.{deviceLeft}
 use Rattle.vdp.specs.Ports.{portWrite, portRead}
 use Rattle.vdp.proofs.Behind.{write-behind, read-behind}
-use Rattle.block.specs.Block.{fits, wellFormed, stateOf, head, small, last, colourBytes, blockOf}
+use Rattle.block_parts.specs.Parts.{colourBytes}
+use Rattle.block.specs.Block.{fits, wellFormed, stateOf, head, small, last, blockOf}
 use Rattle.block.proofs.Whole.{long}
 use Rattle.block.proofs.RoundTrip.{block-back}
 use Rattle.step.specs.Step.{stepped, refusedStep, rowLines, frameLines, stepWith}
@@ -35,10 +36,12 @@ use Rattle.refusal.proofs.Tables.{under-refused}
 use Rattle.step.specs.Layers.{layersAfter}
 use Rattle.step.proofs.Laws as Steps
 use Rattle.face.specs.Layers.{layerLines, layerCall, layersLeft}
-use Rattle.word.specs.Word.{stepWord}
-use Rattle.face.specs.Face.{refused, newTableCall, outCall, inputCall, steppedTo, stepCall, rowStepCall, dumpCall}
+use Rattle.word.specs.Word.{answerWord}
+use Rattle.word.proofs.Words.{number-low, alone, low-byte, not-accepted}
+use Rattle.word.proofs.Calls.{whole-refused}
+use Rattle.face.specs.Face.{stepWord, newTableCall, outCall, inputCall, steppedTo, stepCall, rowStepCall, dumpCall}
 use Rattle.face.specs.Refused.{refusalIn, blockLeft, LeftBehind}
-use Rattle.face.proofs.Exact.{number-low, alone, low-byte, step-byte}
+use Rattle.face.proofs.Exact.{step-byte}
 
 -- ---- the block of a device without its command latch
 module _ (k : ℕ) (s : VdpState) (eleven : length (s .reg) ≡ 11) where
@@ -55,10 +58,6 @@ module _ (k : ℕ) (s : VdpState) (eleven : length (s .reg) ≡ 11) where
       sym
       (ap (λ (l : List ℕ). set l 22 0) (set-past (head k s ++ s .reg) (small s ++ rest) 14 7 0 front)
       ∙ set-past (head k s ++ s .reg) (set (small s ++ rest) 7 0) 14 8 0 front)
-
--- where the number is not 0, the refusal is one
-pub not-accepted : (r : Refusal) {n : ℕ} → n ≡ refusalNumber r → n ≢ 0 → r ≢ Accepted
-not-accepted r e h q = h (e ∙ ap refusalNumber q)
 
 -- an accepted step has refusal 0 in its word
 all-well : (a : RenderArea) (m : List ℕ) (s : VdpState) → refusalIn (stepWord (stepped a m s)) ≡ 0
@@ -97,19 +96,10 @@ module _ (b : List ℕ) (bytes : (i : ℕ) → at b i < 256) where
   pub left-by : wellFormed b ≡ true → (r : Refusal) {n : ℕ} → n ≡ refusalNumber r → blockOf (length b) (deviceLeft r (stateOf b)) ≡ blockLeft n b
   left-by w r e = behind w r ∙ ap (λ (n : ℕ). blockLeft n b) (sym e)
 
-  -- refused before the device is asked: all unchanged
-  pub whole-refused : (r : Refusal) (x : List ℕ) → b ≡ blockLeft (refusalNumber r) b → LeftBehind b x (refused r b x)
-  whole-refused r x e =
-      record {
-        word = λ _. omega (arith, number-low r);
-        block = λ _. e ∙ ap (λ (n : ℕ). blockLeft n b) (sym (alone r));
-        lent = λ _. refl;
-      }
-
   -- the same of a step that the device refuses
   unstepped : wellFormed b ≡ true → (r : Refusal) (x : List ℕ) → b ≡ blockLeft (refusalNumber r) b → LeftBehind b x
       (steppedTo (length b) (refusedStep r (stateOf b)) x)
-  unfolding stepWord
+  unfolding answerWord
   unstepped w r x e =
       record {
         word = λ _. omega (arith, number-low r);
@@ -122,7 +112,7 @@ module _ (b : List ℕ) (bytes : (i : ℕ) → at b i < 256) where
   new-behind t =
       either (LeftBehind b []) (leb t 1 && fits (lineTableFrom t) (length b))
       (λ _. record { word = λ h. absurd (h refl); block = λ h. absurd (h refl); lent = λ _. refl })
-      (λ _. whole-refused BlockMalformed [] refl)
+      (λ _. whole-refused b BlockMalformed [] refl)
 
   pub out-behind : (m : List ℕ) (p v : ℕ) → LeftBehind b m (outCall b m p v)
   unfolding outCall
@@ -137,7 +127,7 @@ module _ (b : List ℕ) (bytes : (i : ℕ) → at b i < 256) where
         block = λ h. ap (blockOf (length b)) (l .device (not-accepted r (alone r) h)) ∙ left-by w r (alone r);
         lent = λ h. l .memory (not-accepted r (alone r) h);
       })
-      (λ _. whole-refused BlockMalformed m refl)
+      (λ _. whole-refused b BlockMalformed m refl)
 
   pub input-behind : (m : List ℕ) (p : ℕ) → LeftBehind b [] (inputCall b m p)
   unfolding inputCall
@@ -152,7 +142,7 @@ module _ (b : List ℕ) (bytes : (i : ℕ) → at b i < 256) where
         block = λ h. ap (blockOf (length b)) (l .device (not-accepted r (low-byte r (a .byte)) h)) ∙ left-by w r (low-byte r (a .byte));
         lent = λ _. refl;
       })
-      (λ _. whole-refused BlockMalformed [] refl)
+      (λ _. whole-refused b BlockMalformed [] refl)
 
   -- a step on the device of the block, with x its buffer and x′ what an accepted one leaves there
   -- no line of its table is one that empties the latch
@@ -176,8 +166,8 @@ module _ (b : List ℕ) (bytes : (i : ℕ) → at b i < 256) where
       either (LeftBehind b frame) (wellFormed b)
       (λ w. either (LeftBehind b frame) (leb n 2)
       (λ _. step-left w (frameLines (areaFrom n) m (length frame)) (areaFrom n) m frame _ (refl, (refl, (refl, tt))))
-      (λ _. whole-refused UnknownArea frame refl))
-      (λ _. whole-refused BlockMalformed frame refl)
+      (λ _. whole-refused b UnknownArea frame refl))
+      (λ _. whole-refused b BlockMalformed frame refl)
 
   pub row-behind : (m row : List ℕ) (n : ℕ) → LeftBehind b row (rowStepCall b m row n)
   unfolding rowStepCall rowAfter
@@ -185,8 +175,8 @@ module _ (b : List ℕ) (bytes : (i : ℕ) → at b i < 256) where
       either (LeftBehind b row) (wellFormed b)
       (λ w. either (LeftBehind b row) (leb n 2)
       (λ _. step-left w (rowLines (areaFrom n) m (length row)) (areaFrom n) m row _ (refl, (refl, tt)))
-      (λ _. whole-refused UnknownArea row refl))
-      (λ _. whole-refused BlockMalformed row refl)
+      (λ _. whole-refused b UnknownArea row refl))
+      (λ _. whole-refused b BlockMalformed row refl)
 
   -- a step with layers: block and pixels, and the layer buffer too
   layer-behind :
@@ -198,8 +188,8 @@ module _ (b : List ℕ) (bytes : (i : ℕ) → at b i < 256) where
       either (LeftBehind b x) (wellFormed b)
       (λ w. either (LeftBehind b x) (leb n 2)
       (λ _. step-left w (layerLines lines layers (areaFrom n)) (areaFrom n) m x _ k)
-      (λ _. whole-refused UnknownArea x refl))
-      (λ _. whole-refused BlockMalformed x refl)
+      (λ _. whole-refused b UnknownArea x refl))
+      (λ _. whole-refused b BlockMalformed x refl)
 
   pub layer-row-behind : (filled : VdpState → RenderArea → List ℕ) (m row layers : List ℕ) (n : ℕ) → LeftBehind b row
       (layerCall (λ a. rowLines a m (length row)) filled b m row layers n)
@@ -233,6 +223,6 @@ module _ (b : List ℕ) (bytes : (i : ℕ) → at b i < 256) where
       (λ _. split (whole m)
       (λ e. split (eqb (length pixels) 131072)
       (λ f. simp (e, f) (record { word = λ h. absurd (h refl); block = λ h. absurd (h refl); lent = λ h. absurd (h refl) }))
-      (λ f. simp (e, f) (whole-refused PixelLength pixels refl)))
-      (λ e. simp e (whole-refused VramLength pixels refl)))
-      (λ _. whole-refused BlockMalformed pixels refl)
+      (λ f. simp (e, f) (whole-refused b PixelLength pixels refl)))
+      (λ e. simp e (whole-refused b VramLength pixels refl)))
+      (λ _. whole-refused b BlockMalformed pixels refl)

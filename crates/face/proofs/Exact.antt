@@ -5,7 +5,7 @@ use mathlib.Core.Path.{_≡_, refl, sym, ap, _∙_}
 use mathlib.Core.Logic.{_≢_, _↔_}
 use mathlib.Core.Bool.{Bool, true, false, cond, not, _&&_}
 use mathlib.Core.List.{List, [], _∷_}
-use Prim.Native.Nat.{ℕ, _+_, _*_, _%_, _<_}
+use Prim.Native.Nat.{ℕ, _<_}
 use native.Mathlib.Omega.{arith}
 use borrow.Author.Tests.{eqb-false, leb-true, leb-false, not-true}
 use lib.Dec.{eqb, leb}
@@ -13,9 +13,7 @@ use lib.ListN.{length}
 use Rattle.laws.proofs.Tests.{split, both, clash}
 use Rattle.raster.specs.Raster.{lineTableFrom}
 use Rattle.refusal.specs.declared.Refusal.{Refusal}
-use Rattle.refusal.specs.declared.Refusal.the-variants.{Accepted, UnknownPort, HorizontalCounter, HighRegister, NothingChosen, PaletteRead, NoPaletteByte}
-use Rattle.refusal.specs.declared.Refusal.the-variants.{OutsideMemory, VramLength, PixelLength, BlockMalformed, UnknownArea, FrameTooLong, UnknownTile}
-use Rattle.refusal.specs.declared.Refusal.the-variants.{CodesLength, HighCode, LayerLength, ListLength, RecordRoom}
+use Rattle.refusal.specs.declared.Refusal.the-variants.{UnknownArea}
 use Rattle.picture.specs.declared.RenderArea.{RenderArea}
 use Rattle.vdp.specs.declared.VdpState.{VdpState}
 use Rattle.refusal.specs.Refusals.{refusalNumber, Line, first, line}
@@ -23,45 +21,15 @@ use Rattle.vdp.specs.Refusals.{writeLines, readLines}
 use Rattle.vdp.specs.Ports.{portWrite, portRead}
 use Rattle.vdp.proofs.Exact.{write-exact, read-exact}
 use Rattle.block.specs.Block.{fits, wellFormed, stateOf}
-use Rattle.points.specs.declared.DrawnRow.{DrawnRow}
-use Rattle.points.specs.declared.DrawnRow.the-variants.{NoRow, Drawn}
 use Rattle.step.specs.declared.Stepped.{Stepped}
 use Rattle.dump.specs.Sheet.{dumpRefusal, dumpLines}
 use Rattle.step.specs.Step.{rowLines, frameLines, stepWith, rowStep, frameStep}
 use Rattle.step.proofs.Laws as Steps
 use Rattle.picture.specs.Area.{areaFrom}
 use Rattle.face.specs.Layers.{layerLines, layerCall}
-use Rattle.word.specs.Word.{rowBits, stepWord}
-use Rattle.face.specs.Face.{newTableCall, outCall, inputCall, stepCall, rowStepCall, dumpCall}
+use Rattle.word.proofs.Words.{low-byte, alone, answer-byte}
+use Rattle.face.specs.Face.{stepWord, newTableCall, outCall, inputCall, stepCall, rowStepCall, dumpCall}
 use Rattle.face.specs.Refused.{refusalIn, malformed, newLines, outLines, inputLines, stepCallLines, dumpCallLines}
-
-pub number-low : (r : Refusal) → refusalNumber r < 256
-number-low Accepted = omega arith
-number-low UnknownPort = omega arith
-number-low HorizontalCounter = omega arith
-number-low HighRegister = omega arith
-number-low NothingChosen = omega arith
-number-low PaletteRead = omega arith
-number-low NoPaletteByte = omega arith
-number-low OutsideMemory = omega arith
-number-low VramLength = omega arith
-number-low PixelLength = omega arith
-number-low BlockMalformed = omega arith
-number-low UnknownArea = omega arith
-number-low FrameTooLong = omega arith
-number-low UnknownTile = omega arith
-number-low CodesLength = omega arith
-number-low HighCode = omega arith
-number-low LayerLength = omega arith
-number-low ListLength = omega arith
-number-low RecordRoom = omega arith
-
--- the refusal is the low byte of a word that has it there
-pub low-byte : (r : Refusal) (k : ℕ) → refusalIn (refusalNumber r + 256 * k) ≡ refusalNumber r
-low-byte r k = omega (arith, number-low r)
-
-pub alone : (r : Refusal) → refusalIn (refusalNumber r) ≡ refusalNumber r
-alone r = omega (arith, number-low r)
 
 pub new-exact : (b : List ℕ) (t : ℕ) → refusalIn (newTableCall b t .word) ≡ refusalNumber (first (newLines b t))
 unfolding newTableCall
@@ -82,13 +50,8 @@ input-exact b m p =
     (λ e. simp e)
 
 -- a step's word
-row-byte : (r : DrawnRow) → rowBits r % 256 ≡ 0
-row-byte NoRow = refl
-row-byte (Drawn y) = omega arith
-
 pub step-byte : (s : Stepped) → refusalIn (stepWord s) ≡ refusalNumber (s .refusal)
-unfolding stepWord
-step-byte s = omega (arith, number-low (s .refusal), row-byte (s .row))
+step-byte s = answer-byte (s .refusal) (s .interrupt) (s .report) (s .row)
 
 pub step-exact :
     (b m frame : List ℕ) (n : ℕ)

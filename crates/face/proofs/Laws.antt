@@ -36,22 +36,10 @@ use Rattle.points.specs.declared.DrawnRow.the-variants.{NoRow, Drawn}
 use Rattle.dump.specs.Sheet.{SheetLeaves}
 use Rattle.picture.specs.Area.{areaFrom, screenOf, columns}
 use Rattle.face.specs.Layers.{layerLines, layerOn, layerCall, layersLeft, LayerLeaves, LayerRowLeaves, LayerFrameLeaves}
-use Rattle.word.specs.Word.{stepWord}
-use Rattle.face.specs.Face.{Called, Leaves, onBlock, onArea, newTableCall, outOn, outCall, inputOn, inputCall, steppedTo, stepOn}
+use Rattle.word.specs.Word.{pointsWord}
+use Rattle.word.proofs.Calls.{leaves, along, ten, on}
+use Rattle.face.specs.Face.{Called, Leaves, stepWord, onBlock, onArea, newTableCall, outOn, outCall, inputOn, inputCall, steppedTo, stepOn}
 use Rattle.face.specs.Face.{stepCall, rowStepOn, rowStepCall, dumpOn, dumpCall}
-
--- what is left, by a path from it to what the definition says
-leaves : {c k : Called} → c ≡ k → Leaves k (c .word) (c .block) (c .lent)
-leaves p = record { word = ap (λ (x : Called). x .word) p; block = ap (λ (x : Called). x .block) p; lent = ap (λ (x : Called). x .lent) p }
-
--- the same of what the definition equals
-along : {c k : Called} {r : ℕ} {b x : List ℕ} → c ≡ k → Leaves c r b x → Leaves k r b x
-along p l =
-    record {
-      word = l .word ∙ ap (λ (x : Called). x .word) p;
-      block = l .block ∙ ap (λ (x : Called). x .block) p;
-      lent = l .lent ∙ ap (λ (x : Called). x .lent) p;
-    }
 
 -- ---- a fresh block
 module _ (b : List ℕ) (t : ℕ) where
@@ -70,33 +58,27 @@ module _ (b : List ℕ) (t : ℕ) where
 
 -- ---- the block is tested first
 module _ (b : List ℕ) where
-  ten : (x : List ℕ) (call : VdpState → Called) {n : ℕ} → wellFormed b ≡ false → n ≡ refusalNumber BlockMalformed → Leaves (onBlock b x call) n b x
-  ten x call w en = rw en (leaves (sym (rw w)))
-
-  on : (x : List ℕ) (call : VdpState → Called) → wellFormed b ≡ true → call (stateOf b) ≡ onBlock b x call
-  on x call w = sym (rw w)
-
   pub out-ten : (m : List ℕ) (p v : ℕ) {n : ℕ} → wellFormed b ≡ false → n ≡ refusalNumber BlockMalformed → Leaves (outCall b m p v) n b m
   unfolding outCall
-  out-ten m p v = ten m (outOn m p v (length b))
+  out-ten m p v = ten (stateOf b) b m (outOn m p v (length b))
 
   pub out-done :
       (m : List ℕ) (p v : ℕ) {r : Refusal} {b′ m′ : List ℕ} {n : ℕ} → wellFormed b ≡ true → OutInPlace b m p v r b′ m′ → n ≡ refusalNumber r
       → Leaves (outCall b m p v) n b′ m′
   unfolding outCall
   out-done m p v w l en =
-      along (on m (outOn m p v (length b)) w) (record { word = en ∙ ap refusalNumber (l .refusal); block = l .block; lent = l .memory })
+      along (on (stateOf b) b m (outOn m p v (length b)) w) (record { word = en ∙ ap refusalNumber (l .refusal); block = l .block; lent = l .memory })
 
   pub input-ten : (m : List ℕ) (p : ℕ) {n : ℕ} → wellFormed b ≡ false → n ≡ refusalNumber BlockMalformed → Leaves (inputCall b m p) n b []
   unfolding inputCall
-  input-ten m p = ten [] (inputOn m p (length b))
+  input-ten m p = ten (stateOf b) b [] (inputOn m p (length b))
 
   pub input-done :
       (m : List ℕ) (p : ℕ) {r : Got} {b′ : List ℕ} {n : ℕ} → wellFormed b ≡ true → InputInPlace b m p r b′ → n ≡ refusalNumber (r .refusal)
       → Leaves (inputCall b m p) (n + 256 * r .byte) b′ []
   unfolding inputCall
   input-done m p {r} w l en =
-      along (on [] (inputOn m p (length b)) w)
+      along (on (stateOf b) b [] (inputOn m p (length b)) w)
       (record {
         word = ap (λ (x : ℕ). x + 256 * r .byte) (en ∙ ap refusalNumber (l .refusal)) ∙ ap
             (λ (x : ℕ). refusalNumber (portRead (stateOf b) m p .refusal) + 256 * x) (l .byte);
@@ -107,14 +89,15 @@ module _ (b : List ℕ) where
   -- ---- the dump
   pub dump-ten : (m pixels : List ℕ) {n : ℕ} → wellFormed b ≡ false → n ≡ refusalNumber BlockMalformed → Leaves (dumpCall b m pixels) n b pixels
   unfolding dumpCall
-  dump-ten m pixels = ten pixels (dumpOn b m pixels)
+  dump-ten m pixels = ten (stateOf b) b pixels (dumpOn b m pixels)
 
   pub dump-done :
       (m pixels : List ℕ) {reg cache : List ℕ} {r : Refusal} {pixels′ : List ℕ} {n : ℕ} → wellFormed b ≡ true → reg ≡ stateOf b .reg
       → cache ≡ stateOf b .«color_cache» → SheetLeaves reg cache m pixels r pixels′ → n ≡ refusalNumber r → Leaves (dumpCall b m pixels) n b pixels′
   unfolding dumpCall
   dump-done m pixels w er ec l en =
-      along (on pixels (dumpOn b m pixels) w) (record { word = en ∙ ap refusalNumber (l .refusal); block = refl; lent = rw (er, ec) at (l .bytes) })
+      along (on (stateOf b) b pixels (dumpOn b m pixels) w)
+      (record { word = en ∙ ap refusalNumber (l .refusal); block = refl; lent = rw (er, ec) at (l .bytes) })
 
 -- ---- a step: the block is tested, the area number, and then the block's parts are read each by itself
 module _ (b m x : List ℕ) (n : ℕ) where
@@ -168,7 +151,7 @@ module _ (b m x : List ℕ) (n : ℕ) where
       (g : k ≡ readingOf (stateOf b))
       (es : (j : ℕ) (s : VdpState) → Sized s → points .raster .table ≡ s .raster .table → k .colours ≡ coloursNow s → b ≡ blockOf j s → b′ ≡ blockOf
       j (joined s points .vdp))
-      (er : (d : VdpState) → r ≡ stepWord (joined d points))
+      (er : r ≡ pointsWord points)
     where
       stored :
           (call : VdpState → RenderArea → Called) (ls : List Line) {y : List ℕ} → call (stateOf b) a ≡ steppedTo (length b)
@@ -177,7 +160,7 @@ module _ (b m x : List ℕ) (n : ℕ) where
       stored call ls ec e ey =
           along (sym ec ∙ ap (call (stateOf b)) ea ∙ sym (rw (w, le-leb n 2 h)))
           (record {
-            word = er (stateOf b) ∙ ap stepWord e;
+            word = er ∙ ap stepWord e;
             block =
                 es (length b) (stateOf b) (sized-state b (long b w)) (ap (λ (s : Stepped). s .vdp .raster .table) e ∙ step-table ls a m (stateOf b))
                 (ap (λ (q : Reading). q .colours) g) (sym (block-back b w bytes))

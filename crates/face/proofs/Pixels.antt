@@ -1,7 +1,6 @@
 -- One pixel in the C face: the colour that a block gives to a number, and when the call is refused.
 -- Assumes nothing.
 use mathlib.Core.Path.{_≡_, sym, ap, _∙_}
-use mathlib.Core.Bool.{Bool, true, false}
 use mathlib.Core.List.{List}
 use Prim.Native.Nat.{ℕ, _+_, _*_, _<_}
 use native.Mathlib.Omega.{arith}
@@ -14,16 +13,17 @@ use Rattle.laws.proofs.Tables.{getD-table}
 use Rattle.laws.proofs.Tests.{split}
 use Rattle.colour.specs.Colour.{colour, coloursOf}
 use Rattle.picture.specs.Area.{areaFrom}
-use Rattle.refusal.specs.declared.Refusal.{Refusal}
 use Rattle.refusal.specs.Refusals.{refusalNumber, first}
-use Rattle.block.specs.Block.{wellFormed, stateOf, colourAt, coloursAt}
+use Rattle.block_parts.specs.Parts.{colourAt}
+use Rattle.block_parts.proofs.Copies.{one-of}
+use Rattle.block.specs.Block.{wellFormed, stateOf}
 use Rattle.pixel.specs.Pixel.{pixelLines}
 use Rattle.step.specs.Step.{coloursNow}
 use Rattle.step.specs.Pixel.{pixelOf}
 use Rattle.step.proofs.Pixels.{pixel-exact}
 use Rattle.face.specs.Refused.{refusalIn, stepCallLines}
-use Rattle.face.specs.Pixel.{pixelBits, pixelCall}
-use Rattle.face.proofs.Exact.{number-low}
+use Rattle.face.specs.Pixel.{pixelCall}
+use Rattle.word.proofs.Words.{pixel-byte}
 
 module _ (b : List ℕ) (n : ℕ) (h : n < 32) where
   pub colour-dirty : at b 26 ≡ 1 → colour (at b (27 + 2 * n)) (at b (27 + (2 * n + 1))) ≡ at (coloursNow (stateOf b)) n
@@ -39,13 +39,8 @@ module _ (b : List ℕ) (n : ℕ) (h : n < 32) where
       )))
 
   pub colour-clean : (at b 26 ≡ 1 → ⊥) → colourAt b (91 + 4 * n) ≡ at (coloursNow (stateOf b)) n
-  unfolding stateOf coloursAt
-  colour-clean e = rw (ne-eqb (at b 26) 1 e) (sym (getD-table 32 (λ i. colourAt b (91 + 4 * i)) n h))
-
--- ---- the word
-word-low : (r : Refusal) (there : Bool) (colour : ℕ) → refusalIn (refusalNumber r + pixelBits there colour) ≡ refusalNumber r
-word-low r true colour = omega (arith, number-low r)
-word-low r false colour = omega (arith, number-low r)
+  unfolding stateOf
+  colour-clean e = rw (ne-eqb (at b 26) 1 e) (sym (one-of 91 b n h))
 
 -- R16.3: refused by the first line of its table that holds, and then the word is the refusal alone
 module _ (b m : List ℕ) (n y x : ℕ) where
@@ -57,7 +52,7 @@ module _ (b m : List ℕ) (n y x : ℕ) where
       split (leb n 2)
       (λ l.
       simp (e, l)
-      (word-low (pixelOf (areaFrom n) m (stateOf b) y x .refusal) (pixelOf (areaFrom n) m (stateOf b) y x .there)
+      (pixel-byte (pixelOf (areaFrom n) m (stateOf b) y x .refusal) (pixelOf (areaFrom n) m (stateOf b) y x .there)
       (pixelOf (areaFrom n) m (stateOf b) y x .colour)
       ∙ ap refusalNumber (pixel-exact (areaFrom n) m (stateOf b) y x)))
       (λ l. simp (e, l)))

@@ -16,7 +16,7 @@ use Rattle.tile_codes.specs.Calls.{readTileLines, writeTileLines, readTileRefus
 use Rattle.face.specs.Face.{Leaves}
 use Rattle.face.specs.Refused.{refusalIn, LeftBehind}
 use Rattle.face.specs.Tiles.{writeTileCall, readTileCall}
-use Rattle.face.proofs.Exact.{number-low, alone}
+use Rattle.word.proofs.Words.{number-low, alone}
 
 -- what a call promises: the number of the answer, and what the buffer holds
 pub wrote-tile :

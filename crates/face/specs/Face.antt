@@ -1,9 +1,8 @@
 -- R7.4: what each call of the C face answers and leaves, over a state block; it goes by numbers and byte slices alone.
 -- Assumes nothing.
-use mathlib.Core.Path.{_≡_}
 use mathlib.Core.Bool.{cond, _&&_}
 use mathlib.Core.List.{List, []}
-use Prim.Native.Nat.{ℕ, _+_, _*_}
+use Prim.Native.Nat.{ℕ}
 use lib.Dec.{leb}
 use lib.ListN.{length}
 use Rattle.picture.specs.declared.RenderArea.{RenderArea}
@@ -11,36 +10,30 @@ use Rattle.picture.specs.Area.{areaFrom}
 use Rattle.raster.specs.Raster.{lineTableFrom}
 use Rattle.vdp.specs.declared.VdpState.{VdpState}
 use Rattle.vdp.specs.declared.ReadBack.{ReadBack}
-use Rattle.refusal.specs.declared.Refusal.{Refusal}
 use Rattle.refusal.specs.declared.Refusal.the-variants.{Accepted, BlockMalformed, UnknownArea}
 use Rattle.vdp.specs.Device.{made}
 use Rattle.refusal.specs.Refusals.{refusalNumber}
 use Rattle.vdp.specs.Ports.{portWrite, portRead}
 use Rattle.block.specs.Block.{fits, wellFormed, stateOf, blockOf}
-use Rattle.word.specs.Word.{stepWord}
+use Rattle.word.specs.Word.{answerWord, byteWord}
 use Rattle.step.specs.declared.Stepped.{Stepped}
 use Rattle.step.specs.Step.{rowStep, frameStep}
 use Rattle.dump.specs.Sheet.{dumpRefusal}
 use Rattle.step.specs.Dump.{dumpAfter}
 use Rattle.step.specs.Frame.{rowAfter, frameAfter}
+-- what a call answers and leaves, and what it promises, is said of either machine's block
+pub use Rattle.word.specs.Called.{Called, Leaves, refused, onDevice}
 
--- What a call answers and leaves: its word, the block, and the bytes of the one other buffer that it may write (video memory of a port write, pixels of a
--- step or a dump; none of the others).
-pub record Called : Type 0 where
-  pub word : ℕ
-  pub block : List ℕ
-  pub lent : List ℕ
-
--- ---- R7.7, the answer word of a read: the refusal, and from bit 8 on its byte (that of a step: crate `word`)
+-- ---- R7.7, the answer words
 abbrev pub readWord : ReadBack → ℕ
-readWord a = refusalNumber (a .refusal) + 256 * a .byte
+readWord a = byteWord (a .refusal) (a .byte)
+
+abbrev pub stepWord : Stepped → ℕ
+stepWord s = answerWord (s .refusal) (s .interrupt) (s .report) (s .row)
 
 -- ---- R2.4, its beginning: first the block b is read, then the area number n; x is the buffer that a refusal leaves as it was
-abbrev pub refused : Refusal → List ℕ → List ℕ → Called
-refused r b x = record { word = refusalNumber r; block = b; lent = x }
-
 abbrev pub onBlock : List ℕ → List ℕ → (VdpState → Called) → Called
-onBlock b x call = cond (wellFormed b) (call (stateOf b)) (refused BlockMalformed b x)
+onBlock b x call = onDevice (wellFormed b) (stateOf b) b x call
 
 -- R2.1, refusal 11: there are areas 0 to 2
 abbrev pub onArea : ℕ → List ℕ → List ℕ → (RenderArea → Called) → Called
@@ -96,9 +89,3 @@ dumpOn b m pixels s = record { word = refusalNumber (dumpRefusal m (length pixel
 
 unfoldable pub dumpCall : List ℕ → List ℕ → List ℕ → Called
 dumpCall b m pixels = onBlock b pixels (dumpOn b m pixels)
-
--- ---- What a call promises: its answer r, and what the block and the other buffer hold after it, b′ and x′.
-pub record Leaves (c : Called) (r : ℕ) (b′ x′ : List ℕ) : Type 0 where
-  pub word : r ≡ c .word
-  pub block : b′ ≡ c .block
-  pub lent : x′ ≡ c .lent

@@ -1,23 +1,15 @@
 -- R16.3, R16.6: the call of one pixel in the C face. It reads the block, and writes nothing.
 -- Assumes nothing.
-use mathlib.Core.Bool.{Bool, cond}
+use mathlib.Core.Bool.{cond}
 use mathlib.Core.List.{List}
-use Prim.Native.Nat.{ℕ, _+_, _*_}
+use Prim.Native.Nat.{ℕ}
 use lib.Dec.{leb}
 use Rattle.picture.specs.Area.{areaFrom}
 use Rattle.refusal.specs.declared.Refusal.the-variants.{BlockMalformed, UnknownArea}
 use Rattle.refusal.specs.Refusals.{refusalNumber}
 use Rattle.block.specs.Block.{wellFormed, stateOf}
-use Rattle.step.specs.declared.Pixel.{Pixel}
+use Rattle.word.specs.Word.{pixelWord}
 use Rattle.step.specs.Pixel.{pixelOf}
-
--- R16.6: bit 24 where there is a pixel, and its four bytes in bits 32 to 63, red lowest
-abbrev pub pixelBits : Bool → ℕ → ℕ
-pixelBits there colour = cond there 16777216 0 + 4294967296 * colour
-
--- and the refusal in bits 0 to 7
-abbrev pub pixelWord : Pixel → ℕ
-pixelWord p = refusalNumber (p .refusal) + pixelBits (p .there) (p .colour)
 
 -- R16.3: the block, the area, then video memory
 unfoldable pub pixelCall : List ℕ → List ℕ → ℕ → ℕ → ℕ → ℕ

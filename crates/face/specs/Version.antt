@@ -7,4 +7,4 @@ abbrev pub versionOf : ℕ → ℕ → ℕ → ℕ
 versionOf major minor small = 65536 * major + 256 * minor + small
 
 abbrev pub version : ℕ
-version = versionOf 4 5 0
+version = versionOf 4 6 0

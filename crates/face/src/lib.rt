@@ -16,7 +16,10 @@ ghost use Rattle.trace_record.specs.declared.Record.the-variants.{Write, Read};
 ghost use Rattle.face.specs.Record.{recordCall, recordStepCall, bytesWord, nextCall};
 ghost use Rattle.face.specs.Repair.{repairCall};
 ghost use Rattle.face.specs.Version.{version};
-ghost use Rattle.face.specs.Pixel.{pixelBits, pixelCall};
+ghost use Rattle.face.specs.Pixel.{pixelCall};
+ghost use Rattle.home_face.specs.HomeFace as home;
+ghost use Rattle.home_face.specs.Layers as home-layers;
+ghost use Rattle.home_face.specs.Pixel as home-pixel;
 use points::DrawnRow;
 use points::Points;
 use refusal::Refusal;
@@ -76,7 +79,7 @@ fn colours_of(state: &[u8]) -> [u32; 32]
     requires { ⌜ oldSize ≤ length (now state) ⌝ }
     ensures { λ r. ⌜ r ≡ coloursNow (stateOf (now (state .entry))) ⌝ }
 {
-    if state[26] == 1 {
+    if state[block::DIRTY] == 1 {
         return colour::palette_recompute(block::palette_in(state));
     }
     block::cache_in(state)
@@ -235,7 +238,7 @@ pub extern "C" fn vdp_dump_tileset(state: &[u8], vram: &[u8], pixels: &mut [u8])
 pub extern "C" fn vdp_version() -> u32
     ensures { λ r. ⌜ r ≡ version ⌝ }
 {
-    263424
+    263680
 }
 
 // The tile of these 64 codes into video memory; no device is asked.
@@ -256,34 +259,26 @@ pub extern "C" fn vdp_read_tile(vram: &[u8], tile: u16, codes: &mut [u8]) -> u32
 
 // ---- one pixel
 
-// A word of 32 bits as one of 64.
-fn long(word: u32) -> u64
-    ensures { λ r. ⌜ (r ≡ word) × (r < 4294967296) ⌝ }
-{
-    word as u64
-}
-
 // The colour with number n that a row of the block's device is drawn with: that one is made of the palette, where the colours are dirty.
 fn colour_of(state: &[u8], n: usize) -> u32
     requires { ⌜ (oldSize ≤ length (now state)) × (n < 32) ⌝ }
     ensures { λ r. ⌜ r ≡ at (coloursNow (stateOf (now (state .entry)))) n ⌝ }
 {
-    if state[26] == 1 {
-        return colour::rgb(state[27 + 2 * n], state[27 + (2 * n + 1)]);
+    if state[block::DIRTY] == 1 {
+        return colour::rgb(
+            state[block::PALETTE + 2 * n],
+            state[block::PALETTE + (2 * n + 1)],
+        );
     }
-    block::colour_at(state, 91 + 4 * n)
+    block_parts::colour_at(state, block::CACHE + 4 * n)
 }
 
-// A pixel's part of the word: that it is there, and its colour.
-fn pixel_bits(state: &[u8], there: bool, n: usize) -> u64
+// The colour of a pixel, 0 where there is none.
+fn shown(state: &[u8], there: bool, n: usize) -> u32
     requires { ⌜ (oldSize ≤ length (now state)) × (n < 32) ⌝ }
-    ensures { λ r. ⌜ r ≡ pixelBits there (cond there (at (coloursNow (stateOf (now (state .entry)))) n) 0) ⌝ }
-    ensures { λ r. ⌜ r ≤ 18446744069431361536 ⌝ }
+    ensures { λ r. ⌜ r ≡ cond there (at (coloursNow (stateOf (now (state .entry)))) n) 0 ⌝ }
 {
-    if !there {
-        return 0;
-    }
-    16777216 + 4294967296 * long(colour_of(state, n))
+    if there { colour_of(state, n) } else { 0 }
 }
 
 // One pixel of the row as it would be drawn now; the block is only read.
@@ -292,22 +287,23 @@ pub extern "C" fn vdp_pixel(state: &[u8], vram: &[u8], area: u8, row: u32, colum
     ensures { λ r. ⌜ r ≡ pixelCall (now (state .entry)) (now (vram .entry)) area row column ⌝ }
 {
     if !block::well_formed(state) {
-        return long(word::number(Refusal::BlockMalformed));
+        return word::pixel_word(Refusal::BlockMalformed, false, 0);
     }
     if picture::LAST_AREA < area {
-        return long(word::number(Refusal::UnknownArea));
+        return word::pixel_word(Refusal::UnknownArea, false, 0);
     }
     let raster = block::raster_in(state);
     let spot = pixel::spot_at(
         vram,
-        picture::area_from(area),
+        picture::screen_of(picture::area_from(area)),
         block::registers(state),
         raster.vertical_scroll,
         row,
         column,
     );
     let refusal = spot.refusal;
-    long(word::number(refusal)) + pixel_bits(state, spot.there, spot.colour)
+    let there = spot.there;
+    word::pixel_word(refusal, there, shown(state, there, spot.colour))
 }
 
 // A damaged block mended, and the changed offsets at the start of the list.
@@ -377,4 +373,86 @@ pub extern "C" fn vdp_record_next(recording: &[u8], at: usize) -> u32
         Record::Bad => 4,
         Record::End => 0,
     }
+}
+
+// ---- the home machine's calls (R21.1), each by its name for C
+
+#[no_mangle]
+pub extern "C" fn vdp_home_new_table(state: &mut [u8], table: u8) -> u32
+    ensures { λ r. ⌜ Leaves (home.newTableCall (now (state .entry)) table) r (now (state .exit)) [] ⌝ }
+{
+    home_face::new_table(state, table)
+}
+
+#[no_mangle]
+pub extern "C" fn vdp_home_new(state: &mut [u8]) -> u32
+    ensures { λ r. ⌜ Leaves (home.newCall (now (state .entry))) r (now (state .exit)) [] ⌝ }
+{
+    home_face::new(state)
+}
+
+#[no_mangle]
+pub extern "C" fn vdp_home_out(state: &mut [u8], vram: &mut [u8], port: u16, value: u8) -> u32
+    ensures { λ r. ⌜ Leaves (home.outCall (now (state .entry)) (now (vram .entry)) port value) r (now (state .exit)) (now (vram .exit)) ⌝ }
+{
+    home_face::out(state, vram, port, value)
+}
+
+#[no_mangle]
+pub extern "C" fn vdp_home_input(state: &mut [u8], vram: &[u8], port: u16) -> u32
+    ensures { λ r. ⌜ Leaves (home.inputCall (now (state .entry)) (now (vram .entry)) port) r (now (state .exit)) [] ⌝ }
+{
+    home_face::input(state, vram, port)
+}
+
+#[no_mangle]
+pub extern "C" fn vdp_home_step(state: &mut [u8], vram: &[u8], frame: &mut [u8]) -> u32
+    ensures { λ r. ⌜ Leaves (home.stepCall (now (state .entry)) (now (vram .entry)) (now (frame .entry))) r (now (state .exit)) (now (frame .exit)) ⌝ }
+{
+    home_face::step(state, vram, frame)
+}
+
+#[no_mangle]
+pub extern "C" fn vdp_home_row_step(state: &mut [u8], vram: &[u8], row: &mut [u8]) -> u32
+    ensures { λ r. ⌜ Leaves (home.rowStepCall (now (state .entry)) (now (vram .entry)) (now (row .entry))) r (now (state .exit)) (now (row .exit)) ⌝ }
+{
+    home_face::row_step(state, vram, row)
+}
+
+#[no_mangle]
+pub extern "C" fn vdp_home_layer_step(
+    state: &mut [u8],
+    vram: &[u8],
+    frame: &mut [u8],
+    layers: &mut [u8],
+) -> u32
+    ensures { λ r. ⌜ home-layers.LayerFrameLeaves (now (state .entry)) (now (vram .entry)) (now (frame .entry)) (now (layers .entry)) r (now (state .exit)) (now (frame .exit)) (now (layers .exit)) ⌝ }
+{
+    home_face::layer_step(state, vram, frame, layers)
+}
+
+#[no_mangle]
+pub extern "C" fn vdp_home_layer_row_step(
+    state: &mut [u8],
+    vram: &[u8],
+    row: &mut [u8],
+    layers: &mut [u8],
+) -> u32
+    ensures { λ r. ⌜ home-layers.LayerRowLeaves (now (state .entry)) (now (vram .entry)) (now (row .entry)) (now (layers .entry)) r (now (state .exit)) (now (row .exit)) (now (layers .exit)) ⌝ }
+{
+    home_face::layer_row_step(state, vram, row, layers)
+}
+
+#[no_mangle]
+pub extern "C" fn vdp_home_pixel(state: &[u8], vram: &[u8], row: u32, column: u32) -> u64
+    ensures { λ r. ⌜ r ≡ home-pixel.pixelCall (now (state .entry)) (now (vram .entry)) row column ⌝ }
+{
+    home_face::pixel(state, vram, row, column)
+}
+
+#[no_mangle]
+pub extern "C" fn vdp_home_dump_tileset(state: &[u8], vram: &[u8], pixels: &mut [u8]) -> u32
+    ensures { λ r. ⌜ Leaves (home.dumpCall (now (state .entry)) (now (vram .entry)) (now (pixels .entry))) r (now (state .entry)) (now (pixels .exit)) ⌝ }
+{
+    home_face::dump_tileset(state, vram, pixels)
 }

@@ -83,8 +83,7 @@ abbrev pub secondByte : ℕ → Front → List ℕ → ℕ → ℕ → FrontWrit
 secondByte n f m d v =
     cond (eqb (v / 64) 0) (sent Accepted (loaded (choosing f Vram (videoAddress d v)) m (videoAddress d v)))
     (cond (eqb (v / 64) 1) (sent Accepted (choosing f Vram (videoAddress d v)))
-    (cond (eqb (v / 64) 2)
-    (cond (ltb 10 (v % 128)) (sent HighRegister f) (sent Accepted (withReg f (set (f .reg) (v % 128) d))))
+    (cond (eqb (v / 64) 2) (cond (ltb 10 (v % 128)) (sent HighRegister f) (sent Accepted (withReg f (set (f .reg) (v % 128) d))))
     (sent Accepted (choosing f Cram (d % n)))))
 
 -- R3.4: a first byte waits; at a second the latch is emptied

@@ -2,4 +2,5 @@
 pub mod Exact
 pub mod Kept
 pub mod Laws
+pub mod Pixels
 pub mod Steps

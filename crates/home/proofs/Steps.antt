@@ -15,7 +15,7 @@ use Rattle.home.specs.declared.HomeStepped.{HomeStepped}
 use Rattle.home.specs.Step.{coloursNow, readingOf, joined, stepped, stepWith, rowAfter, frameAfter, RowStepLeaves, FrameStepLeaves}
 
 -- ---- the step is `joined` of its points, refused or not
-joined-with : (ls : List Line) (vram : List ℕ) (h : HomeState) → joined h (pointsWith ls Home vram (readingOf h)) ≡ stepWith ls vram h
+pub joined-with : (ls : List Line) (vram : List ℕ) (h : HomeState) → joined h (pointsWith ls Home vram (readingOf h)) ≡ stepWith ls vram h
 unfolding pointsWith stepWith stepped
 joined-with [] vram h = refl
 joined-with (l ∷ ls) vram h = split (l .holds) (λ t. rw t) (λ t. rw t (joined-with ls vram h))

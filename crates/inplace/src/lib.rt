@@ -156,7 +156,9 @@ pub fn store_latch(block: &mut [u8], place: usize, latch: Latch)
     requires { ⌜ place + 2 ≤ length (now block) ⌝ }
     ensures { λ _. ⌜ now (block .exit) ≡ latchStored place latch (now (block .entry)) ⌝ }
 {
-    store_two(block, place, latch_flag(latch), latch_byte(latch));
+    let flag = latch_flag(latch);
+    let byte = latch_byte(latch);
+    store_two(block, place, flag, byte);
 }
 
 // An address, low byte first.

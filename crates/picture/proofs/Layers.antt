@@ -1,15 +1,15 @@
 -- Laws of the layers: a layer buffer byte by byte, and what a layer says of the colour beside it.
 -- Assumes nothing.
 use mathlib.Core.Path.{_≡_, refl, sym, ap, _∙_}
-use mathlib.Core.Bool.{Bool, true, false, _&&_, not}
+use mathlib.Core.Bool.{Bool, true, false, cond, _&&_, not}
 use mathlib.Core.List.{List, _++_}
 use Prim.Native.Nat.{ℕ, _+_, _-_, _<_, _≤_}
 use native.Mathlib.Decide.{decLt, ℕ-discrete}
 use native.Mathlib.Omega.{arith}
-use lib.Dec.{eqb, leb}
+use lib.Dec.{eqb, ltb, leb}
 use lib.ListN.{length, drop, set, length-append, length-drop, length-set, List·getD-append}
 use lib.Seq.{ext-getD, getD-drop, getD-set-same, getD-set-other}
-use borrow.Author.Tests.{le-leb, lt-leb}
+use borrow.Author.Tests.{lt-ltb, le-ltb, le-leb, lt-leb}
 use Rattle.laws.specs.Lists.{at}
 use Rattle.laws.specs.Table.{table}
 use Rattle.laws.proofs.Tables.{length-table, getD-table}
@@ -87,6 +87,53 @@ layersIn-more b i f {l} {l′} {v} h e q p =
     let t : k ≡ i → ⊥ = λ z. omega arith in
     let r′ : i ≤ k = omega arith in
     getD-set-other l i k v 0 t ∙ ap (λ (x : List ℕ). at x k) e ∙ layersIn-behind b i f low k r′)
+
+-- ---- what is laid over a buffer: layer n in its first m columns, where `on`
+module _ (b : List ℕ) (w : ℕ) where
+  pub cover-off : b ≡ layersIn b w (at b)
+  cover-off =
+      elim (decLt (length b) w) [
+        | yes h ↦ sym (layersIn-none b w (at b) h)
+        | no h ↦ layersIn-is b w (at b) (omega arith) b refl (λ k l. refl) (λ k l. refl)
+      ]
+
+  pub cover-none : (m n : ℕ) → length b < w → b ≡ layersIn b w (λ x. cond (ltb x m) n (at b x))
+  cover-none m n h = sym (layersIn-none b w _ h)
+
+  pub cover-on : (m n : ℕ) {l : List ℕ} → m ≤ w → w ≤ length b → l ≡ layersIn b m (λ x. n) → l ≡ layersIn b w (λ x. cond (ltb x m) n (at b x))
+  cover-on m n {l} h r e =
+      let low : m ≤ length b = omega arith in
+      layersIn-is b w (λ x. cond (ltb x m) n (at b x)) r l (ap length e ∙ length-layersIn b m (λ x. n))
+      (λ k q.
+      elim (decLt k m) [
+        | yes s ↦ rw (lt-ltb k m s) (ap (λ (z : List ℕ). at z k) e ∙ layersIn-at b m (λ x. n) low k s)
+        | no s ↦ let t : m ≤ k = omega arith in rw (le-ltb k m t) (ap (λ (z : List ℕ). at z k) e ∙ layersIn-behind b m (λ x. n) low k t)
+      ])
+      (λ k q. let t : m ≤ k = omega arith in ap (λ (z : List ℕ). at z k) e ∙ layersIn-behind b m (λ x. n) low k t)
+
+-- over a buffer that has a row's layers: over the layers
+pub cover-layers : (b : List ℕ) (w n : ℕ) (t : ℕ → Bool) (f : ℕ → ℕ) {l l′ : List ℕ} → l ≡ layersIn b w f → l′ ≡ layersIn l w
+    (λ x. cond (t x) n (at l x))
+    → l′ ≡ layersIn b w (λ x. cond (t x) n (f x))
+cover-layers b w n t f {l} {l′} e d =
+    let s : length l ≡ length b = ap length e ∙ length-layersIn b w f in
+    let s′ : length l′ ≡ length l = ap length d ∙ length-layersIn l w _ in
+    elim (decLt (length b) w) [
+      | yes h ↦ let h′ : length l < w = omega arith in d ∙ layersIn-none l w _ h′ ∙ e ∙ layersIn-none b w f h ∙ sym (layersIn-none b w _ h)
+      | no h ↦
+          let r : w ≤ length b = omega arith in
+          let r′ : w ≤ length l = omega arith in
+          layersIn-is b w (λ x. cond (t x) n (f x)) r l′ (s′ ∙ s)
+          (λ k q.
+          ap (λ (z : List ℕ). at z k) d
+          ∙ layersIn-at l w (λ x. cond (t x) n (at l x)) r′ k q
+          ∙ ap (λ (v : ℕ). cond (t k) n v) (ap (λ (z : List ℕ). at z k) e ∙ layersIn-at b w f r k q))
+          (λ k q.
+          ap (λ (z : List ℕ). at z k) d
+          ∙ layersIn-behind l w (λ x. cond (t x) n (at l x)) r′ k q
+          ∙ ap (λ (z : List ℕ). at z k) e
+          ∙ layersIn-behind b w f r k q)
+    ]
 
 -- ---- one sprite more, at column x: its layer and its colour go by the same test
 module _ (s : Stand) (code : ℕ → ℕ) (prio : ℕ → Bool) (c : Canvas) (n : ℕ) (own : ℕ → ℕ) (x : ℕ) where

@@ -1,4 +1,5 @@
--- R15.1, R15.2, over any view: `layers m g v x` is the layer that owns column x of a row, beside its colour and from the same tests.
+-- R15.1, R15.2, over any view: `layers m g v x` is the layer that owns column x of a row, beside its colour and from the same tests. R20.6: what the fill
+-- covers is the fill's.
 -- Assumes nothing.
 use mathlib.Core.Bool.{Bool, cond, _&&_}
 use mathlib.Core.List.{List, [], _∷_, _++_}
@@ -9,7 +10,7 @@ use Rattle.laws.specs.Lists.{at}
 use Rattle.laws.specs.Table.{table}
 use Rattle.picture.specs.View.{View}
 use Rattle.picture.specs.Picture.{Canvas, back, front, tableAt, listed, solid, heldBack, drawn, spriteCode, withSprite, bare}
-use Rattle.picture.specs.Screen.{viewOf}
+use Rattle.picture.specs.Screen.{viewOf, covered}
 use Rattle.picture.specs.declared.Stand.{Stand}
 use Rattle.picture.specs.declared.Screen.{Screen}
 
@@ -41,9 +42,13 @@ module _ (m g : ℕ → ℕ) (stand : ℕ → Stand) (l : ℕ) (prio : ℕ → B
 unfoldable pub layers : (ℕ → ℕ) → (ℕ → ℕ) → View → ℕ → ℕ
 layers m g v = layersWith m g (v .stand) (v .line) (front m g v) (take 8 (listed m g (v .line) 64 0)) (bare (back m g v)) (λ x. 0)
 
--- the same of row y of a screen, by the registers, the latched scroll and video memory; a fill over the row is no layer
+-- the layers `own` of a finished row, on a screen: 2 where a fill covers the column, whatever stands under it
+abbrev pub coveredOn : Screen → (ℕ → ℕ) → (ℕ → ℕ) → ℕ → ℕ
+coveredOn s g own = λ x. cond (covered s g x) 2 (own x)
+
+-- the layers of row y of a screen, by the registers, the latched scroll and video memory
 unfoldable pub layersOf : Screen → List ℕ → ℕ → List ℕ → ℕ → ℕ → ℕ
-layersOf s reg scroll vram y = layers (at vram) (at reg) (viewOf s (at reg) scroll y)
+layersOf s reg scroll vram y = coveredOn s (at reg) (layers (at vram) (at reg) (viewOf s (at reg) scroll y))
 
 -- R15.3: a layer buffer with the layers of a row's columns in its first bytes, one a column, and behind them what was there. A buffer with fewer bytes than
 -- columns asks for no layers, and stays

@@ -116,6 +116,10 @@ picture m g v =
     let c = withSprites m g (v .stand) (v .line) (front m g v) (take 8 ns) (bare (back m g v)) in
     record { colour = c .colour; hit = c .hit; ninth = ltb 8 (length ns) }
 
--- R20.6: where register 0 bit 5 is set, columns 0 to 7 show palette 1's colour register 7 mod 16, over everything: it changes what is shown and nothing else
+-- R20.6: the fill covers column x: register 0 bit 5 is set, and it is one of columns 0 to 7
+abbrev pub fills : (ℕ → ℕ) → ℕ → Bool
+fills g x = bit (g 0) 5 && ltb x 8
+
+-- what it covers shows palette 1's colour register 7 mod 16, over everything: it changes what is shown and nothing else
 unfoldable pub filled : (ℕ → ℕ) → Row → Row
-filled g p = record { colour = λ x. cond (bit (g 0) 5 && ltb x 8) (16 + g 7 % 16) (p .colour x); hit = p .hit; ninth = p .ninth }
+filled g p = record { colour = λ x. cond (fills g x) (16 + g 7 % 16) (p .colour x); hit = p .hit; ninth = p .ninth }

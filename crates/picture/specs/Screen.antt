@@ -1,13 +1,13 @@
 -- The screens that rows are drawn for: their sizes, and the row of each that a line draws.
 -- Assumes nothing.
-use mathlib.Core.Bool.{cond}
+use mathlib.Core.Bool.{Bool, false, cond}
 use mathlib.Core.List.{List}
 use Prim.Native.Nat.{ℕ, _+_, _*_, _/_, _%_}
 use Rattle.laws.specs.Lists.{at}
 use Rattle.laws.specs.Paint.{byteOfColour}
 use Rattle.laws.specs.Table.{table}
 use Rattle.picture.specs.View.{View, visible, effective, trueEdges, home}
-use Rattle.picture.specs.Picture.{Row, picture, filled}
+use Rattle.picture.specs.Picture.{Row, picture, fills, filled}
 use Rattle.picture.specs.declared.Screen.{Screen}
 use Rattle.picture.specs.declared.Screen.the-variants.{VisibleOnly, EffectiveArea, TrueEdges, Home}
 
@@ -56,6 +56,13 @@ shownOn VisibleOnly g p = p
 shownOn EffectiveArea g p = p
 shownOn TrueEdges g p = p
 shownOn Home g p = filled g p
+
+-- whether a fill covers column x of it
+abbrev pub covered : Screen → (ℕ → ℕ) → ℕ → Bool
+covered VisibleOnly g x = false
+covered EffectiveArea g x = false
+covered TrueEdges g x = false
+covered Home g x = fills g x
 
 -- the picture of row y, by the registers, the latched scroll and video memory
 unfoldable pub pictureOf : Screen → List ℕ → ℕ → List ℕ → ℕ → Row

@@ -6,7 +6,7 @@ use mathlib.Core.List.{List}
 use mathlib.Core.Bool.{Bool, true, false, cond, _&&_, not}
 use Prim.Native.Nat.{ℕ, zero, suc, _+_, _-_, _%_, _<_, _≤_, min}
 use native.Mathlib.Decide.{decLt}
-use native.Mathlib.Nat.{add-zero}
+use native.Mathlib.Nat.{zero-add, add-zero}
 use native.Mathlib.Omega.{arith}
 use lib.Bits.{bitOr, or-zero-r}
 use lib.Dec.{ltb, leb}
@@ -17,16 +17,16 @@ use Rattle.laws.specs.Circle.{past}
 use Rattle.laws.specs.Lists.{at}
 use Rattle.laws.proofs.Bits.{bit-above, bit-or}
 use Rattle.picture.specs.declared.Stand.{Stand}
-use Rattle.picture.specs.declared.RenderArea.{RenderArea}
-use Rattle.picture.specs.declared.RenderArea.the-variants.{VisibleOnly, EffectiveArea, TrueEdges}
+use Rattle.picture.specs.declared.Screen.{Screen}
+use Rattle.picture.specs.declared.Screen.the-variants.{VisibleOnly, EffectiveArea, TrueEdges, Home}
 use Rattle.picture.specs.Tile.{codeAt, namesAt, mapColour}
-use Rattle.picture.specs.View.{View, early, cutMark, visible, visibleStand, visibleSeen, visibleEnd, effectiveStand, trueEdges, edgeStand}
+use Rattle.picture.specs.View.{View, early, cutMark, visible, visibleStand, visibleSeen, visibleEnd, effectiveStand, trueEdges, edgeStand, home}
 use Rattle.picture.specs.Picture.{Canvas, front, solid, heldBack, marked, struck, drawn, laid, bare, tableAt, topOf, tall, onLine, listed, withSprites, picture}
-use Rattle.picture.specs.Picture.{back as map-at}
-use Rattle.picture.specs.Screen.{pictureOf}
-use Rattle.picture.specs.Area.{screenOf, columns}
-use Rattle.background.specs.Background.{backColour, prioTo, cutOf}
+use Rattle.picture.specs.Picture.{fills, filled, back as map-at}
+use Rattle.picture.specs.Screen.{columns, pictureOf}
+use Rattle.background.specs.Background.{backColour, prioTo, cutOf, homeColumn, homeLast}
 use Rattle.background.proofs.Views.{back-at, front-at, visible-x, effective-mark}
+use Rattle.background.proofs.Home.{prio-own, home-back-at, home-front-at}
 use Rattle.stand.specs.Stand.{standOf}
 use Rattle.sprites.proofs.List.{Going, list-skips}
 use Rattle.pixel.specs.declared.Scene.{Scene}
@@ -52,15 +52,15 @@ effective-tied : (e h : ℕ) → e ≤ 8 → Tied e (effectiveStand e h .start) 
 unfolding effectiveStand
 effective-tied e h l = record { mark = λ q. omega arith; prio = λ q. omega arith; edge = λ q. inl refl; within = omega arith }
 
-edge-tied : (e h : ℕ) → Tied 0 0 (edgeStand 48 160 e h)
+edge-tied : (left width e h : ℕ) → Tied 0 0 (edgeStand left width e h)
 unfolding edgeStand
-edge-tied e h = record { mark = λ q. refl; prio = λ q. omega arith; edge = λ q. inl refl; within = omega arith }
+edge-tied left width e h = record { mark = λ q. refl; prio = λ q. omega arith; edge = λ q. inl refl; within = omega arith }
 
-pub tied : (area : RenderArea) (e h : ℕ) → e ≤ 8 → Tied (offOf area e) (backOf area (standOf (screenOf area) e h .start))
-    (standOf (screenOf area) e h)
+pub tied : (s : Screen) (e h : ℕ) → e ≤ 8 → Tied (offOf s e) (backOf s (standOf s e h .start)) (standOf s e h)
 tied VisibleOnly e h l = visible-tied e h l
 tied EffectiveArea e h l = effective-tied e h l
-tied TrueEdges e h l = edge-tied e h
+tied TrueEdges e h l = edge-tied 48 160 e h
+tied Home e h l = edge-tied 0 256 e h
 
 visible-low : (e h : ℕ) → visibleStand e h .end ≤ 8
 unfolding visibleStand visibleEnd
@@ -74,14 +74,15 @@ effective-low : (e h : ℕ) → effectiveStand e h .end ≤ 8
 unfolding effectiveStand
 effective-low e h = omega arith
 
-edge-low : (e h : ℕ) → edgeStand 48 160 e h .end ≤ 8
+edge-low : (left width e h : ℕ) → edgeStand left width e h .end ≤ 8
 unfolding edgeStand
-edge-low e h = omega arith
+edge-low left width e h = omega arith
 
-pub end-low : (area : RenderArea) (e h : ℕ) → standOf (screenOf area) e h .end ≤ 8
+pub end-low : (s : Screen) (e h : ℕ) → standOf s e h .end ≤ 8
 end-low VisibleOnly e h = visible-low e h
 end-low EffectiveArea e h = effective-low e h
-end-low TrueEdges e h = edge-low e h
+end-low TrueEdges e h = edge-low 48 160 e h
+end-low Home e h = edge-low 0 256 e h
 
 -- ---- places around the circle
 further : (a b k : ℕ) → a % 256 ≡ b % 256 → (a + k) % 256 ≡ (b + k) % 256
@@ -231,31 +232,32 @@ cut-far s col j c cl l d =
 before-0 : (col a h : ℕ) → h ≤ a → col + a + 256 - h ≡ col + (a - h) + 256
 before-0 col a h l = omega arith
 
-from-0 : (col e h : ℕ) → 48 + e ≤ h → h < 256 → col + (48 + e) + 256 - h ≡ col + 0 + 256 - (h - 48 - e)
-from-0 col e h l u = omega arith
+from-0 : (left col e h : ℕ) → left + e ≤ h → h < 256 → col + (left + e) + 256 - h ≡ col + 0 + 256 - (h - left - e)
+from-0 left col e h l u = omega arith
 
 -- a column that is so far to the right of the X byte needs no place that is one of the sprite's columns
 module _ (e h col j : ℕ) (el : e ≤ 8) (hl : h < 256) (cl : col < 256) (l : j < reachOf col) where
-  edge-far : 15 - min col 7 ≤ (col + (48 + e) + 256 - h) % 256 → 8 ≤ edgeStand 48 160 e h .start + past (leftOf (col + 0) j)
-      (edgeStand 48 160 e h .mark)
+  edge-far : (left width : ℕ) → 15 - min col 7 ≤ (col + (left + e) + 256 - h) % 256 → 8 ≤ edgeStand left width e h .start + past
+      (leftOf (col + 0) j) (edgeStand left width e h .mark)
   unfolding edgeStand
-  edge-far d =
-      elim (decLt h (48 + e)) [
+  edge-far left width d =
+      elim (decLt h (left + e)) [
         | yes a ↦
-            let z : h - 48 - e ≡ 0 = omega arith in
-            rw z (cut-far (48 + e - h) col j (min col 7) cl l (rw (before-0 col (48 + e) h (omega arith)) at d))
+            let z : h - left - e ≡ 0 = omega arith in
+            rw z (cut-far (left + e - h) col j (min col 7) cl l (rw (before-0 col (left + e) h (omega arith)) at d))
         | no a ↦
-            let k = far-place (col + 0) j (h - 48 - e) (min col 7) (omega arith) (omega arith) l (rw (from-0 col e h (omega arith) hl) at d) in
+            let k = far-place (col + 0) j (h - left - e) (min col 7) (omega arith) (omega arith) l (rw (from-0 left col e h (omega arith) hl) at d) in
             omega (arith, k)
       ]
 
-  pub far-at : (area : RenderArea) → 15 - min col 7 ≤ (col + aheadOf area e + 256 - h) % 256
-      → 8 ≤ standOf (screenOf area) e h .start + past (leftOf (col + offOf area e) j) (standOf (screenOf area) e h .mark)
+  pub far-at : (s : Screen) → 15 - min col 7 ≤ (col + aheadOf s e + 256 - h) % 256
+      → 8 ≤ standOf s e h .start + past (leftOf (col + offOf s e) j) (standOf s e h .mark)
   far-at VisibleOnly d =
       ⊎-elim (λ z. omega arith) (λ z. rw z (let k = far-place (col + (48 + e)) j h (min col 7) hl (omega arith) l d in omega (arith, k)))
       (visible-mark e h el)
   far-at EffectiveArea d = rw (effective-mark-at e h) (let k = far-place (col + e) j h (min col 7) hl (omega arith) l d in omega (arith, k))
-  far-at TrueEdges d = edge-far d
+  far-at TrueEdges d = edge-far 48 160 d
+  far-at Home d = let k : 15 - min col 7 ≤ (col + (0 + e) + 256 - h) % 256 = rw (zero-add e) d in edge-far 0 256 k
 
 module _
     (vram : List ℕ) (b : Scene) (s : Stand) (addr col off back : ℕ) (low : s .end ≤ 8)
@@ -330,29 +332,37 @@ pub going-eight : (m g : ℕ → ℕ) (stand : ℕ → Stand) (l : ℕ) (f : ℕ
 unfolding withSprites
 going-eight m g stand l f colour {n} {count} S e o = let k : 8 - count ≡ 0 = omega arith in subst S (rw k at (o .rest)) (o .shows)
 
--- ---- a pixel of the visible size, by the view of its area
--- what the code of a view finds
+-- ---- a pixel, by the view of its row
+-- what a column promises of the picture: `line` gives the map's line that each column shows, and so each place of the mask
+abbrev Found : (m g : ℕ → ℕ) → (ℕ → Stand) → ℕ → List ℕ → ℕ → ℕ → (ℕ → ℕ) → ℕ → ℕ → ℕ → ℕ → Type 0
+Found m g stand l vram names sx line cut width col r =
+    (f : ℕ → Bool) (colour : ℕ → ℕ) → ((i : ℕ) → i < 256 → prioTo vram names sx (line i) cut width i ≡ f i) → mapColour m names
+    ((sx + col) % 256) (line col) ≡ colour col
+    → r ≡ withSprites m g stand l f (take 8 (listed m g l 64 0)) (bare colour) .colour col
+
+-- where all columns show the map's line y
+one-line : (t : Bool) (y : ℕ) → cond t y y ≡ y
+one-line true y = refl
+one-line false y = refl
+
 module _
     (vram reg : List ℕ) (v : View) (names sx y cut : ℕ) (ne : names ≡ namesAt (at reg)) (ex : (x : ℕ) → x < v .width → v .mapX x ≡ (sx + x) % 256)
     (ey : (x : ℕ) → v .mapY x ≡ y) (em : (x : ℕ) → x < v .width → v .markAt x ≡ cutMark cut x)
   where
-    view-number : (col : ℕ) {r : ℕ} → col < v .width
-        → ((f : ℕ → Bool) (colour : ℕ → ℕ) → ((i : ℕ) → i < 256 → prioTo vram names sx y cut (v .width) i ≡ f i) → mapColour (at vram) names
-        ((sx + col) % 256) y ≡ colour col
-        → r ≡ withSprites (at vram) (at reg) (v .stand) (v .line) f (take 8 (listed (at vram) (at reg) (v .line) 64 0)) (bare colour) .colour col)
+    pub view-number : (col : ℕ) {r : ℕ} → col < v .width
+        → Found (at vram) (at reg) (v .stand) (v .line) vram names sx (λ x. cond (leb 192 x) y y) cut (v .width) col r
         → r ≡ picture (at vram) (at reg) v .colour col
     unfolding picture backColour
     view-number col l found =
-        found (front (at vram) (at reg) v) (map-at (at vram) (at reg) v) (λ i h. front-at vram reg v names sx y ne ex ey cut em i)
-        (back-at vram reg v names sx y ne ex ey cut em col l)
+        found (front (at vram) (at reg) v) (map-at (at vram) (at reg) v)
+        (λ i h. rw (one-line (leb 192 i) y) (front-at vram reg v names sx y ne ex ey cut em i))
+        (rw (one-line (leb 192 col) y) (back-at vram reg v names sx y ne ex ey cut em col l))
 
-pub scrolled-number : (a : RenderArea) (vram reg : List ℕ) (names sx cut scroll row col : ℕ) {r : ℕ}
-    → columns a ≡ 160 → at reg 8 < 256 → names ≡ namesAt (at reg) → sx ≡ (304 - at reg 8) % 256 → cut ≡ cutOf (screenOf a) (sx % 8) → col < 160
-    → ((f : ℕ → Bool) (colour : ℕ → ℕ) → ((i : ℕ) → i < 256 → prioTo vram names sx ((row + 24 + scroll) % 224) cut 160 i ≡ f i)
-    → mapColour (at vram) names ((sx + col) % 256) ((row + 24 + scroll) % 224) ≡ colour col
-    → r ≡ withSprites (at vram) (at reg) (standOf (screenOf a) (early (at reg))) (row + 24) f (take 8 (listed (at vram) (at reg) (row + 24) 64 0))
-    (bare colour) .colour col)
-    → r ≡ pictureOf (screenOf a) reg scroll vram row .colour col
+pub scrolled-number : (s : Screen) (vram reg : List ℕ) (names sx cut scroll row col : ℕ) {r : ℕ}
+    → columns s ≡ 160 → at reg 8 < 256 → names ≡ namesAt (at reg) → sx ≡ (304 - at reg 8) % 256 → cut ≡ cutOf s (sx % 8) → col < 160
+    → Found (at vram) (at reg) (standOf s (early (at reg))) (row + 24) vram names sx
+    (λ x. cond (leb 192 x) ((row + 24 + scroll) % 224) ((row + 24 + scroll) % 224)) cut 160 col r
+    → r ≡ pictureOf s reg scroll vram row .colour col
 unfolding pictureOf visible trueEdges
 scrolled-number VisibleOnly vram reg names sx cut scroll row col w low ne se ce l found =
     view-number vram reg (visible (at reg) scroll row) names sx ((row + 24 + scroll) % 224) cut ne (λ x h. rw se (visible-x (at reg 8) x low))
@@ -361,3 +371,23 @@ scrolled-number EffectiveArea vram reg names sx cut scroll row col w low ne se c
 scrolled-number TrueEdges vram reg names sx cut scroll row col w low ne se ce l found =
     view-number vram reg (trueEdges (at reg) scroll row) names sx ((row + 24 + scroll) % 224) cut ne (λ x h. rw se (visible-x (at reg 8) x low))
     (λ x. refl) (λ x h. rw ce (effective-mark x (omega arith))) col l found
+scrolled-number Home vram reg names sx cut scroll row col w low ne se ce l found = absurd (omega arith)
+
+-- at home, under the fill and where it is
+module _ (vram reg : List ℕ) (scroll row col : ℕ) where
+  pub home-filled : fills (at reg) col ≡ true → 16 + at reg 7 % 16 ≡ pictureOf Home reg scroll vram row .colour col
+  unfolding pictureOf filled
+  home-filled e = rw e
+
+  pub home-number : (names sx y last : ℕ) {r : ℕ} → fills (at reg) col ≡ false
+      → at reg 8 < 256 → names ≡ namesAt (at reg) → sx ≡ homeColumn reg row → y ≡ (row + scroll) % 224 → last ≡ homeLast reg row y → col < 256
+      → Found (at vram) (at reg) (standOf Home (early (at reg))) row vram names sx (λ x. cond (leb 192 x) last y) 0 256 col r
+      → r ≡ pictureOf Home reg scroll vram row .colour col
+  unfolding pictureOf filled picture home backColour
+  home-number names sx y last e low ne se ye le l found =
+      let v : View = home (at reg) scroll row in
+      rw e
+      (found (front (at vram) (at reg) v) (map-at (at vram) (at reg) v)
+      (λ i h. prio-own vram names sx (cond (leb 192 i) last y) 256 i (omega arith) h
+      ∙ home-front-at vram reg names sx y last scroll row low ne se ye le i h)
+      (home-back-at vram reg names sx y last scroll row low ne se ye le col l))

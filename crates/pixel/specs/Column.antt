@@ -10,8 +10,8 @@ use Rattle.laws.specs.Bits.{bit}
 use Rattle.laws.specs.Circle.{past}
 use Rattle.laws.specs.Lists.{at}
 use Rattle.picture.specs.declared.Stand.{Stand}
-use Rattle.picture.specs.declared.RenderArea.{RenderArea}
-use Rattle.picture.specs.declared.RenderArea.the-variants.{VisibleOnly, EffectiveArea, TrueEdges}
+use Rattle.picture.specs.declared.Screen.{Screen}
+use Rattle.picture.specs.declared.Screen.the-variants.{VisibleOnly, EffectiveArea, TrueEdges, Home}
 use Rattle.picture.specs.Tile.{codeAt}
 use Rattle.picture.specs.Picture.{Canvas, solid}
 use Rattle.background.specs.Background.{Room, prioTo}
@@ -21,6 +21,7 @@ use Rattle.pixel.specs.declared.Column.{Column}
 -- what is asked of a scene
 pub record Set (vram : List ℕ) (b : Scene) : Type 0 where
   pub room : Room vram (b .names) (b .sx) (b .y)
+  pub last-low : b .last < 224
   pub cut-low : b .cut < 8
   pub wide : 8 ≤ b .width
   pub narrow : b .width ≤ 256
@@ -29,31 +30,38 @@ pub record Set (vram : List ℕ) (b : Scene) : Type 0 where
 abbrev pub Clear : ℕ → ℕ → ℕ → Type 0
 Clear line lines y = (y ≢ 0xD0) × (lines ≤ (line + 256 - (y + 1) % 256) % 256)
 
--- R5.5: a place of its priority mask
+-- R20.5: the map's line that column x shows
+abbrev pub lineAt : Scene → ℕ → ℕ
+lineAt b x = cond (leb 192 x) (b .last) (b .y)
+
+-- R5.5: a place of its priority mask: what marks it shows one line of the map, since where the first tile marks to the left all columns show the same one
 abbrev pub frontAt : List ℕ → Scene → ℕ → Bool
-frontAt vram b i = prioTo vram (b .names) (b .sx) (b .y) (b .cut) (b .width) i
+frontAt vram b i = prioTo vram (b .names) (b .sx) (lineAt b i) (b .cut) (b .width) i
 
 -- the place j to the left of place i, around the circle
 abbrev pub leftOf : ℕ → ℕ → ℕ
 leftOf i j = (i + 256 - j) % 256
 
 -- how far the mark of a sprite that is seen stands to the right of its column, whatever its X byte
-abbrev pub offOf : RenderArea → ℕ → ℕ
+abbrev pub offOf : Screen → ℕ → ℕ
 offOf VisibleOnly e = 48 + e
 offOf EffectiveArea e = e
 offOf TrueEdges e = 0
+offOf Home e = 0
 
 -- how far its X byte stands to the right of its column
-abbrev pub aheadOf : RenderArea → ℕ → ℕ
+abbrev pub aheadOf : Screen → ℕ → ℕ
 aheadOf VisibleOnly e = 48 + e
 aheadOf EffectiveArea e = e
 aheadOf TrueEdges e = 48 + e
+aheadOf Home e = e
 
 -- how far to the left of its own place a column of a sprite that starts with pixel `start` is tested and marked
-abbrev pub backOf : RenderArea → ℕ → ℕ
+abbrev pub backOf : Screen → ℕ → ℕ
 backOf VisibleOnly start = start
 backOf EffectiveArea start = start
 backOf TrueEdges start = 0
+backOf Home start = 0
 
 -- how many places are needed, the column's own and those to the left of it: a sprite that the left edge cuts is tested `start` places to the left, and
 -- has no pixel as far right as 8 - start
@@ -65,8 +73,8 @@ unfoldable pub marksLeft : List ℕ → Scene → Stand → ℕ → ℕ → ℕ 
 marksLeft vram b s addr col off j =
     solid (s .start) (s .end) (codeAt (at vram) addr) (past (leftOf (col + off) j) (s .mark)) && not (s .seen && frontAt vram b (leftOf col j))
 
--- the colour number of column col with a sprite whose marks are bits, over those that are taken and the colour that was there; it is tested `back` to
--- the left
+-- the colour number of column col with a sprite whose marks are bits, over those that are taken and the colour that was there;
+-- it is tested `back` to the left
 unfoldable pub colourWith : List ℕ → Stand → ℕ → ℕ → ℕ → ℕ → ℕ → ℕ → ℕ
 colourWith vram s addr col back bits taken old =
     cond (s .seen && (leb (s .x) col && (ltb (s .start + (col - s .x)) (s .end) && (bit bits back && not (bit taken back)))))

@@ -9,30 +9,36 @@ ghost use Rattle.laws.specs.Sizes.{vramSize};
 ghost use Rattle.picture.specs.Tile.{codeAt, mapColour, mapFront};
 ghost use Rattle.picture.specs.View.{early};
 ghost use Rattle.picture.specs.Picture.{Canvas, spriteLine, laid, listed, withSprites, bare};
-ghost use Rattle.picture.specs.declared.RenderArea.the-variants.{VisibleOnly, EffectiveArea};
-ghost use Rattle.picture.specs.Area.{screenOf, columns, rows, pictureOf};
+ghost use Rattle.picture.specs.declared.Screen.the-variants.{VisibleOnly, EffectiveArea, Home};
+ghost use Rattle.picture.specs.Screen.{columns, rows, pictureOf};
 ghost use Rattle.background.specs.Background.{Room, backFront};
 ghost use Rattle.stand.specs.Stand.{standOf, Fits};
-ghost use Rattle.pixel.specs.Column.{Set, Clear, frontAt, offOf, aheadOf, backOf, reachOf, marksLeft, colourWith, Tied, Shows};
-ghost use Rattle.pixel.specs.Pixel.{inArea, noSpot, spotOf};
+ghost use Rattle.pixel.specs.Column.{Set, Clear, lineAt, frontAt, offOf, aheadOf, backOf, reachOf, marksLeft, colourWith, Tied, Shows};
+ghost use Rattle.pixel.specs.Pixel.{onScreen, noSpot, spotOf};
 use picture::GG_VISIBLE_AREA_START_Y;
 use picture::GG_VISIBLE_PIXEL_HEIGHT;
 use picture::GG_VISIBLE_PIXEL_WIDTH;
-use picture::RenderArea;
 use picture::SCROLL_PIXEL_HEIGHT;
 use picture::SCROLL_PIXEL_WIDTH;
+use picture::Screen;
 use picture::Stand;
 use refusal::Refusal;
 use small::VRAM_SIZE;
 
+// R20.1, R20.5: the home screen's rows, and the column from which register 0 bit 7 stops its vertical scroll.
+const HOME_PIXEL_HEIGHT: usize = 192;
+
+const HOME_LOCKED_X: usize = 192;
+
 // ---- the background
 
-// The map as a row shows it: where its entries start, the map's pixel (sx, y) that column 0 shows, how far to the left the first tile marks, and the
-// row's width.
+// The map as a row shows it: where its entries start, the map's pixel (sx, y) that column 0 shows, the map's line that the columns from 192 on show,
+// how far to the left the first tile marks, and the row's width. Only at home is `last` another line than y, and there the first tile marks its own places.
 struct Scene {
     names: usize,
     sx: usize,
     y: usize,
+    last: usize,
     cut: usize,
     width: usize,
 }
@@ -58,16 +64,25 @@ fn map_pixel(vram: &[u8], names: usize, x: usize, y: usize) -> Ground
     }
 }
 
-// Whether column x of the row stands in front of sprites, where that is asked.
-fn column_front(vram: &[u8], b: Scene, asked: bool, x: usize) -> bool
+// The map's line that column x shows.
+fn line_of(b: Scene, x: usize) -> usize
+    requires { ⌜ (b .y < 224) × (b .last < 224) ⌝ }
+    ensures { λ r. ⌜ r ≡ lineAt b x ⌝ }
+    ensures { λ r. ⌜ r < 224 ⌝ }
+{
+    if HOME_LOCKED_X <= x { b.last } else { b.y }
+}
+
+// Whether column x of a row that shows the map's line y stands in front of sprites, where that is asked.
+fn column_front(vram: &[u8], b: Scene, y: usize, asked: bool, x: usize) -> bool
     requires { ⌜ Set (now vram) b ⌝ }
-    requires { ⌜ x < 256 ⌝ }
-    ensures { λ r. ⌜ r ≡ (asked && backFront (now (vram .entry)) (b .names) (b .sx) (b .y) x) ⌝ }
+    requires { ⌜ (y < 224) × (x < 256) ⌝ }
+    ensures { λ r. ⌜ r ≡ (asked && backFront (now (vram .entry)) (b .names) (b .sx) y x) ⌝ }
 {
     if !asked {
         return false;
     }
-    let here = map_pixel(vram, b.names, (b.sx + x) % 256, b.y);
+    let here = map_pixel(vram, b.names, (b.sx + x) % 256, y);
     here.front
 }
 
@@ -77,12 +92,19 @@ fn in_front(vram: &[u8], b: Scene, place: usize) -> bool
     requires { ⌜ place < 256 ⌝ }
     ensures { λ r. ⌜ r ≡ frontAt (now (vram .entry)) b place ⌝ }
 {
+    let y = line_of(b, place);
     let first = 8 - b.cut;
     let x = (place + b.cut) % 256;
-    if column_front(vram, b, x < first, x) {
+    if column_front(vram, b, y, x < first, x) {
         return true;
     }
-    column_front(vram, b, small::both(first <= place, place < b.width), place)
+    column_front(
+        vram,
+        b,
+        y,
+        small::both(first <= place, place < b.width),
+        place,
+    )
 }
 
 // ---- one sprite
@@ -208,40 +230,43 @@ fn with_sprite(
 // ---- the line
 
 // How far the mark of a sprite that is seen stands to the right of its column.
-fn off_of(area: RenderArea, e: u8) -> usize
+fn off_of(screen: Screen, e: u8) -> usize
     requires { ⌜ e ≤ 8 ⌝ }
-    ensures { λ r. ⌜ r ≡ offOf area e ⌝ }
+    ensures { λ r. ⌜ r ≡ offOf screen e ⌝ }
     ensures { λ r. ⌜ r < 256 ⌝ }
 {
-    match area {
-        RenderArea::VisibleOnly => 48 + small::wide(e),
-        RenderArea::EffectiveArea => small::wide(e),
-        RenderArea::TrueEdges => 0,
+    match screen {
+        Screen::VisibleOnly => 48 + small::wide(e),
+        Screen::EffectiveArea => small::wide(e),
+        Screen::TrueEdges => 0,
+        Screen::Home => 0,
     }
 }
 
 // How far the X byte of a sprite that is seen stands to the right of its column.
-fn ahead_of(area: RenderArea, e: u8) -> usize
+fn ahead_of(screen: Screen, e: u8) -> usize
     requires { ⌜ e ≤ 8 ⌝ }
-    ensures { λ r. ⌜ r ≡ aheadOf area e ⌝ }
+    ensures { λ r. ⌜ r ≡ aheadOf screen e ⌝ }
     ensures { λ r. ⌜ r < 256 ⌝ }
 {
-    match area {
-        RenderArea::VisibleOnly => 48 + small::wide(e),
-        RenderArea::EffectiveArea => small::wide(e),
-        RenderArea::TrueEdges => 48 + small::wide(e),
+    match screen {
+        Screen::VisibleOnly => 48 + small::wide(e),
+        Screen::EffectiveArea => small::wide(e),
+        Screen::TrueEdges => 48 + small::wide(e),
+        Screen::Home => small::wide(e),
     }
 }
 
 // How far to the left of its own place a column of a sprite that starts with pixel `start` is tested and marked.
-fn back_of(area: RenderArea, start: usize) -> usize
-    ensures { λ r. ⌜ r ≡ backOf area start ⌝ }
+fn back_of(screen: Screen, start: usize) -> usize
+    ensures { λ r. ⌜ r ≡ backOf screen start ⌝ }
     ensures { λ r. ⌜ r ≤ start ⌝ }
 {
-    match area {
-        RenderArea::VisibleOnly => start,
-        RenderArea::EffectiveArea => start,
-        RenderArea::TrueEdges => 0,
+    match screen {
+        Screen::VisibleOnly => start,
+        Screen::EffectiveArea => start,
+        Screen::TrueEdges => 0,
+        Screen::Home => 0,
     }
 }
 
@@ -304,7 +329,7 @@ fn first_group(vram: &[u8], reg: [u8; 11], line: usize) -> usize
 // the X byte that no place which it needs is one of the sprite's eight, nothing more is asked.
 fn sprite_at(
     vram: &[u8],
-    area: RenderArea,
+    screen: Screen,
     reg: [u8; 11],
     b: Scene,
     e: u8,
@@ -315,37 +340,30 @@ fn sprite_at(
     under: Column,
 ) -> Column
     requires { ⌜ Set (now vram) b ⌝ }
-    requires { ⌜ (k + 2 ≤ vramSize) × (e ≤ 8) × (d < 16) × (col < 256) × (off ≡ offOf area e) × (off < 256) ⌝ }
-    ensures { λ r. ⌜ ((f : ℕ → Bool) (c : Canvas) → ((i : ℕ) → i < 256 → frontAt (now (vram .entry)) b i ≡ f i) → Shows col off c under → Shows col off (laid (standOf (screenOf area) e (at (now (vram .entry)) k)) (codeAt (at (now (vram .entry))) (spriteLine (at reg) (at (now (vram .entry)) (k + 1)) d)) f c) r) ⌝ }
+    requires { ⌜ (k + 2 ≤ vramSize) × (e ≤ 8) × (d < 16) × (col < 256) × (off ≡ offOf screen e) × (off < 256) ⌝ }
+    ensures { λ r. ⌜ ((f : ℕ → Bool) (c : Canvas) → ((i : ℕ) → i < 256 → frontAt (now (vram .entry)) b i ≡ f i) → Shows col off c under → Shows col off (laid (standOf screen e (at (now (vram .entry)) k)) (codeAt (at (now (vram .entry))) (spriteLine (at reg) (at (now (vram .entry)) (k + 1)) d)) f c) r) ⌝ }
 {
     let h = vram[k];
     let far = 15 - small::smaller(col, 7);
-    if far <= (col + ahead_of(area, e) + 256 - small::wide(h)) % 256 {
+    if far <= (col + ahead_of(screen, e) + 256 - small::wide(h)) % 256 {
         return under;
     }
-    let s = stand::settings(picture::screen_of(area), e, h);
+    let s = stand::settings(screen, e, h);
     let addr = sprites::line_at(reg, vram[k + 1], d);
-    let back = back_of(area, s.start);
+    let back = back_of(screen, s.start);
     with_sprite(vram, b, s, addr, col, off, back, under)
 }
 
 // The colour number of a column of a row: the map's, and over it the first eight sprites of the line in turn.
-fn column_at(
-    vram: &[u8],
-    area: RenderArea,
-    reg: [u8; 11],
-    b: Scene,
-    line: usize,
-    col: usize,
-) -> usize
+fn column_at(vram: &[u8], screen: Screen, reg: [u8; 11], b: Scene, line: usize, col: usize) -> usize
     requires { ⌜ Set (now vram) b ⌝ }
     requires { ⌜ (col < 256) × (line < 256) ⌝ }
-    ensures { λ r. ⌜ ((f : ℕ → Bool) (colour : ℕ → ℕ) → ((i : ℕ) → i < 256 → frontAt (now (vram .entry)) b i ≡ f i) → mapColour (at (now (vram .entry))) (b .names) ((b .sx + col) % 256) (b .y) ≡ colour col → r ≡ withSprites (at (now (vram .entry))) (at reg) (standOf (screenOf area) (early (at reg))) line f (take 8 (listed (at (now (vram .entry))) (at reg) line 64 0)) (bare colour) .colour col) ⌝ }
+    ensures { λ r. ⌜ ((f : ℕ → Bool) (colour : ℕ → ℕ) → ((i : ℕ) → i < 256 → frontAt (now (vram .entry)) b i ≡ f i) → mapColour (at (now (vram .entry))) (b .names) ((b .sx + col) % 256) (lineAt b col) ≡ colour col → r ≡ withSprites (at (now (vram .entry))) (at reg) (standOf screen (early (at reg))) line f (take 8 (listed (at (now (vram .entry))) (at reg) line 64 0)) (bare colour) .colour col) ⌝ }
 {
     let table = sprites::table_at(reg);
     let e = sprites::early_of(reg);
-    let off = off_of(area, e);
-    let under = map_pixel(vram, b.names, (b.sx + col) % 256, b.y);
+    let off = off_of(screen, e);
+    let under = map_pixel(vram, b.names, (b.sx + col) % 256, line_of(b, col));
     let mut column = Column {
         colour: under.colour,
         taken: 0,
@@ -360,7 +378,7 @@ fn column_at(
         }
         column = sprite_at(
             vram,
-            area,
+            screen,
             reg,
             b,
             e,
@@ -378,28 +396,30 @@ fn column_at(
 
 // ---- the pixel
 
-// The colour number of a pixel of an area of the visible size: the map is scrolled both ways, and the sprites are those of the line that is 24 further
+// The colour number of a pixel of a screen of the visible size: the map is scrolled both ways, and the sprites are those of the line that is 24 further
 // down.
 fn visible_number(
     vram: &[u8],
-    area: RenderArea,
+    screen: Screen,
     reg: [u8; 11],
     scroll: usize,
     row: usize,
     col: usize,
 ) -> usize
-    requires { ⌜ (length (now vram) ≡ vramSize) × (scroll < 256) × (row < rows VisibleOnly) × (col < columns VisibleOnly) × (columns area ≡ columns VisibleOnly) ⌝ }
-    ensures { λ r. ⌜ r ≡ pictureOf area reg scroll (now (vram .entry)) row .colour col ⌝ }
+    requires { ⌜ (length (now vram) ≡ vramSize) × (scroll < 256) × (row < rows VisibleOnly) × (col < columns VisibleOnly) × (columns screen ≡ columns VisibleOnly) ⌝ }
+    ensures { λ r. ⌜ r ≡ pictureOf screen reg scroll (now (vram .entry)) row .colour col ⌝ }
 {
     let sx = (304 - small::wide(reg[8])) % 256;
+    let y = (row + GG_VISIBLE_AREA_START_Y + scroll) % SCROLL_PIXEL_HEIGHT;
     let b = Scene {
         names: background::names_at(reg),
         sx: sx,
-        y: (row + GG_VISIBLE_AREA_START_Y + scroll) % SCROLL_PIXEL_HEIGHT,
-        cut: small::wide(background::cut_of(picture::screen_of(area), (sx % 8) as u8)),
+        y: y,
+        last: y,
+        cut: small::wide(background::cut_of(screen, (sx % 8) as u8)),
         width: GG_VISIBLE_PIXEL_WIDTH,
     };
-    column_at(vram, area, reg, b, row + GG_VISIBLE_AREA_START_Y, col)
+    column_at(vram, screen, reg, b, row + GG_VISIBLE_AREA_START_Y, col)
 }
 
 // The same of the effective area: the map is the screen, whatever the scroll.
@@ -411,46 +431,61 @@ fn effective_number(vram: &[u8], reg: [u8; 11], row: usize, col: usize) -> usize
         names: background::names_at(reg),
         sx: 0,
         y: row,
+        last: row,
         cut: 0,
         width: SCROLL_PIXEL_WIDTH,
     };
-    column_at(vram, RenderArea::EffectiveArea, reg, b, row, col)
+    column_at(vram, Screen::EffectiveArea, reg, b, row, col)
 }
 
-// The same of each area.
+// The same of the home screen: scrolled both ways but where a lock holds, the sprites by the row's own line, and the fill over all.
+fn home_number(vram: &[u8], reg: [u8; 11], scroll: usize, row: usize, col: usize) -> usize
+    requires { ⌜ (length (now vram) ≡ vramSize) × (scroll < 256) × (row < rows Home) × (col < columns Home) ⌝ }
+    ensures { λ r. ⌜ r ≡ pictureOf Home reg scroll (now (vram .entry)) row .colour col ⌝ }
+{
+    if small::both(small::is_set(reg[0], 5), col < 8) {
+        return 16 + small::wide(reg[7]) % 16;
+    }
+    let y = (row + scroll) % SCROLL_PIXEL_HEIGHT;
+    let b = Scene {
+        names: background::names_at(reg),
+        sx: background::home_column(reg, row),
+        y: y,
+        last: background::home_line(reg, row, y),
+        cut: 0,
+        width: SCROLL_PIXEL_WIDTH,
+    };
+    column_at(vram, Screen::Home, reg, b, row, col)
+}
+
+// The same of each screen.
 fn colour_number(
     vram: &[u8],
-    area: RenderArea,
+    screen: Screen,
     reg: [u8; 11],
     scroll: u8,
     row: usize,
     col: usize,
 ) -> usize
-    requires { ⌜ (length (now vram) ≡ vramSize) × (row < rows area) × (col < columns area) ⌝ }
-    ensures { λ r. ⌜ r ≡ pictureOf area reg scroll (now (vram .entry)) row .colour col ⌝ }
+    requires { ⌜ (length (now vram) ≡ vramSize) × (row < rows screen) × (col < columns screen) ⌝ }
+    ensures { λ r. ⌜ r ≡ pictureOf screen reg scroll (now (vram .entry)) row .colour col ⌝ }
 {
-    match area {
-        RenderArea::VisibleOnly => {
+    match screen {
+        Screen::VisibleOnly => {
             visible_number(
                 vram,
-                RenderArea::VisibleOnly,
+                Screen::VisibleOnly,
                 reg,
                 small::wide(scroll),
                 row,
                 col,
             )
         }
-        RenderArea::EffectiveArea => effective_number(vram, reg, row, col),
-        RenderArea::TrueEdges => {
-            visible_number(
-                vram,
-                RenderArea::TrueEdges,
-                reg,
-                small::wide(scroll),
-                row,
-                col,
-            )
+        Screen::EffectiveArea => effective_number(vram, reg, row, col),
+        Screen::TrueEdges => {
+            visible_number(vram, Screen::TrueEdges, reg, small::wide(scroll), row, col)
         }
+        Screen::Home => home_number(vram, reg, small::wide(scroll), row, col),
     }
 }
 
@@ -478,33 +513,34 @@ fn long(x: u32) -> usize
     x as usize
 }
 
-// Whether row and column lie in the area.
-fn in_area(area: RenderArea, row: usize, col: usize) -> bool
-    ensures { λ r. ⌜ r ≡ inArea area row col ⌝ }
+// Whether row and column lie on the screen.
+fn on_screen(screen: Screen, row: usize, col: usize) -> bool
+    ensures { λ r. ⌜ r ≡ onScreen screen row col ⌝ }
 {
-    match area {
-        RenderArea::VisibleOnly => {
+    match screen {
+        Screen::VisibleOnly => {
             small::both(row < GG_VISIBLE_PIXEL_HEIGHT, col < GG_VISIBLE_PIXEL_WIDTH)
         }
-        RenderArea::EffectiveArea => {
+        Screen::EffectiveArea => {
             small::both(row < SCROLL_PIXEL_HEIGHT, col < SCROLL_PIXEL_WIDTH)
         }
-        RenderArea::TrueEdges => {
+        Screen::TrueEdges => {
             small::both(row < GG_VISIBLE_PIXEL_HEIGHT, col < GG_VISIBLE_PIXEL_WIDTH)
         }
+        Screen::Home => small::both(row < HOME_PIXEL_HEIGHT, col < SCROLL_PIXEL_WIDTH),
     }
 }
 
-// The pixel at a row and a column of an area, by the registers, the latched scroll and video memory.
+// The pixel at a row and a column of a screen, by the registers, the latched scroll and video memory.
 pub fn spot_at(
     vram: &[u8],
-    area: RenderArea,
+    screen: Screen,
     reg: [u8; 11],
     scroll: u8,
     row: u32,
     column: u32,
 ) -> Spot
-    ensures { λ r. ⌜ r ≡ spotOf area reg scroll (now (vram .entry)) row column ⌝ }
+    ensures { λ r. ⌜ r ≡ spotOf screen reg scroll (now (vram .entry)) row column ⌝ }
     ensures { λ r. ⌜ r .colour < 32 ⌝ }
 {
     if vram.len() != VRAM_SIZE {
@@ -512,12 +548,19 @@ pub fn spot_at(
     }
     let y = long(row);
     let x = long(column);
-    if !in_area(area, y, x) {
+    if !on_screen(screen, y, x) {
         return no_spot(Refusal::Accepted);
     }
     Spot {
         refusal: Refusal::Accepted,
         there: true,
-        colour: colour_number(vram, area, reg, scroll, y, x),
+        colour: colour_number(vram, screen, reg, scroll, y, x),
     }
+}
+
+// The same in its colours: whether there is a pixel, and its colour, 0 where there is none.
+pub struct Pixel {
+    pub refusal: Refusal,
+    pub there: bool,
+    pub colour: u32,
 }

@@ -56,8 +56,7 @@ abbrev pub layersUnder : List Line → Screen → List ℕ → Reading → List 
 layersUnder lines s vram k layers = under lines (λ r. layers) (layersFilled s vram k layers)
 
 -- What the points under these lines promise of their answer r and of their pixels; `filled` is what an accepted step leaves there.
-pub record PointsLeave (lines : List Line) (s : Screen) (vram : List ℕ) (k : Reading) (pixels filled : List ℕ) (r : Points) (pixels′ : List ℕ) : Type
-    0 where
+pub record PointsLeave (lines : List Line) (s : Screen) (vram : List ℕ) (k : Reading) (pixels filled : List ℕ) (r : Points) (pixels′ : List ℕ) : Type 0 where
   pub answer : r ≡ pointsWith lines s vram k
   pub bytes : pixels′ ≡ under lines (λ q. pixels) filled
 

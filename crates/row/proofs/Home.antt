@@ -2,34 +2,33 @@
 -- Assumes nothing.
 use mathlib.Core.Path.{_≡_, refl, sym, ap, _∙_}
 use mathlib.Core.List.{List, _++_}
-use mathlib.Core.Bool.{Bool, true, false, cond, _&&_, and-true, and-false}
+use mathlib.Core.Bool.{Bool, true, false, cond, _&&_, and-true}
 use Prim.Native.Nat.{ℕ, zero, suc, _+_, _-_, _*_, _/_, _%_, _<_, _≤_}
 use native.Mathlib.Decide.{decLt}
 use native.Mathlib.Nat.{zero-add}
 use native.Mathlib.Omega.{arith}
-use lib.Dec.{eqb, ltb, leb}
+use lib.Dec.{ltb, leb}
 use lib.ListN.{length, set, take, length-set}
 use lib.Seq.{set-append-left, length-take-le}
 use borrow.Rule.Slice.PartMut.{midOf, postOf, putMid, put-same, mid-len}
 use borrow.Author.Tests.{lt-ltb, le-ltb, le-leb, lt-leb}
-use Rattle.laws.specs.Bits.{bit, any}
-use Rattle.laws.specs.Circle.{past}
+use Rattle.laws.specs.Bits.{bit}
 use Rattle.laws.specs.Lists.{at}
 use Rattle.laws.specs.Paint.{put, painted}
-use Rattle.laws.proofs.Any.{any-cong, any-place}
 use Rattle.laws.proofs.Paint.{length-painted, painted-cong, painted-step, painted-on, painted-overlaid, overlaid-painted, overlay-at}
 use Rattle.laws.proofs.Parts.{set-past}
-use Rattle.laws.proofs.Tests.{split, cond-in}
+use Rattle.laws.proofs.Tests.{cond-in}
 use Rattle.bitmap.specs.Mask.{bytesOf, joined}
 use Rattle.bitmap.proofs.Circle.{bytesOf-ext, joined-bytesOf}
 use Rattle.picture.specs.declared.Screen.the-variants.{Home}
-use Rattle.picture.specs.Tile.{namesAt, mapFront}
-use Rattle.picture.specs.View.{View, cutMark, early, home}
-use Rattle.picture.specs.Picture.{back, front, picture, filled}
-use Rattle.picture.specs.Layers.{layersOf, layersIn}
+use Rattle.picture.specs.Tile.{namesAt}
+use Rattle.picture.specs.View.{View, early, home}
+use Rattle.picture.specs.Picture.{back, front, picture, fills, filled}
+use Rattle.picture.specs.Layers.{layers, layersOf, layersIn}
+use Rattle.picture.proofs.Layers.{cover-layers}
 use Rattle.picture.specs.Screen.{columns, pictureOf}
-use Rattle.background.specs.Background.{backColour, backFront, shade, prioTo}
-use Rattle.background.proofs.Views.{effective-mark}
+use Rattle.background.specs.Background.{backColour, backFront, shade, prioTo, homeColumn, homeLast}
+use Rattle.background.proofs.Home.{prio-own, home-back-at, home-front-at}
 use Rattle.stand.specs.Stand.{standOf}
 use Rattle.row.specs.Row.{Drawn}
 use Rattle.row.proofs.Laws.{as-bytes, row-is, Sprites}
@@ -76,57 +75,28 @@ home-runs row₀ f g {row₁} h e d =
     let r : 1024 ≤ length row₁ = rw (e, length-painted) h in
     part-painted row₁ g r d ∙ ap (λ (z : List ℕ). painted z 192 64 g) e
 
--- ---- a place of the mask, where each column marks its own
-own-place : (n i : ℕ) (F : ℕ → Bool) → n ≤ 256 → i < 256 → any n (λ x. eqb x i && F x) ≡ (ltb i n && F i)
-own-place n i F h l =
-    let e : past i 0 ≡ i = omega arith in
-    any-cong n (λ x. eqb x i && F x) (λ x. eqb ((0 + x) % 256) i && F x) (λ x k. let d : (0 + x) % 256 ≡ x = omega arith in rw d)
-    ∙ any-place n 0 i F h l
-    ∙ ap (λ (k : ℕ). ltb k n && F k) e
-
-prio-own : (vram : List ℕ) (names sx y n i : ℕ) → n ≤ 256 → i < n → prioTo vram names sx y 0 n i ≡ backFront vram names sx y i
-unfolding prioTo
-prio-own vram names sx y n i h l =
-    let low : i < 256 = omega arith in
-    any-cong n (λ x. eqb (cutMark 0 x) i && backFront vram names sx y x) (λ x. eqb x i && backFront vram names sx y x)
-    (λ x k. let b : x < 256 = omega arith in rw (← effective-mark x b))
-    ∙ own-place n i (backFront vram names sx y) h low
-    ∙ rw (lt-ltb i n l)
-
 -- ---- what the two runs show is what the view asks of the map
 module _
     (vram reg : List ℕ) (names sx y last scroll line : ℕ) (low : at reg 8 < 256) (ne : names ≡ namesAt (at reg))
-    (se : sx ≡ cond (bit (at reg 0) 6 && ltb line 16) 0 ((256 - at reg 8) % 256)) (ye : y ≡ (line + scroll) % 224)
-    (le : last ≡ cond (bit (at reg 0) 7) line y)
+    (se : sx ≡ homeColumn reg line) (ye : y ≡ (line + scroll) % 224) (le : last ≡ homeLast reg line y)
   where
     abbrev v : View
     v = home (at reg) scroll line
-
-    home-x : (x : ℕ) → x < 256 → v .mapX x ≡ (sx + x) % 256
-    unfolding home
-    home-x x h = rw se (split (bit (at reg 0) 6 && ltb line 16) (λ e. rw e (omega arith)) (λ e. rw e (omega arith)))
-
-    home-left : (x : ℕ) → x < 192 → v .mapY x ≡ y
-    unfolding home
-    home-left x h = rw (lt-leb 192 x h, and-false (bit (at reg 0) 7)) (sym ye)
-
-    home-right : (x : ℕ) → 192 ≤ x → v .mapY x ≡ last
-    unfolding home
-    home-right x h = rw (le-leb 192 x h, and-true (bit (at reg 0) 7), le, ye)
 
     further : (i : ℕ) → ((sx + 192) % 256 + i) % 256 ≡ (sx + (192 + i)) % 256
     further i = omega arith
 
     back-left : (x : ℕ) → x < 192 → backColour vram names sx y x ≡ back (at vram) (at reg) v x
-    unfolding back backColour
-    back-left x h = let b : x < 256 = omega arith in rw (home-x x b, home-left x h, ne)
+    back-left x h =
+        let b : x < 256 = omega arith in
+        rw (lt-leb 192 x h) at (home-back-at vram reg names sx y last scroll line low ne se ye le x b)
 
     back-right : (i : ℕ) → i < 64 → backColour vram names ((sx + 192) % 256) last i ≡ back (at vram) (at reg) v (192 + i)
-    unfolding back backColour
+    unfolding backColour
     back-right i h =
         let b : 192 + i < 256 = omega arith in
         let d : 192 ≤ 192 + i = omega arith in
-        rw (home-x (192 + i) b, home-right (192 + i) d, further i, ne)
+        rw (further i) (rw (le-leb 192 (192 + i) d) at (home-back-at vram reg names sx y last scroll line low ne se ye le (192 + i) b))
 
     pub home-back : (row₀ colours : List ℕ)
         → painted (painted row₀ 0 192 (shade colours (backColour vram names sx y))) 192 64
@@ -140,22 +110,19 @@ module _
         (shade colours (backColour vram names ((sx + 192) % 256) last)) (λ i. at colours (back (at vram) (at reg) v (192 + i)))
         (λ i h. ap (at colours) (back-right i h)))
 
-    front-own : (i : ℕ) → i < 256 → front (at vram) (at reg) v i ≡ mapFront (at vram) (namesAt (at reg)) (v .mapX i) (v .mapY i)
-    unfolding front home
-    front-own i h = own-place 256 i (λ x. mapFront (at vram) (namesAt (at reg)) (v .mapX x) (v .mapY x)) (omega arith) h ∙ rw (lt-ltb i 256 h)
-
     front-left : (i : ℕ) → i < 192 → prioTo vram names sx y 0 192 i ≡ front (at vram) (at reg) v i
-    unfolding backFront
     front-left i h =
         let b : i < 256 = omega arith in
-        prio-own vram names sx y 192 i (omega arith) h ∙ rw (front-own i b, home-x i b, home-left i h, ne)
+        prio-own vram names sx y 192 i (omega arith) h
+        ∙ (rw (lt-leb 192 i h) at (home-front-at vram reg names sx y last scroll line low ne se ye le i b))
 
     front-right : (i : ℕ) → 192 ≤ i → i < 256 → prioTo vram names ((sx + 192) % 256) last 0 64 (i - 192) ≡ front (at vram) (at reg) v i
     unfolding backFront
     front-right i h b =
         let k : i - 192 < 64 = omega arith in
         let d : ((sx + 192) % 256 + (i - 192)) % 256 ≡ (sx + i) % 256 = omega arith in
-        prio-own vram names ((sx + 192) % 256) last 64 (i - 192) (omega arith) k ∙ rw (front-own i b, home-x i b, home-right i h, d, ne)
+        prio-own vram names ((sx + 192) % 256) last 64 (i - 192) (omega arith) k
+        ∙ rw d (rw (le-leb 192 i h) at (home-front-at vram reg names sx y last scroll line low ne se ye le i b))
 
     pub home-front : joined (bytesOf (prioTo vram names sx y 0 192)) (bytesOf (prioTo vram names ((sx + 192) % 256) last 0 64)) ≡ bytesOf
         (front (at vram) (at reg) v)
@@ -198,34 +165,32 @@ over-colours true row₀ colours f n h =
     (λ x l. cond-in (at colours) (ltb x 8) n (f x))
 over-colours false row₀ colours f n h = refl
 
-shown-row : (t : Bool) (row₀ colours : List ℕ) (f : ℕ → ℕ) (n : ℕ) {row₂ row₃ : List ℕ} {on : Bool} {c : ℕ} → 1024 ≤ length row₀ → on ≡ t → c ≡ at
-    colours n
-    → row₂ ≡ painted row₀ 0 256 (λ x. at colours (f x)) → row₃ ≡ cond on (painted row₂ 0 8 (λ i. c)) row₂
+shown-row : (t : Bool) (row₀ colours : List ℕ) (f : ℕ → ℕ) (n : ℕ) {row₂ row₃ : List ℕ} → 1024 ≤ length row₀
+    → row₂ ≡ painted row₀ 0 256 (λ x. at colours (f x)) → row₃ ≡ cond t (painted row₂ 0 8 (λ i. at colours n)) row₂
     → row₃ ≡ painted row₀ 0 256 (λ x. at colours (cond (t && ltb x 8) n (f x)))
-shown-row t row₀ colours f n {row₂} {row₃} {on} {c} h oe ce re fe =
+shown-row t row₀ colours f n h re fe =
     fe
-    ∙ ap (λ (u : Bool). cond u (painted row₂ 0 8 (λ i. c)) row₂) oe
-    ∙ ap (λ (k : ℕ). cond t (painted row₂ 0 8 (λ i. k)) row₂) ce
     ∙ ap (λ (z : List ℕ). cond t (painted z 0 8 (λ i. at colours n)) z) re
     ∙ over-colours t row₀ colours f n h
 
 -- ---- the row
-pub home-row : (vram reg : List ℕ) (names sx y last scroll line : ℕ) (row₀ layers₀ colours : List ℕ) {row₁ row₂ row₃ layers₁ layers′ prio : List ℕ}
-    {hit ninth on : Bool} {bits c : ℕ}
-    → at reg 8 < 256 → names ≡ namesAt (at reg) → sx ≡ cond (bit (at reg 0) 6 && ltb line 16) 0 ((256 - at reg 8) % 256) → y ≡ (line + scroll) %
-    224 → last ≡ cond (bit (at reg 0) 7) line y
+pub home-row : (vram reg : List ℕ) (names sx y last scroll line : ℕ) (row₀ layers₀ colours : List ℕ)
+    {row₁ row₂ row₃ layers₁ layers₂ layers′ prio : List ℕ}
+    {hit ninth : Bool} {bits : ℕ}
+    → at reg 8 < 256 → names ≡ namesAt (at reg) → sx ≡ homeColumn reg line → y ≡ (line + scroll) % 224 → last ≡ homeLast reg line y
     → 1024 ≤ length row₀
     → row₁ ≡ painted (painted row₀ 0 192 (shade colours (backColour vram names sx y))) 192 64
     (shade colours (backColour vram names ((sx + 192) % 256) last))
     → prio ≡ joined (bytesOf (prioTo vram names sx y 0 192)) (bytesOf (prioTo vram names ((sx + 192) % 256) last 0 64)) → layers₁ ≡ layersIn layers₀
     256 (λ x. 0)
-    → Sprites (at vram) (at reg) (standOf Home (early (at reg))) line colours 256 prio row₁ row₂ layers₁ layers′ hit ninth → bits ≡ cond hit 32 0 +
+    → Sprites (at vram) (at reg) (standOf Home (early (at reg))) line colours 256 prio row₁ row₂ layers₁ layers₂ hit ninth → bits ≡ cond hit 32 0 +
     cond ninth 64 0
-    → on ≡ bit (at reg 0) 5 → c ≡ at colours (16 + at reg 7 % 16) → row₃ ≡ cond on (painted row₂ 0 8 (λ i. c)) row₂
+    → row₃ ≡ cond (bit (at reg 0) 5) (painted row₂ 0 8 (λ i. at colours (16 + at reg 7 % 16))) row₂ → layers′ ≡ layersIn layers₂ 256
+    (λ x. cond (fills (at reg) x) 2 (at layers₂ x))
     → Drawn Home colours (pictureOf Home reg scroll vram line) row₀ row₃ bits ×
     (layers′ ≡ layersIn layers₀ (columns Home) (layersOf Home reg scroll vram line))
 unfolding pictureOf layersOf home filled picture
-home-row vram reg names sx y last scroll line row₀ layers₀ colours low ne se ye te room re pe le drawn be oe ce fe =
+home-row vram reg names sx y last scroll line row₀ layers₀ colours low ne se ye te room re pe le drawn be fe ue =
     let v : View = home (at reg) scroll line in
     let f =
     drawn row₀ layers₀ (front (at vram) (at reg) v) (back (at vram) (at reg) v)
@@ -236,8 +201,8 @@ home-row vram reg names sx y last scroll line row₀ layers₀ colours low ne se
     let p = picture (at vram) (at reg) v in (
       record {
         bytes = as-bytes row₀ colours 256 (filled (at reg) p)
-            (shown-row (bit (at reg 0) 5) row₀ colours (λ x. p .colour x) (16 + at reg 7 % 16) room oe ce (f .bytes) fe) room;
+            (shown-row (bit (at reg 0) 5) row₀ colours (λ x. p .colour x) (16 + at reg 7 % 16) room (f .bytes) fe) room;
         status = d .1;
       },
-      d .2,
+      cover-layers layers₀ 256 2 (fills (at reg)) (layers (at vram) (at reg) v) (d .2) ue,
     )

@@ -10,6 +10,7 @@ ghost use Rattle.laws.specs.Paint.{painted};
 ghost use Rattle.laws.specs.Sizes.{vramSize};
 ghost use Rattle.bitmap.specs.Mask.{bytesOf, joined};
 ghost use Rattle.picture.specs.declared.Screen.the-variants.{VisibleOnly, EffectiveArea, Home};
+ghost use Rattle.picture.specs.Picture.{fills};
 ghost use Rattle.picture.specs.Screen.{columns, rows, rowSize, pictureOf};
 ghost use Rattle.picture.specs.Layers.{layersOf, layersIn};
 ghost use Rattle.background.specs.Background.{Room, backColour, shade, prioTo};
@@ -24,6 +25,9 @@ use sprites::Line;
 
 // R20.5: the column from which register 0 bit 7 stops the vertical scroll.
 const HOME_LOCKED_X: usize = 192;
+
+// R15.1: the layer of a column that the fill covers.
+const LAYER_FILLED: u8 = 2;
 
 // The status bits that a line of sprites sets: 5 where two pixels met, 6 where there was a ninth.
 fn status_bits(line: Line) -> u8
@@ -131,25 +135,6 @@ fn render_line_effective(
     ))
 }
 
-// R20.4, R20.5: the map's column that column 0 of a home row shows: scrolled sideways, but not in the first 16 rows where register 0 bit 6 is set.
-fn home_column(reg: [u8; 11], line: usize) -> usize
-    ensures { λ r. ⌜ r ≡ cond (bit (at reg 0) 6 && ltb line 16) 0 ((256 - at reg 8) % 256) ⌝ }
-    ensures { λ r. ⌜ r < 256 ⌝ }
-{
-    if small::both(small::is_set(reg[0], 6), line < 16) {
-        0
-    } else {
-        (256 - small::wide(reg[8])) % 256
-    }
-}
-
-// R20.5: the map's line that the columns from 192 on show, where those before them show line y: the row's own where register 0 bit 7 is set.
-fn home_line(reg: [u8; 11], line: usize, y: usize) -> usize
-    ensures { λ r. ⌜ r ≡ cond (bit (at reg 0) 7) line y ⌝ }
-{
-    if small::is_set(reg[0], 7) { line } else { y }
-}
-
 // The background of a home row whose column 0 shows the map's pixel (sx, y), in two runs: the columns from 192 on show the map's line `last`. Answers
 // the priority mask.
 fn home_background(
@@ -206,6 +191,34 @@ fn fill(row: &mut [u8], on: bool, c: u32)
     }
 }
 
+// R20.6: and their layers the fill's, where `on` and where the row's layers are asked for.
+fn cover(layers: &mut [u8], on: bool)
+    ensures { λ r. ⌜ now (layers .exit) ≡ layersIn (now (layers .entry)) (columns Home) (λ x. cond (on && ltb x 8) 2 (at (now (layers .entry)) x)) ⌝ }
+{
+    if !on {
+        return;
+    }
+    if layers.len() < SCROLL_PIXEL_WIDTH {
+        return;
+    }
+    let mut i: usize = 0;
+    while i < 8 {
+        layers[i] = LAYER_FILLED;
+        i += 1;
+    }
+}
+
+// The fill over a finished row and its layers.
+fn fill_over(row: &mut [u8], layers: &mut [u8], colours: &[u32; 32], reg: [u8; 11])
+    requires { ⌜ 32 ≤ length (now row) ⌝ }
+    ensures { λ r. ⌜ now (row .exit) ≡ cond (bit (at reg 0) 5) (painted (now (row .entry)) 0 8 (λ i. at (now (colours .entry)) (16 + at reg 7 % 16))) (now (row .entry)) ⌝ }
+    ensures { λ r. ⌜ now (layers .exit) ≡ layersIn (now (layers .entry)) (columns Home) (λ x. cond (fills (at reg) x) 2 (at (now (layers .entry)) x)) ⌝ }
+{
+    let on = small::is_set(reg[0], 5);
+    fill(row, on, colours[16 + small::wide(reg[7]) % 16]);
+    cover(layers, on);
+}
+
 // Row `line` of the home machine: scrolled both ways but where a lock holds, its sprites by its own line, and the fill over all.
 fn render_line_home(
     row: &mut [u8],
@@ -221,9 +234,9 @@ fn render_line_home(
     ensures { λ r. ⌜ now (layers .exit) ≡ layersIn (now (layers .entry)) (columns Home) (layersOf Home reg scroll (now (vram .entry)) line) ⌝ }
 {
     clear(layers, SCROLL_PIXEL_WIDTH);
-    let sx = home_column(reg, line);
+    let sx = background::home_column(reg, line);
     let y = (line + scroll) % SCROLL_PIXEL_HEIGHT;
-    let last = home_line(reg, line, y);
+    let last = background::home_line(reg, line, y);
     let prio = home_background(row, vram, colours, background::names_at(reg), sx, y, last);
     let bits = status_bits(sprites::render_sprites_line(
         row,
@@ -236,11 +249,7 @@ fn render_line_home(
         SCROLL_PIXEL_WIDTH,
         prio,
     ));
-    fill(
-        row,
-        small::is_set(reg[0], 5),
-        colours[16 + small::wide(reg[7]) % 16],
-    );
+    fill_over(row, layers, colours, reg);
     bits
 }
 

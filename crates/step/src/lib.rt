@@ -10,6 +10,7 @@ ghost use Rattle.step.specs.Dump.{DumpLeaves};
 ghost use Rattle.step.specs.Pixel.{pixelOf};
 ghost use Rattle.step.specs.Frame.{RowStepLeaves, FrameStepLeaves, rowView};
 use picture::RenderArea;
+use pixel::Pixel;
 use points::DisplayRefresh;
 use points::DrawnRow;
 use points::Points;
@@ -174,13 +175,6 @@ pub fn dump_tileset(vdp: VdpState, vram: &[u8], pixels: &mut [u8]) -> Refusal
     dump::dump_tileset(reg, &colours, vram, pixels)
 }
 
-// A pixel: whether there is one, and its colour, 0 where there is none.
-pub struct Pixel {
-    pub refusal: Refusal,
-    pub there: bool,
-    pub colour: u32,
-}
-
 // The colour where there is a pixel, else 0.
 fn shown(there: bool, colour: u32) -> u32
     ensures { λ r. ⌜ r ≡ cond there colour 0 ⌝ }
@@ -194,7 +188,14 @@ pub fn pixel_at(vdp: VdpState, vram: &[u8], area: RenderArea, row: u32, column: 
 {
     let reg = vdp.reg;
     let raster = vdp.raster;
-    let spot = pixel::spot_at(vram, area, reg, raster.vertical_scroll, row, column);
+    let spot = pixel::spot_at(
+        vram,
+        picture::screen_of(area),
+        reg,
+        raster.vertical_scroll,
+        row,
+        column,
+    );
     let colours = colours_of(vdp, vdp.cram_dirty);
     let refusal = spot.refusal;
     let n = spot.colour;

@@ -34,14 +34,16 @@ output =
     ∷ 0x30 ∷ 0x0A ∷ 0x72 ∷ 0x20 ∷ 0x32 ∷ 0x20 ∷ 0x30 ∷ 0x30 ∷ 0x0A ∷ 0x65 ∷ 0x6E ∷ 0x64 ∷ 0x20 ∷ 0x38 ∷ 0x0A ∷ []
 
 -- the one is printed for the other, by either table, from 16,384 zeroed bytes of video memory and a row buffer of 1,024
-pub worked : (printed input (start (handheld (made Steps261)) (replicate vramSize 0) (replicate 1024 0) []) ≡ output) ×
-    (printed input (start (handheld (made Steps262)) (replicate vramSize 0) (replicate 1024 0) []) ≡ output)
+pub worked :
+    (printed input (start (handheld (made Steps261)) (replicate vramSize 0) (replicate 1024 0) []) ≡ output)
+    × (printed input (start (handheld (made Steps262)) (replicate vramSize 0) (replicate 1024 0) []) ≡ output)
 unfolding input output recordAt marked decimal lineOf endLine badLine longLine rowTurn turnBy turnOf after lines ran lastLine text printed portWrite
     portRead frontWrite frontRead jumps starts advanced lineInterrupt counted bit rowOn bitsOf endedBy reportBy interruptBy pointsOf stepped stepWith
 worked = (refl, refl)
 
 -- no input: `end 0`
-pub none : (t : LineTable) → printed [] (start (handheld (made t)) (replicate vramSize 0) (replicate 1024 0) []) ≡ 0x65 ∷ 0x6E ∷ 0x64 ∷ 0x20 ∷ 0x30 ∷
-    0x0A ∷ []
+pub none :
+    (t : LineTable) →
+    printed [] (start (handheld (made t)) (replicate vramSize 0) (replicate 1024 0) []) ≡ 0x65 ∷ 0x6E ∷ 0x64 ∷ 0x20 ∷ 0x30 ∷ 0x0A ∷ []
 unfolding decimal endLine badLine longLine after lines ran lastLine text printed
 none t = refl

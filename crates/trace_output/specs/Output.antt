@@ -111,8 +111,8 @@ pub record TraceLeaves (d : Device) (s vram row out : List ℕ) (n : ℕ) (vram�
   pub memory : vram′ ≡ traced s (start d vram row []) out .vram
   pub pixels : row′ ≡ traced s (start d vram row []) out .row
 
-pub record PictureLeaves (step : RenderArea → World → Turn) (d : Device) (s vram row frame out : List ℕ) (n : ℕ) (vram′ row′ frame′ out′ : List ℕ) :
-    Type 0 where
+pub record PictureLeaves (step : RenderArea → World → Turn) (d : Device) (s vram row frame out : List ℕ)
+    (n : ℕ) (vram′ row′ frame′ out′ : List ℕ) : Type 0 where
   pub count : n ≡ snapped step s (start d vram row frame) out .len
   pub bytes : out′ ≡ snapped step s (start d vram row frame) out .out
   pub memory : vram′ ≡ snapped step s (start d vram row frame) out .vram

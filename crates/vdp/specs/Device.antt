@@ -37,8 +37,7 @@ device status reg raster addr buffer dest cram command half dirty cache =
 abbrev pub made : LineTable → VdpState
 made t =
     device (freshFront .status) (freshFront .reg) (freshRaster t) (freshFront .addr) (freshFront .«vram_buffer») (freshFront .dest)
-    (replicate cramSize 0)
-    (freshFront .«cmd_byte1») Empty true (replicate 32 0)
+    (replicate cramSize 0) (freshFront .«cmd_byte1») Empty true (replicate 32 0)
 
 -- R4.8: with no table named, that of the chart
 abbrev pub fresh : VdpState
@@ -50,8 +49,8 @@ frontOf d = front (d .status) (d .reg) (d .addr) (d .«vram_buffer») (d .dest) 
 
 abbrev pub withFront : VdpState → Front → VdpState
 withFront d f =
-    device (f .status) (f .reg) (d .raster) (f .addr) (f .«vram_buffer») (f .dest) (d .cram) (f .«cmd_byte1») (d .«cram_byte1») (d .«cram_dirty»)
-    (d .«color_cache»)
+    device (f .status) (f .reg) (d .raster) (f .addr) (f .«vram_buffer») (f .dest)
+    (d .cram) (f .«cmd_byte1») (d .«cram_byte1») (d .«cram_dirty») (d .«color_cache»)
 
 -- R2.2: with its command latch empty
 abbrev pub unlatched : VdpState → VdpState
@@ -64,18 +63,15 @@ withPaletteByte d l =
 
 abbrev pub withAddr : VdpState → ℕ → VdpState
 withAddr d a =
-    device (d .status) (d .reg) (d .raster) a (d .«vram_buffer») (d .dest) (d .cram) (d .«cmd_byte1») (d .«cram_byte1») (d .«cram_dirty»)
-    (d .«color_cache»)
+    device (d .status) (d .reg) (d .raster) a (d .«vram_buffer») (d .dest) (d .cram) (d .«cmd_byte1») (d .«cram_byte1») (d .«cram_dirty») (d .«color_cache»)
 
 abbrev pub withStatus : VdpState → ℕ → VdpState
 withStatus d s =
-    device s (d .reg) (d .raster) (d .addr) (d .«vram_buffer») (d .dest) (d .cram) (d .«cmd_byte1») (d .«cram_byte1») (d .«cram_dirty»)
-    (d .«color_cache»)
+    device s (d .reg) (d .raster) (d .addr) (d .«vram_buffer») (d .dest) (d .cram) (d .«cmd_byte1») (d .«cram_byte1») (d .«cram_dirty») (d .«color_cache»)
 
 abbrev pub withRaster : VdpState → Raster → VdpState
 withRaster d x =
-    device (d .status) (d .reg) x (d .addr) (d .«vram_buffer») (d .dest) (d .cram) (d .«cmd_byte1») (d .«cram_byte1») (d .«cram_dirty»)
-    (d .«color_cache»)
+    device (d .status) (d .reg) x (d .addr) (d .«vram_buffer») (d .dest) (d .cram) (d .«cmd_byte1») (d .«cram_byte1») (d .«cram_dirty») (d .«color_cache»)
 
 -- the palette, and whether the cache is behind it; the cache, and that it is not
 abbrev pub withPalette : VdpState → List ℕ → Bool → VdpState

@@ -1,2 +1,3 @@
--- What the contracts of `word` cite.
+-- What the contracts of `word` cite, and those of the C face.
 pub mod Word
+pub mod Called

@@ -1,11 +1,9 @@
 // The answer word of the C face (R7.7): which bits say what.
 ghost use mathlib.Core.Path.{_≡_};
-ghost use Prim.Native.Nat.{_<_};
+ghost use Prim.Native.Nat.{_+_, _≤_, _<_};
 ghost use Rattle.refusal.specs.Refusals.{refusalNumber};
-ghost use Rattle.vdp.specs.declared.VdpState.{VdpState};
 ghost use Rattle.points.specs.Points.{interruptNumber, reportNumber};
-ghost use Rattle.step.specs.Step.{joined};
-ghost use Rattle.word.specs.Word.{rowBits, stepWord};
+ghost use Rattle.word.specs.Word.{rowBits, pointsWord, pixelBits};
 use points::DisplayRefresh;
 use points::DrawnRow;
 use points::Points;
@@ -40,9 +38,9 @@ fn row_bits(r: DrawnRow) -> u32
     }
 }
 
-// The word of a step, of which its points answer.
+// The word of a step, by its points.
 pub fn word_of(points: Points) -> u32
-    ensures { λ r. ⌜ ((d : VdpState) → r ≡ stepWord (joined d points)) ⌝ }
+    ensures { λ r. ⌜ r ≡ pointsWord points ⌝ }
 {
     let refusal = points.refusal;
     let interrupt = points.interrupt;
@@ -52,4 +50,27 @@ pub fn word_of(points: Points) -> u32
         + 256 * interrupt_number(interrupt)
         + 512 * report_number(report)
         + row_bits(row)
+}
+
+// A word of 32 bits as one of 64.
+fn long(word: u32) -> u64
+    ensures { λ r. ⌜ (r ≡ word) × (r < 4294967296) ⌝ }
+{
+    word as u64
+}
+
+// A pixel's part of its word: that it is there, and its colour.
+fn pixel_bits(there: bool, colour: u32) -> u64
+    ensures { λ r. ⌜ r ≡ pixelBits there colour ⌝ }
+    ensures { λ r. ⌜ r ≤ 18446744069431361536 ⌝ }
+{
+    let bytes = 4294967296 * long(colour);
+    if there { 16777216 + bytes } else { bytes }
+}
+
+// The word of one pixel (R16.6).
+pub fn pixel_word(refusal: Refusal, there: bool, colour: u32) -> u64
+    ensures { λ r. ⌜ r ≡ refusalNumber refusal + pixelBits there colour ⌝ }
+{
+    long(number(refusal)) + pixel_bits(there, colour)
 }

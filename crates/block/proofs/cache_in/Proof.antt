@@ -1,4 +1,4 @@
--- `block::cache_in` meets its contract: the cached colours are those that stand in the block.
+-- `block::cache_in` meets its contract: the palette, and the cached colours.
 use borrow.Author.Needs.{needs}
 use Rattle.block.specs.Block.{stateOf}
 use Rattle.block.proofs.cache_in.Statement.{statement}

@@ -19,11 +19,9 @@ same-length c = search needs
 returns : tie.Need-returns
 returns c =
     let at-store-two = c .before .before in
-    let at-latch-byte = at-store-two .before in
+    let at-latch-byte = at-store-two .before .before in
     let at-latch-flag = at-latch-byte .before in
     at-store-two .store-two .ensures ∙ rw (at-latch-flag .latch-flag .ensures, at-latch-byte .latch-byte .ensures)
 
 pub store-latch-spec : {M : Type 1} → statement M
-store-latch-spec =
-    tie.close
-    (tie.spec latch-flag-requires latch-byte-requires store-two-requires same-length returns)
+store-latch-spec = tie.close (tie.spec latch-flag-requires latch-byte-requires store-two-requires same-length returns)

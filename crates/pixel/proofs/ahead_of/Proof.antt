@@ -30,6 +30,12 @@ wide-requires-3 c κs = search needs
 add-result-2 : tie.Need-add-result-2
 add-result-2 c = search needs
 
+enum-told-4 : tie.Need-enum-told-4
+enum-told-4 c = search needs
+
+wide-requires-4 : tie.Need-wide-requires-4
+wide-requires-4 c κs = search needs
+
 returns : tie.Need-returns
 returns c = (rw (c .before .enum-told .given .1) (ap (λ k. 48 + k) (c .wide .ensures .0)), omega arith)
 
@@ -38,6 +44,9 @@ returns-2 c = search needs
 
 returns-3 : tie.Need-returns-3
 returns-3 c = (rw (c .before .enum-told3 .given .1) (ap (λ k. 48 + k) (c .wide3 .ensures .0)), omega arith)
+
+returns-4 : tie.Need-returns-4
+returns-4 c = search needs
 
 pub ahead-of-spec : {M : Type 1} → statement M
 ahead-of-spec =
@@ -51,6 +60,9 @@ ahead-of-spec =
     enum-told-3
     wide-requires-3
     add-result-2
+    enum-told-4
+    wide-requires-4
     returns
     returns-2
-    returns-3)
+    returns-3
+    returns-4)

@@ -1,4 +1,4 @@
--- `pixel::colour_number` meets its contract: the colour number of a pixel of each area.
+-- `pixel::colour_number` meets its contract: the colour number of a pixel of each screen.
 use borrow.Author.Needs.{needs}
 use mathlib.Core.Path.{refl}
 use native.Mathlib.Omega.{arith}
@@ -35,6 +35,17 @@ visible-number-requires-2 c κs =
     let at-start = c .before .before .before .before in
     let p = rw (c .before .enum-told3 .given .1) at (at-start .pre) in (p .0, omega arith, p .1, p .2, refl)
 
+enum-told-4 : tie.Need-enum-told-4
+enum-told-4 c = search needs
+
+wide-requires-3 : tie.Need-wide-requires-3
+wide-requires-3 c κs = search needs
+
+home-number-requires : tie.Need-home-number-requires
+home-number-requires c κs =
+    let at-start = c .before .before .before .before in
+    let p = rw (c .before .enum-told4 .given .1) at (at-start .pre) in (p .0, omega arith, p .1, p .2)
+
 returns : tie.Need-returns
 returns c =
     let at-enum-told = c .before .before in
@@ -50,6 +61,11 @@ returns-3 c =
     let at-enum-told3 = c .before .before in
     rw (at-enum-told3 .enum-told3 .given .1, ← c .before .wide2 .ensures .0) (c .visible-number2 .ensures)
 
+returns-4 : tie.Need-returns-4
+returns-4 c =
+    let at-enum-told4 = c .before .before in
+    rw (at-enum-told4 .enum-told4 .given .1, ← c .before .wide3 .ensures .0) (c .home-number .ensures)
+
 pub colour-number-spec : {M : Type 1} → statement M
 colour-number-spec =
     tie.close
@@ -62,6 +78,10 @@ colour-number-spec =
     enum-told-3
     wide-requires-2
     visible-number-requires-2
+    enum-told-4
+    wide-requires-3
+    home-number-requires
     returns
     returns-2
-    returns-3)
+    returns-3
+    returns-4)

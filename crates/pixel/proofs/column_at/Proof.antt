@@ -1,31 +1,30 @@
 -- `pixel::column_at` meets its contract: the colour number of a column of a row: the map's, and over it the first eight sprites of the line in turn.
 use borrow.Author.Needs.{needs}
-use mathlib.Core.Path.{_≡_, refl, _∙_}
+use mathlib.Core.Path.{_≡_, refl, ap, _∙_}
 use native.Mathlib.Omega.{arith}
 use mathlib.Core.Bool.{Bool}
 use Prim.Native.Nat.{ℕ, _+_, _-_, _%_, _<_, _≤_}
 use Rattle.laws.specs.Lists.{at}
 use Rattle.picture.specs.Tile.{mapColour}
 use Rattle.picture.specs.View.{early}
-use Rattle.picture.specs.Area.{screenOf}
 use Rattle.stand.specs.Stand.{standOf}
 use Rattle.sprites.specs.Sprites.{Follows}
 use Rattle.sprites.proofs.List.{Going, going-on, going-ends, with-sprite-is}
-use Rattle.pixel.specs.Column.{frontAt, Shows}
+use Rattle.pixel.specs.Column.{lineAt, frontAt, Shows}
 use Rattle.pixel.proofs.Laws.{column-starts, going-from, going-eight}
 use Rattle.pixel.proofs.column_at.Statement.{statement}
 use Rattle.pixel.proofs.column_at.Tie as tie
 
 abbrev Inv-loop : tie.InvT-loop
-Inv-loop vram area reg b line col table e off column₀ from₀ count₀ column from count =
+Inv-loop vram screen reg b line col table e off column₀ from₀ count₀ column from count =
     (from ≤ 64)
     × (count ≤ 8)
-    × ((f : ℕ → Bool) (colour : ℕ → ℕ) → ((i : ℕ) → i < 256 → frontAt vram b i ≡ f i) → mapColour (at vram) (b .names) ((b .sx + col) % 256) (b .y) ≡
-    colour col →
-    Going (at vram) (at reg) (standOf (screenOf area) (early (at reg))) line f colour from count (λ q L. Shows col off q column))
+    × ((f : ℕ → Bool) (colour : ℕ → ℕ) → ((i : ℕ) → i < 256 → frontAt vram b i ≡ f i) → mapColour (at vram) (b .names) ((b .sx + col) % 256)
+    (lineAt b col) ≡ colour col →
+    Going (at vram) (at reg) (standOf screen (early (at reg))) line f colour from count (λ q L. Shows col off q column))
 
 abbrev μ-loop : tie.MeasureT-loop
-μ-loop vram area reg b line col table e off column₀ from₀ count₀ column from count = 8 - count
+μ-loop vram screen reg b line col table e off column₀ from₀ count₀ column from count = 8 - count
 
 table-at-requires : tie.Need-table-at-requires Inv-loop μ-loop
 table-at-requires c κs = search needs
@@ -39,38 +38,49 @@ off-of-requires c κs = search needs
 add-map-pixel : tie.Need-add-map-pixel Inv-loop μ-loop
 add-map-pixel c = search needs
 
+line-of-requires : tie.Need-line-of-requires Inv-loop μ-loop
+line-of-requires c κs =
+    let at-start = c .before .before .before .before .before in
+    (at-start .pre .0 .room .line, at-start .pre .0 .last-low)
+
 map-pixel-requires : tie.Need-map-pixel-requires Inv-loop μ-loop
 map-pixel-requires c κs =
-    let at-start = c .before .before .before .before .before in
+    let at-start = c .before .before .before .before .before .before in
     record {
       memory = at-start .pre .0 .room .memory;
       names-low = at-start .pre .0 .room .names-low;
       column = omega arith;
-      line = at-start .pre .0 .room .line;
+      line = c .line-of .ensures .1;
     }
 
 first-group-requires : tie.Need-first-group-requires Inv-loop μ-loop
 first-group-requires c κs =
-    let at-start = c .before .before .before .before .before .before in
+    let at-start = c .before .before .before .before .before .before .before in
     (at-start .pre .0 .room .memory, at-start .pre .1 .1)
 
 loop-holds : tie.Need-loop-holds Inv-loop μ-loop
-loop-holds c = (
-  c .first-group .ensures .0,
-  omega arith,
-  λ f colour pe ue. going-from _ _ _ _ _ _ _ (c .first-group .ensures .1)
-      (column-starts _ _ colour (c .before .map-pixel .ensures .0 ∙ ue) refl),
-)
+loop-holds c =
+    let at-line-of = c .before .before in
+    let at-start = at-line-of .before .before .before .before .before .before in
+    let a = at-start .args in (
+      c .first-group .ensures .0,
+      omega arith,
+      λ f colour pe ue. going-from _ _ _ _ _ _ _ (c .first-group .ensures .1)
+          (column-starts _ _ colour
+          (c .before .map-pixel .ensures .0
+          ∙ ap (λ (k : ℕ). mapColour (at (a .vram .now)) (a .b .names) ((a .b .sx + a .col) % 256) k) (at-line-of .line-of .ensures .0)
+          ∙ ue) refl),
+    )
 
 next-sprite-requires : tie.Need-next-sprite-requires Inv-loop μ-loop
 next-sprite-requires c κs =
-    let at-start = c .before .before .before .before .before .before .before .before .before in
+    let at-start = c .before .before .before .before .before .before .before .before .before .before in
     (at-start .pre .0 .room .memory, c .before .loop .inv .0)
 
 returns : tie.Need-returns Inv-loop μ-loop
 returns c =
     let at-loop = c .before .before .before in
-    let at-off-of = at-loop .before .before .before .before in
+    let at-off-of = at-loop .before .before .before .before .before in
     let at-start = at-off-of .before .before .before .before in
     let a = at-start .args in
     λ f colour pe ue.
@@ -90,7 +100,7 @@ add-sprite-at-2 c = search needs
 
 sprite-at-requires : tie.Need-sprite-at-requires Inv-loop μ-loop
 sprite-at-requires c κs =
-    let at-off-of = c .before .before .before .before .before .before .before in
+    let at-off-of = c .before .before .before .before .before .before .before .before in
     let at-early-of = at-off-of .before in
     let at-table-at = at-early-of .before in
     let at-start = at-table-at .before .before in (
@@ -98,8 +108,7 @@ sprite-at-requires c κs =
       (
         omega (arith, at-table-at .table-at .ensures .1, c .if1 .left),
         at-early-of .early-of .ensures .1,
-        omega
-            (arith, c .before .next-sprite .ensures .1 .2),
+        omega (arith, c .before .next-sprite .ensures .1 .2),
         at-start .pre .1 .0,
         at-off-of .off-of .ensures .0,
         at-off-of .off-of .ensures .1,
@@ -120,7 +129,7 @@ loop-again c =
     let at-next-sprite = c .before .before in
     let at-loop-test = at-next-sprite .before in
     let at-loop = at-loop-test .before in
-    let at-early-of = at-loop .before .before .before .before .before in
+    let at-early-of = at-loop .before .before .before .before .before .before in
     let at-table-at = at-early-of .before in
     let at-start = at-table-at .before .before in
     let a = at-start .args in
@@ -135,14 +144,14 @@ loop-again c =
       λ f colour pe ue.
           let w = v .2 f colour pe ue in
           going-on _ _ _ _ _ _ _ (o .next l) k refl w
-          (rw (← with-sprite-is (a .vram .now) (a .reg) (screenOf (a .area)) (a .line) n (at-next-sprite .next-sprite .result .d) f (w .canvas)
+          (rw (← with-sprite-is (a .vram .now) (a .reg) (a .screen) (a .line) n (at-next-sprite .next-sprite .result .d) f (w .canvas)
           (at-table-at .table-at .ensures .0) (at-early-of .early-of .ensures .0) refl (o .below l) refl)
           (c .sprite-at .ensures f (w .canvas) pe (w .shows))),
     )
 
 returns-2 : tie.Need-returns-2 Inv-loop μ-loop
 returns-2 c =
-    let at-off-of = c .before .before .before .before .before in
+    let at-off-of = c .before .before .before .before .before .before in
     let at-start = at-off-of .before .before .before .before in
     let a = at-start .args in
     let e : c .before .loop .count ≡ 8 = omega arith in
@@ -159,6 +168,7 @@ column-at-spec =
     early-of-requires
     off-of-requires
     add-map-pixel
+    line-of-requires
     map-pixel-requires
     first-group-requires
     loop-holds

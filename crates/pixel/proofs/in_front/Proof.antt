@@ -2,9 +2,13 @@
 use borrow.Author.Needs.{needs}
 use mathlib.Core.Path.{sym, _∙_}
 use Rattle.background.specs.Background.{backFront, prioTo}
+use Rattle.pixel.specs.Column.{lineAt}
 use Rattle.pixel.proofs.Front.{front-two}
 use Rattle.pixel.proofs.in_front.Statement.{statement}
 use Rattle.pixel.proofs.in_front.Tie as tie
+
+line-of-requires : tie.Need-line-of-requires
+line-of-requires c κs = (c .before .pre .0 .room .line, c .before .pre .0 .last-low)
 
 sub-first : tie.Need-sub-first
 sub-first c = search needs
@@ -18,11 +22,12 @@ column-front-requires c κs = search needs
 returns : tie.Need-returns
 unfolding prioTo
 returns c =
-    let at-start = c .before .before .before .before .before in
+    let at-line-of = c .before .before .before .before in
+    let at-start = at-line-of .before .before in
     let a = at-start .args in
     sym (front-two (a .b .cut) (a .b .width) (a .place) (at-start .pre .0 .cut-low) (at-start .pre .0 .wide) (at-start .pre .0 .narrow)
-    (at-start .pre .1) (backFront (a .vram .now) (a .b .names) (a .b .sx) (a .b .y))
-    ∙ rw (sym (c .before .column-front .ensures) ∙ c .if1 .taken))
+    (at-start .pre .1) (backFront (a .vram .now) (a .b .names) (a .b .sx) (lineAt (a .b) (a .place)))
+    ∙ rw (← at-line-of .line-of .ensures .0, sym (c .before .column-front .ensures) ∙ c .if1 .taken))
 
 both-requires : tie.Need-both-requires
 both-requires c κs = search needs
@@ -35,17 +40,19 @@ unfolding prioTo
 returns-2 c =
     let at-if1 = c .before .before .before in
     let at-column-front = at-if1 .before in
-    let at-start = at-column-front .before .before .before .before in
+    let at-line-of = at-column-front .before .before .before in
+    let at-start = at-line-of .before .before in
     let a = at-start .args in
-    c .column-front2 .ensures ∙ rw (c .before .both .ensures)
+    c .column-front2 .ensures ∙ rw (c .before .both .ensures, at-line-of .line-of .ensures .0)
     (sym (front-two (a .b .cut) (a .b .width) (a .place) (at-start .pre .0 .cut-low) (at-start .pre .0 .wide) (at-start .pre .0 .narrow)
-    (at-start .pre .1) (backFront (a .vram .now) (a .b .names) (a .b .sx) (a .b .y))
-    ∙ rw (sym (at-column-front .column-front .ensures) ∙ at-if1 .if1 .left)))
+    (at-start .pre .1) (backFront (a .vram .now) (a .b .names) (a .b .sx) (lineAt (a .b) (a .place)))
+    ∙ rw (← at-line-of .line-of .ensures .0, sym (at-column-front .column-front .ensures) ∙ at-if1 .if1 .left)))
 
 pub in-front-spec : {M : Type 1} → statement M
 in-front-spec =
     tie.close
     (tie.spec
+    line-of-requires
     sub-first
     add-x
     column-front-requires

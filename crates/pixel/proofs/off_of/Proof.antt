@@ -24,6 +24,9 @@ wide-requires-2 c κs = search needs
 enum-told-3 : tie.Need-enum-told-3
 enum-told-3 c = search needs
 
+enum-told-4 : tie.Need-enum-told-4
+enum-told-4 c = search needs
+
 returns : tie.Need-returns
 returns c = (rw (c .before .enum-told .given .1) (ap (λ k. 48 + k) (c .wide .ensures .0)), omega arith)
 
@@ -32,6 +35,9 @@ returns-2 c = search needs
 
 returns-3 : tie.Need-returns-3
 returns-3 c = search needs
+
+returns-4 : tie.Need-returns-4
+returns-4 c = search needs
 
 pub off-of-spec : {M : Type 1} → statement M
 off-of-spec =
@@ -43,6 +49,8 @@ off-of-spec =
     enum-told-2
     wide-requires-2
     enum-told-3
+    enum-told-4
     returns
     returns-2
-    returns-3)
+    returns-3
+    returns-4)

@@ -1,10 +1,8 @@
 -- `pixel::sprite_at` meets its contract: the column with the sprite whose X byte stands at k, its tile behind it, and of which line d is shown.
 use borrow.Author.Needs.{needs}
-use mathlib.Core.Path.{_≡_, ap, _∙_}
+use mathlib.Core.Path.{_≡_}
 use Prim.Native.Nat.{_+_, _-_, _%_, _<_, _≤_, min}
 use Rattle.laws.specs.Lists.{at}
-use Rattle.picture.specs.declared.Screen.{Screen}
-use Rattle.picture.specs.Area.{screenOf}
 use Rattle.stand.specs.Stand.{standOf}
 use Rattle.picture.specs.Picture.{spriteLine}
 use Rattle.pixel.specs.Column.{Tied, backOf, aheadOf}
@@ -43,18 +41,15 @@ returns c =
     let at-start = at-smaller .before .before .before in
     let a = at-start .args in
     let h = at (a .vram .now) (a .k) in
-    let s = standOf (screenOf (a .area)) (a .e) h in
+    let s = standOf (a .screen) (a .e) h in
     let low : h < 256 = rw (c .before .wide .ensures .0) at (c .before .wide .ensures .1) in
-    let far : 15 - min (a .col) 7 ≤ (a .col + aheadOf (a .area) (a .e) + 256 - h) % 256 = rw
+    let far : 15 - min (a .col) 7 ≤ (a .col + aheadOf (a .screen) (a .e) + 256 - h) % 256 = rw
     (c .before .wide .ensures .0, at-ahead-of .ahead-of .ensures .0, at-smaller .smaller .ensures) at (c .if1 .taken) in
-    let t : Tied (a .off) (backOf (a .area) (s .start)) s = rw (at-start .pre .1 .4) (tied (a .area) (a .e) h (at-start .pre .1 .1)) in
+    let t : Tied (a .off) (backOf (a .screen) (s .start)) s = rw (at-start .pre .1 .4) (tied (a .screen) (a .e) h (at-start .pre .1 .1)) in
     λ f q pe sh. column-far (a .vram .now) (a .b) s (spriteLine (at (a .reg)) (at (a .vram .now) (a .k + 1)) (a .d)) (a .col) (a .off)
-    (backOf (a .area) (s .start)) (end-low (a .area) (a .e) h)
-    (λ j l. rw (at-start .pre .1 .4) (far-at (a .e) h (a .col) j (at-start .pre .1 .1) low (at-start .pre .1 .3) l (a .area) far)) f q (a .under)
+    (backOf (a .screen) (s .start)) (end-low (a .screen) (a .e) h)
+    (λ j l. rw (at-start .pre .1 .4) (far-at (a .e) h (a .col) j (at-start .pre .1 .1) low (at-start .pre .1 .3) l (a .screen) far)) f q (a .under)
     t (at-start .pre .1 .3) pe sh
-
-screen-of-requires : tie.Need-screen-of-requires
-screen-of-requires c κs = search needs
 
 settings-requires : tie.Need-settings-requires
 settings-requires c κs = search needs
@@ -78,15 +73,13 @@ returns-2 : tie.Need-returns-2
 returns-2 c =
     let at-line-at = c .before .before in
     let at-settings = at-line-at .before .before in
-    let at-screen-of = at-settings .before in
-    let at-start = at-screen-of .before .before .before .before .before .before .before in
+    let at-start = at-settings .before .before .before .before .before .before .before in
     let a = at-start .args in
     let p = at-start .pre .1 in
     let h = at (a .vram .now) (a .k) in
     let s = at-settings .settings .result in
-    let e : s ≡ standOf (screenOf (a .area)) (a .e) h = at-settings .settings .ensures .0 ∙ ap (λ (k : Screen). standOf k (a .e) h)
-    (at-screen-of .screen-of .ensures) in
-    let t : Tied (a .off) (c .before .back-of .result) s = rw (c .before .back-of .ensures .0, e, p .4) (tied (a .area) (a .e) h (p .1)) in
+    let e : s ≡ standOf (a .screen) (a .e) h = at-settings .settings .ensures .0 in
+    let t : Tied (a .off) (c .before .back-of .result) s = rw (c .before .back-of .ensures .0, e, p .4) (tied (a .screen) (a .e) h (p .1)) in
     λ f q pe sh. rw (← e, ← at-line-at .line-at .ensures .0) (c .with-sprite .ensures t f q pe sh)
 
 pub sprite-at-spec : {M : Type 1} → statement M
@@ -102,7 +95,6 @@ sprite-at-spec =
     wide-requires
     sub-if1
     returns
-    screen-of-requires
     settings-requires
     add-line-at
     shared-slice-read-line-at

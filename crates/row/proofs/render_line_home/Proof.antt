@@ -1,8 +1,8 @@
 -- `row::render_line_home` meets its contract: row `line` of the home machine: scrolled both ways but where a lock holds, its sprites by its own line.
 use borrow.Author.Needs.{needs}
 use native.Mathlib.Omega.{arith}
-use mathlib.Core.Path.{refl, ap}
-use Prim.Native.Nat.{ℕ, _+_, _%_, _<_}
+use mathlib.Core.Path.{refl}
+use Prim.Native.Nat.{ℕ, _<_}
 use lib.ListN.{getD}
 use mir.Syntax.{w8}
 use mir.Val.{Fits}
@@ -36,7 +36,7 @@ home-background-requires c κs =
       (
         search needs,
         rw (at-home-line .home-line .ensures)
-            (either (λ (k : ℕ). k < 224) (bit (at (at-start .args .t5) 0) 7) (λ e. omega arith) (λ e. omega arith)),
+            (either (λ (k : ℕ). k < 224) (bit (at (at-start .args .reg) 0) 7) (λ e. omega arith) (λ e. omega arith)),
       ),
     )
 
@@ -46,30 +46,9 @@ render-sprites-line-requires c κs = search needs
 status-bits-requires : tie.Need-status-bits-requires
 status-bits-requires c κs = search needs
 
-array-read-is-set : tie.Need-array-read-is-set
-array-read-is-set c = search needs
-
-is-set-requires : tie.Need-is-set-requires
-is-set-requires c κs = search needs
-
-array-read-wide : tie.Need-array-read-wide
-array-read-wide c = search needs
-
-wide-requires : tie.Need-wide-requires
-wide-requires c κs = search needs
-
-add-fill : tie.Need-add-fill
-add-fill c = search needs
-
-mul-fill : tie.Need-mul-fill
-mul-fill c = search needs
-
-element-copy-out-fill : tie.Need-element-copy-out-fill
-element-copy-out-fill c = search needs
-
-fill-requires : tie.Need-fill-requires
-fill-requires c κs =
-    let at-row2 = c .before .before .before .before .before .before .before .before in
+fill-over-requires : tie.Need-fill-over-requires
+fill-over-requires c κs =
+    let at-row2 = c .before .before .before .before .before .before in
     let at-row = at-row2 .before .before .before .before .before in
     let at-start = at-row .before .before .before .before .before .before .before .before .before .before .before .before .before in
     omega (arith, at-row2 .row2 .given, at-row .row .given, at-start .pre .1)
@@ -78,31 +57,31 @@ same-length : tie.Need-same-length
 same-length c = search needs
 
 same-length-2 : tie.Need-same-length-2
-same-length-2 c = search needs
+same-length-2 c =
+    let at-layers2 = c .before .before .before .before .before .before .before .before .before in
+    let at-layers = at-layers2 .before .before .before .before .before .before .before .before .before .before .before .before .before .before in
+    omega (arith, c .before .layers3 .given, at-layers2 .layers2 .given, at-layers .layers .given)
 
 returns : tie.Need-returns
 returns c =
-    let at-start = c .before .before .before .before .before .before .before .before .before .before .before .before .before .before .before
-    .before .before .before .before .before .before .before .before .before .before .before .before .before .before in
-    let a = at-start .args in
-    let fit : Fits w8 (getD (a .t5) 8 0) = search needs in
-    let at-fill = c .before .before in
-    let at-wide = at-fill .before .before in
-    let at-is-set = at-wide .before in
-    let at-status-bits = at-is-set .before .before in
+    let at-start = c .before .before .before .before .before .before .before .before .before .before .before .before .before .before .before .before
+    .before .before .before .before .before .before .before .before .before .before .before .before .before in
+    let fit : Fits w8 (getD (at-start .args .reg) 8 0) = search needs in
+    let at-fill-over = c .before .before .before .before in
+    let at-status-bits = at-fill-over .before .before .before in
     let at-render-sprites-line = at-status-bits .before .before .before .before .before in
     let at-home-background = at-render-sprites-line .before .before .before .before .before in
     let at-names-at = at-home-background .before in
     let at-home-line = at-names-at .before .before in
     let at-home-column = at-home-line .before in
     let at-clear = at-home-column .before .before .before in
-    let p = at-start .pre in
-    let g = at-start .good in
-    home-row (a .vram .now) (a .t5) _ _ _ _ (a .scroll) (a .line) (a .row .now) (a .layers .now) (a .colours .now)
-    (fit .fits) (at-names-at .names-at .ensures .0) (at-home-column .home-column .ensures .0) refl (at-home-line .home-line .ensures) (p .1)
+    let a = at-start .args in
+    home-row (a .vram .now) (a .reg) _ _ _ _ (a .scroll) (a .line) (a .row .now) (a .layers .now) (a .colours .now)
+    (fit .fits) (at-names-at .names-at .ensures .0) (at-home-column .home-column .ensures .0) refl (at-home-line .home-line .ensures)
+    (at-start .pre .1)
     (at-home-background .home-background .ensures .0) (at-home-background .home-background .ensures .1) (at-clear .clear .ensures)
-    (at-render-sprites-line .render-sprites-line .ensures) (at-status-bits .status-bits .ensures)
-    (at-is-set .is-set .ensures) (ap (λ (k : ℕ). at (a .colours .now) (16 + k % 16)) (at-wide .wide .ensures .0)) (at-fill .fill .ensures)
+    (at-render-sprites-line .render-sprites-line .ensures) (at-status-bits .status-bits .ensures) (at-fill-over .fill-over .ensures .0)
+    (at-fill-over .fill-over .ensures .1)
 
 pub render-line-home-spec : {M : Type 1} → statement M
 render-line-home-spec =
@@ -116,14 +95,7 @@ render-line-home-spec =
     home-background-requires
     render-sprites-line-requires
     status-bits-requires
-    array-read-is-set
-    is-set-requires
-    array-read-wide
-    wide-requires
-    add-fill
-    mul-fill
-    element-copy-out-fill
-    fill-requires
+    fill-over-requires
     same-length
     same-length-2
     returns)

@@ -4,6 +4,9 @@ use Rattle.step.specs.Pixel.{pixelOf}
 use Rattle.step.proofs.pixel_at.Statement.{statement}
 use Rattle.step.proofs.pixel_at.Tie as tie
 
+screen-of-requires : tie.Need-screen-of-requires
+screen-of-requires c κs = search needs
+
 spot-at-requires : tie.Need-spot-at-requires
 spot-at-requires c κs = search needs
 
@@ -23,12 +26,14 @@ returns : tie.Need-returns
 unfolding pixelOf
 returns c =
     let at-spot-at = c .before .before in
-    rw (c .shown .ensures, c .before .colours-of .ensures, at-spot-at .spot-at .ensures .0)
+    let at-screen-of = at-spot-at .before in
+    rw (c .shown .ensures, c .before .colours-of .ensures, at-spot-at .spot-at .ensures .0, at-screen-of .screen-of .ensures)
 
 pub pixel-at-spec : {M : Type 1} → statement M
 pixel-at-spec =
     tie.close
     (tie.spec
+    screen-of-requires
     spot-at-requires
     colours-of-requires
     mul-shown

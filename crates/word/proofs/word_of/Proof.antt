@@ -1,6 +1,6 @@
 -- `word::word_of` meets its contract: the word of a step.
 use borrow.Author.Needs.{needs}
-use Rattle.word.specs.Word.{stepWord}
+use Rattle.word.specs.Word.{answerWord}
 use Rattle.word.proofs.word_of.Statement.{statement}
 use Rattle.word.proofs.word_of.Tie as tie
 
@@ -32,11 +32,11 @@ add-result-3 : tie.Need-add-result-3
 add-result-3 c = search needs
 
 returns : tie.Need-returns
-unfolding stepWord
+unfolding answerWord
 returns c =
     let at-interrupt-number = c .before .before in
     let at-number = at-interrupt-number .before in
-    λ d. simp (
+    simp (
       c .row-bits .ensures .0,
       c .before .report-number .ensures .0,
       at-interrupt-number .interrupt-number .ensures .0,

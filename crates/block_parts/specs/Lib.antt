@@ -1,0 +1,2 @@
+-- What the contracts of `block_parts` cite.
+pub mod Parts

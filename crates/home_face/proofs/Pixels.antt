@@ -1,0 +1,45 @@
+-- One pixel on the home machine's block: the colour that the block gives to a number, and when the call is refused.
+-- Assumes nothing.
+use mathlib.Core.Path.{_≡_, sym, ap, _∙_}
+use mathlib.Core.List.{List}
+use Prim.Native.Nat.{ℕ, _+_, _*_, _<_}
+use lib.ListN.{take, drop}
+use lib.Seq.{getD-take, getD-drop}
+use borrow.Author.Tests.{eq-eqb, ne-eqb}
+use Rattle.laws.specs.Lists.{at}
+use Rattle.laws.proofs.Tables.{getD-table}
+use Rattle.laws.proofs.Tests.{split}
+use Rattle.colour.specs.Home.{homeColour, homeColoursOf}
+use Rattle.refusal.specs.Refusals.{refusalNumber, first}
+use Rattle.pixel.specs.Pixel.{pixelLines}
+use Rattle.block_parts.specs.Parts.{colourAt}
+use Rattle.block_parts.proofs.Copies.{one-of}
+use Rattle.word.specs.Word.{refusalIn}
+use Rattle.word.proofs.Words.{pixel-byte}
+use Rattle.home.specs.Step.{coloursNow}
+use Rattle.home.specs.Pixel.{pixelOf}
+use Rattle.home.proofs.Pixels.{pixel-exact}
+use Rattle.home_block.specs.HomeBlock.{stateOf, wellFormed}
+use Rattle.home_face.specs.Pixel.{pixelCall}
+use Rattle.home_face.specs.Refused.{callLines}
+
+module _ (b : List ℕ) (n : ℕ) (h : n < 32) where
+  pub colour-dirty : at b 24 ≡ 1 → homeColour (at b (26 + n)) ≡ at (coloursNow (stateOf b)) n
+  unfolding stateOf homeColoursOf
+  colour-dirty e =
+      rw (eq-eqb (at b 24) 1 e)
+      (sym (getD-table 32 (λ i. homeColour (at (take 32 (drop 26 b)) i)) n h ∙ rw (getD-take 32 (drop 26 b) n 0 h, getD-drop 26 b n 0)))
+
+  pub colour-clean : (at b 24 ≡ 1 → ⊥) → colourAt b (58 + 4 * n) ≡ at (coloursNow (stateOf b)) n
+  unfolding stateOf
+  colour-clean e = rw (ne-eqb (at b 24) 1 e) (sym (one-of 58 b n h))
+
+-- R16.3: refused by the first line of its table that holds, and then the word is the refusal alone
+pub pixel-call-exact : (b m : List ℕ) (y x : ℕ) → refusalIn (pixelCall b m y x) ≡ refusalNumber (first (callLines b (pixelLines m)))
+unfolding pixelCall
+pixel-call-exact b m y x =
+    split (wellFormed b)
+    (λ e.
+    let p = pixelOf m (stateOf b) y x in
+    simp e (pixel-byte (p .refusal) (p .there) (p .colour) ∙ ap refusalNumber (pixel-exact m (stateOf b) y x)))
+    (λ e. simp e)

@@ -1,0 +1,110 @@
+-- `home_face::row_step` meets its contract: a step, whose row goes to the first bytes of the row buffer.
+use borrow.Author.Needs.{needs}
+use mathlib.Core.Path.{refl, sym, _∙_}
+use borrow.Author.Tests.{not-true, not-false}
+use native.Mathlib.Omega.{arith}
+use Rattle.inplace.specs.InPlace.{frontIn}
+use Rattle.home_block.specs.HomeBlock.{stateOf}
+use Rattle.home_block.proofs.Whole.{said}
+use Rattle.home.proofs.Steps.{reading-of}
+use Rattle.home_face.proofs.Laws.{row-bad, row-kept}
+use Rattle.home_face.proofs.row_step.Statement.{statement}
+use Rattle.home_face.proofs.row_step.Tie as tie
+
+well-formed-requires : tie.Need-well-formed-requires
+well-formed-requires c κs = search needs
+
+number-requires : tie.Need-number-requires
+number-requires c κs = search needs
+
+same-length : tie.Need-same-length
+same-length c = search needs
+
+returns : tie.Need-returns
+returns c =
+    let at-well-formed = c .before .before in
+    let at-start = at-well-formed .before .before .before .before .before in
+    row-bad (at-start .args .state .now) (at-start .args .vram .now) (at-start .args .row .now)
+    (sym (at-well-formed .well-formed .ensures) ∙ not-true _ (c .before .if1 .taken)) (c .number .ensures .0)
+
+colours-of-requires : tie.Need-colours-of-requires
+colours-of-requires c κs =
+    let at-well-formed = c .before .before in
+    let at-start = at-well-formed .before .before .before .before .before in
+    said (at-start .args .state .now) (sym (at-well-formed .well-formed .ensures) ∙ not-false _ (c .before .if1 .left)) .long
+
+registers-requires : tie.Need-registers-requires
+registers-requires c κs =
+    let at-if1 = c .before .before .before in
+    let at-well-formed = at-if1 .before in
+    let at-start = at-well-formed .before .before .before .before .before in
+    said (at-start .args .state .now) (sym (at-well-formed .well-formed .ensures) ∙ not-false _ (at-if1 .if1 .left)) .long
+
+raster-in-requires : tie.Need-raster-in-requires
+raster-in-requires c κs =
+    let at-if1 = c .before .before .before .before .before in
+    let at-well-formed = at-if1 .before in
+    let at-start = at-well-formed .before .before .before .before .before in
+    said (at-start .args .state .now) (sym (at-well-formed .well-formed .ensures) ∙ not-false _ (at-if1 .if1 .left)) .long
+
+slice-read-row-points : tie.Need-slice-read-row-points
+slice-read-row-points c =
+    let at-if1 = c .before .before .before .before .before .before .before in
+    let at-well-formed = at-if1 .before in
+    let at-start = at-well-formed .before .before .before .before .before in
+    omega (arith, said (at-start .args .state .now) (sym (at-well-formed .well-formed .ensures) ∙ not-false _ (at-if1 .if1 .left)) .long)
+
+row-points-requires : tie.Need-row-points-requires
+row-points-requires c κs = search needs
+
+store-requires : tie.Need-store-requires
+store-requires c κs =
+    let at-if1 = c .before .before .before .before .before .before .before .before .before .before .before .before .before .before in
+    let at-well-formed = at-if1 .before in
+    let at-start = at-well-formed .before .before .before .before .before in
+    said (at-start .args .state .now) (sym (at-well-formed .well-formed .ensures) ∙ not-false _ (at-if1 .if1 .left)) .long
+
+word-of-requires : tie.Need-word-of-requires
+word-of-requires c κs = search needs
+
+same-length-2 : tie.Need-same-length-2
+same-length-2 c = search needs
+
+same-length-3 : tie.Need-same-length-3
+same-length-3 c = search needs
+
+returns-2 : tie.Need-returns-2
+unfolding stateOf frontIn
+returns-2 c =
+    let at-store = c .before .before .before in
+    let at-row-points = at-store .before .before .before .before .before in
+    let at-raster-in = at-row-points .before .before .before .before in
+    let at-registers = at-raster-in .before .before in
+    let at-colours-of = at-registers .before .before in
+    let at-if1 = at-colours-of .before .before in
+    let at-well-formed = at-if1 .before in
+    let at-slice-known = at-well-formed .before .before .before .before in
+    let at-start = at-slice-known .before in
+    row-kept (at-start .args .state .now) (at-start .args .vram .now) (at-start .args .row .now) (λ i. omega (arith, at-slice-known .slice-known .given i))
+    (sym (at-well-formed .well-formed .ensures) ∙ not-false _ (at-if1 .if1 .left))
+    (reading-of (stateOf (at-start .args .state .now)) (at-registers .registers .ensures) (at-raster-in .raster-in .ensures) refl
+    (at-colours-of .colours-of .ensures)) (at-store .store .ensures) (c .word-of .ensures) (at-row-points .row-points .ensures)
+
+pub row-step-spec : {M : Type 1} → statement M
+row-step-spec =
+    tie.close
+    (tie.spec
+    well-formed-requires
+    number-requires
+    same-length
+    returns
+    colours-of-requires
+    registers-requires
+    raster-in-requires
+    slice-read-row-points
+    row-points-requires
+    store-requires
+    word-of-requires
+    same-length-2
+    same-length-3
+    returns-2)

@@ -1,0 +1,30 @@
+-- `home_face::store` meets its contract: what the points of a step leave of the device, into its block.
+use borrow.Author.Needs.{needs}
+use mathlib.Core.Path.{sym, _∙_}
+use Rattle.home.specs.Step.{coloursNow, cleaned}
+use Rattle.home_block.proofs.Stores.{raster-stored}
+use Rattle.home_face.proofs.Laws.{cleaned-sized, cleaned-table}
+use Rattle.home_face.proofs.store.Statement.{statement}
+use Rattle.home_face.proofs.store.Tie as tie
+
+store-colours-requires : tie.Need-store-colours-requires
+store-colours-requires c κs = search needs
+
+store-raster-requires : tie.Need-store-raster-requires
+store-raster-requires c κs = search needs
+
+same-length : tie.Need-same-length
+same-length c = search needs
+
+returns : tie.Need-returns
+returns c =
+    let at-store-raster = c .before .before in
+    let at-store-colours = at-store-raster .before .before .before .before in
+    let at-start = at-store-colours .before .before .before .before in
+    λ h g t ec e. at-store-raster .store-raster .ensures
+    ∙ raster-stored (cleaned (at-start .args .points .row) h (coloursNow h)) (cleaned-sized (at-start .args .points .row) h (coloursNow h) g) _
+    (at-start .args .points .status) (at-start .args .points .raster) (t ∙ sym (cleaned-table (at-start .args .points .row) h (coloursNow h)))
+    (rw ec at (at-store-colours .store-colours .ensures h g e))
+
+pub store-spec : {M : Type 1} → statement M
+store-spec = tie.close (tie.spec store-colours-requires store-raster-requires same-length returns)

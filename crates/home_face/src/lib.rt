@@ -1,0 +1,231 @@
+// The home machine's calls of the C face (R21.1): as the handheld's, on a home block. Crate `face` gives each its name for C.
+ghost use mathlib.Core.List.{[]};
+ghost use mathlib.Core.Path.{_≡_};
+ghost use mathlib.Core.Bool.{cond};
+ghost use Prim.Native.Nat.{_<_};
+ghost use lib.ListN.{length};
+ghost use Rattle.laws.specs.Lists.{at};
+ghost use Rattle.word.specs.Called.{Leaves};
+ghost use Rattle.home.specs.declared.HomeState.{HomeState};
+ghost use Rattle.home.specs.Step.{coloursNow, cleaned, joined};
+ghost use Rattle.home_block.specs.HomeBlock.{blockSize, blockOf, stateOf, Sized};
+ghost use Rattle.home_face.specs.HomeFace.{newTableCall, newCall, outCall, inputCall, stepCall, rowStepCall, dumpCall};
+ghost use Rattle.home_face.specs.Pixel.{pixelCall};
+ghost use Rattle.home_face.specs.Layers.{LayerRowLeaves, LayerFrameLeaves};
+use picture::Screen;
+use points::DrawnRow;
+use points::Points;
+use refusal::Refusal;
+
+// A fresh device of this table into the block.
+pub fn new_table(state: &mut [u8], table: u8) -> u32
+    ensures { λ r. ⌜ Leaves (newTableCall (now (state .entry)) table) r (now (state .exit)) [] ⌝ }
+{
+    if 1 < table {
+        return word::number(Refusal::BlockMalformed);
+    }
+    if state.len() != home_block::BLOCK_SIZE {
+        return word::number(Refusal::BlockMalformed);
+    }
+    home_block::fresh(state, raster::table_from(table));
+    word::number(Refusal::Accepted)
+}
+
+// The same with no table named: the chart's.
+pub fn new(state: &mut [u8]) -> u32
+    ensures { λ r. ⌜ Leaves (newCall (now (state .entry))) r (now (state .exit)) [] ⌝ }
+{
+    new_table(state, 1)
+}
+
+// A port write.
+pub fn out(state: &mut [u8], vram: &mut [u8], port: u16, value: u8) -> u32
+    ensures { λ r. ⌜ Leaves (outCall (now (state .entry)) (now (vram .entry)) port value) r (now (state .exit)) (now (vram .exit)) ⌝ }
+{
+    if !home_block::well_formed(state) {
+        return word::number(Refusal::BlockMalformed);
+    }
+    word::number(home_block::out(state, vram, port, value))
+}
+
+// A port read; its byte is in bits 8 to 15 of the answer.
+pub fn input(state: &mut [u8], vram: &[u8], port: u16) -> u32
+    ensures { λ r. ⌜ Leaves (inputCall (now (state .entry)) (now (vram .entry)) port) r (now (state .exit)) [] ⌝ }
+{
+    if !home_block::well_formed(state) {
+        return word::number(Refusal::BlockMalformed);
+    }
+    let got = home_block::input(state, vram, port);
+    let refusal = got.refusal;
+    word::number(refusal) + 256 * (got.byte as u32)
+}
+
+// The colours that a step of the block's device draws with.
+fn colours_of(state: &[u8]) -> [u32; 32]
+    requires { ⌜ length (now state) ≡ blockSize ⌝ }
+    ensures { λ r. ⌜ r ≡ coloursNow (stateOf (now (state .entry))) ⌝ }
+{
+    if state[home_block::DIRTY] == 1 {
+        return colour::home_palette_recompute(home_block::palette_in(state));
+    }
+    home_block::cache_in(state)
+}
+
+// The colours into the block, if a row was drawn with them.
+fn store_colours(state: &mut [u8], row: DrawnRow, colours: &[u32; 32])
+    requires { ⌜ length (now state) ≡ blockSize ⌝ }
+    ensures { λ _. ⌜ ((h : HomeState) → Sized h → now (state .entry) ≡ blockOf h → now (state .exit) ≡ blockOf (cleaned row h (now (colours .entry)))) ⌝ }
+{
+    match row {
+        DrawnRow::NoRow => {}
+        DrawnRow::Drawn(_) => home_block::store_cache(state, colours),
+    }
+}
+
+// What the points of a step leave of the device, into its block.
+fn store(state: &mut [u8], points: Points, colours: &[u32; 32])
+    requires { ⌜ length (now state) ≡ blockSize ⌝ }
+    ensures { λ _. ⌜ ((h : HomeState) → Sized h → points .raster .table ≡ h .raster .table → now (colours .entry) ≡ coloursNow h → now (state .entry) ≡ blockOf h → now (state .exit) ≡ blockOf (joined h points .home)) ⌝ }
+{
+    let row = points.row;
+    let raster = points.raster;
+    store_colours(state, row, colours);
+    home_block::store_raster(state, points.status, raster);
+}
+
+// A step, whose row goes to its place in the frame.
+pub fn step(state: &mut [u8], vram: &[u8], frame: &mut [u8]) -> u32
+    ensures { λ r. ⌜ Leaves (stepCall (now (state .entry)) (now (vram .entry)) (now (frame .entry))) r (now (state .exit)) (now (frame .exit)) ⌝ }
+{
+    if !home_block::well_formed(state) {
+        return word::number(Refusal::BlockMalformed);
+    }
+    let colours = colours_of(state);
+    let points = points::frame_points(
+        home_block::registers(state),
+        home_block::raster_in(state),
+        state[2],
+        &colours,
+        vram,
+        frame,
+        Screen::Home,
+    );
+    store(state, points, &colours);
+    word::word_of(points)
+}
+
+// A step, whose row goes to the first bytes of the row buffer.
+pub fn row_step(state: &mut [u8], vram: &[u8], row: &mut [u8]) -> u32
+    ensures { λ r. ⌜ Leaves (rowStepCall (now (state .entry)) (now (vram .entry)) (now (row .entry))) r (now (state .exit)) (now (row .exit)) ⌝ }
+{
+    if !home_block::well_formed(state) {
+        return word::number(Refusal::BlockMalformed);
+    }
+    let colours = colours_of(state);
+    let points = points::row_points(
+        home_block::registers(state),
+        home_block::raster_in(state),
+        state[2],
+        &colours,
+        vram,
+        row,
+        Screen::Home,
+    );
+    store(state, points, &colours);
+    word::word_of(points)
+}
+
+// The step on a frame, with the layers of the row's columns, which go to the first bytes of the layer buffer.
+pub fn layer_step(state: &mut [u8], vram: &[u8], frame: &mut [u8], layers: &mut [u8]) -> u32
+    ensures { λ r. ⌜ LayerFrameLeaves (now (state .entry)) (now (vram .entry)) (now (frame .entry)) (now (layers .entry)) r (now (state .exit)) (now (frame .exit)) (now (layers .exit)) ⌝ }
+{
+    if !home_block::well_formed(state) {
+        return word::number(Refusal::BlockMalformed);
+    }
+    let colours = colours_of(state);
+    let points = points::layer_frame_points(
+        home_block::registers(state),
+        home_block::raster_in(state),
+        state[2],
+        &colours,
+        vram,
+        frame,
+        layers,
+        Screen::Home,
+    );
+    store(state, points, &colours);
+    word::word_of(points)
+}
+
+// The same of the step on a row buffer.
+pub fn layer_row_step(state: &mut [u8], vram: &[u8], row: &mut [u8], layers: &mut [u8]) -> u32
+    ensures { λ r. ⌜ LayerRowLeaves (now (state .entry)) (now (vram .entry)) (now (row .entry)) (now (layers .entry)) r (now (state .exit)) (now (row .exit)) (now (layers .exit)) ⌝ }
+{
+    if !home_block::well_formed(state) {
+        return word::number(Refusal::BlockMalformed);
+    }
+    let colours = colours_of(state);
+    let points = points::layer_row_points(
+        home_block::registers(state),
+        home_block::raster_in(state),
+        state[2],
+        &colours,
+        vram,
+        row,
+        layers,
+        Screen::Home,
+    );
+    store(state, points, &colours);
+    word::word_of(points)
+}
+
+// All tiles into the pixels; the block is only read.
+pub fn dump_tileset(state: &[u8], vram: &[u8], pixels: &mut [u8]) -> u32
+    ensures { λ r. ⌜ Leaves (dumpCall (now (state .entry)) (now (vram .entry)) (now (pixels .entry))) r (now (state .entry)) (now (pixels .exit)) ⌝ }
+{
+    if !home_block::well_formed(state) {
+        return word::number(Refusal::BlockMalformed);
+    }
+    let colours = home_block::cache_in(state);
+    word::number(dump::dump_tileset(home_block::registers(state), &colours, vram, pixels))
+}
+
+// The colour with number n that a row of the block's device is drawn with: that one is made of the palette, where the colours are dirty.
+fn colour_of(state: &[u8], n: usize) -> u32
+    requires { ⌜ (length (now state) ≡ blockSize) × (n < 32) ⌝ }
+    ensures { λ r. ⌜ r ≡ at (coloursNow (stateOf (now (state .entry)))) n ⌝ }
+{
+    if state[home_block::DIRTY] == 1 {
+        return colour::home_rgb(state[home_block::PALETTE + n]);
+    }
+    block_parts::colour_at(state, home_block::CACHE + 4 * n)
+}
+
+// The colour of a pixel, 0 where there is none.
+fn shown(state: &[u8], there: bool, n: usize) -> u32
+    requires { ⌜ (length (now state) ≡ blockSize) × (n < 32) ⌝ }
+    ensures { λ r. ⌜ r ≡ cond there (at (coloursNow (stateOf (now (state .entry)))) n) 0 ⌝ }
+{
+    if there { colour_of(state, n) } else { 0 }
+}
+
+// One pixel of the row as it would be drawn now, the fill among it; the block is only read.
+pub fn pixel(state: &[u8], vram: &[u8], row: u32, column: u32) -> u64
+    ensures { λ r. ⌜ r ≡ pixelCall (now (state .entry)) (now (vram .entry)) row column ⌝ }
+{
+    if !home_block::well_formed(state) {
+        return word::pixel_word(Refusal::BlockMalformed, false, 0);
+    }
+    let raster = home_block::raster_in(state);
+    let spot = pixel::spot_at(
+        vram,
+        Screen::Home,
+        home_block::registers(state),
+        raster.vertical_scroll,
+        row,
+        column,
+    );
+    let refusal = spot.refusal;
+    let there = spot.there;
+    word::pixel_word(refusal, there, shown(state, there, spot.colour))
+}
