@@ -14,7 +14,7 @@ NATIVE := build/native/libvdp.a build/native/libvdp.so
 # What compiles a module for a machine.
 COMPILE := tools/native-module.sh tools/target.sh tools/toolchain.sh
 
-.PHONY: all build desk native install cartridge peers test compare memcheck damaged bench bus fuzz gears setup setup-rust setup-bus setup-c setup-cartridge prove clean help FORCE
+.PHONY: all build desk native install cartridge peers test compare homecalls memcheck damaged bench bus fuzz gears setup setup-rust setup-bus setup-c setup-cartridge prove clean help FORCE
 
 all: build ## build the programs in build/bin and the libraries for this machine and for x86-64, and show what to try
 	@sh tools/built.sh
@@ -78,7 +78,7 @@ install: ## put the library with its header, the programs, the desk and their pa
 	@if command -v rt > /dev/null || [ ! -e build/native/libvdp.so ]; then $(MAKE) --no-print-directory build; fi
 	@sh tools/install.sh "$(DESTDIR)$(PREFIX)"
 
-cartridge: setup-cartridge build/native/libvdp.a ## build/cartridge: a player of cartridges, of the library and a Z80 core, and four cartridges (examples/cartridge, docs/CARTRIDGE.md)
+cartridge: setup-cartridge build/native/libvdp.a ## build/cartridge: a player of cartridges of either machine, of the library and a Z80 core, and five cartridges (examples/cartridge, docs/CARTRIDGE.md)
 	@sh examples/cartridge/build.sh build/native/libvdp.a
 
 peers: build cartridge ## play our cartridges here, in MAME and in mednafen, where these are installed, and print what each shows (docs/HANDBOOK.md)
@@ -91,6 +91,11 @@ compare: gears setup-rust build ## hold every call beside the published Rust: CA
 	@sh oracle/build.sh compare
 	@sh tools/cross.sh run build/oracle/compare rows $(SEED)
 	@sh tools/cross.sh run build/oracle/compare $(CALLS) $(SEED)
+
+homecalls: setup-rust native ## hold every call of the home machine beside its rules written a second time: CALLS=1000000 SEED=1
+	@HERE_LIB=build/native/libvdp.a sh oracle/build.sh docks-here
+	@build/oracle/here/docks $(CALLS) $(SEED)
+	@build/oracle/here/docks pixels 300 $(SEED)
 
 memcheck: gears setup-rust native ## hold 10,000 calls beside the Rust under valgrind, with each buffer in memory of its own
 	@sh oracle/memcheck.sh 10000 $(SEED)

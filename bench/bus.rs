@@ -24,7 +24,7 @@ mod workload;
 use rules::call::{Call, Kind, EXTRA};
 use rules::model::{Area, BLOCK_SIZE, VIDEO_SIZE};
 use rules::random::Random;
-use rules::{sessions, turns};
+use rules::{dock, homestates, sessions, turns};
 use std::ptr::{read_volatile, write_volatile};
 use workload::{List, STEPS};
 
@@ -136,6 +136,38 @@ fn workload_named(name: &str, seed: u64) -> Option<Vec<Part>> {
                 Part { block, video, calls: vec![call], tiles: vec![] }
             })
             .collect(),
+        // a pass of the home machine, scrolled so that column 192 cuts a tile, with the vertical lock and the fill
+        "home" => {
+            let (mut home, video) = homestates::by_hand(&mut random);
+            home.registers[0] |= 0xA0;
+            home.registers[8] = 5;
+            home.vertical_scroll = 9;
+            let step = Call { pixels_len: dock::FRAME_SIZE, ..Call::plain(Kind::Step, 0, 0) };
+            vec![Part { block: dock::encode(&home), video, calls: vec![step; 262], tiles: vec![] }]
+        }
+        "home-dump" => {
+            let (home, video) = homestates::by_hand(&mut random);
+            vec![Part { block: dock::encode(&home), video, calls: vec![Call::dump()], tiles: vec![] }]
+        }
+        // states of the home machine made by hand, with a call of any kind but the dump on each
+        "home-any" => (0..150)
+            .map(|_| {
+                let (home, video) = homestates::by_hand(&mut random);
+                let mut call = sessions::any_call(&mut random);
+                while call.kind == Kind::Dump {
+                    call = sessions::any_call(&mut random);
+                }
+                call.pixels_len = match call.kind {
+                    Kind::Step => dock::FRAME_SIZE,
+                    _ => dock::ROW_SIZE,
+                };
+                call.layers_len = call.layers_len.map(|_| 256);
+                if random.chance(1, 20) {
+                    call.video_len -= 1;
+                }
+                Part { block: dock::encode(&home), video, calls: vec![call], tiles: vec![] }
+            })
+            .collect(),
         _ => return None,
     })
 }
@@ -185,10 +217,13 @@ trait Side {
 struct Ours {
     block: Vec<u8>,
     video: Vec<u8>,
+    /// The block is one of the home machine.
+    home: bool,
 }
 
 impl Side for Ours {
     fn load(&mut self, block: &[u8], video: &[u8]) {
+        self.home = block.len() == dock::BLOCK_SIZE;
         self.block[..block.len()].copy_from_slice(block);
         self.video[..VIDEO_SIZE].copy_from_slice(video);
     }
@@ -198,6 +233,20 @@ impl Side for Ours {
     fn call(&mut self, call: &Call, pixels: &mut [u8], layers: &mut [u8]) {
         let size = call.state_len.expect("a length that was written");
         let (block, video) = (&mut self.block[..size], &mut self.video[..call.video_len]);
+        if self.home {
+            match call.kind {
+                Kind::New => face::home::new(block),
+                Kind::NewTable => face::home::new_table(block, call.value),
+                Kind::Out => face::home::out(block, video, call.port, call.value),
+                Kind::Input => face::home::input(block, video, call.port),
+                Kind::Step if call.layers_len.is_some() => face::home::layer_step(block, video, pixels, layers),
+                Kind::RowStep if call.layers_len.is_some() => face::home::layer_row_step(block, video, pixels, layers),
+                Kind::Step => face::home::step(block, video, pixels),
+                Kind::RowStep => face::home::row_step(block, video, pixels),
+                Kind::Dump => face::home::dump_tileset(block, video, pixels),
+            };
+            return;
+        }
         match call.kind {
             Kind::New => face::vdp_new(block),
             Kind::NewTable => face::vdp_new_table(block, call.value),
@@ -345,7 +394,8 @@ fn main() {
                     let mut video = part.video.clone();
                     block.resize(part.lent(call), 0);
                     video.resize(call.video_len, 0);
-                    println!("{}", turns::of_call(call, &mut block, &mut video));
+                    let of = if part.block.len() == dock::BLOCK_SIZE { turns::of_home_call } else { turns::of_call };
+                    println!("{}", of(call, &mut block, &mut video));
                     let kept = block.len().min(part.block.len());
                     part.block[..kept].copy_from_slice(&block[..kept]);
                     part.video[..call.video_len.min(VIDEO_SIZE)].copy_from_slice(&video[..call.video_len.min(VIDEO_SIZE)]);
@@ -358,7 +408,7 @@ fn main() {
         ["run", side, file] => {
             let longer = |size: usize| vec![0; size + 128];
             let mut side: Box<dyn Side> = match side {
-                "ours" => Box::new(Ours { block: longer(BLOCK_SIZE), video: longer(VIDEO_SIZE) }),
+                "ours" => Box::new(Ours { block: longer(BLOCK_SIZE), video: longer(VIDEO_SIZE), home: false }),
                 "each" => Box::new(Each { video: vec![0; VIDEO_SIZE / 4], sum: 0 }),
                 "rust" => rust().unwrap_or_else(|| usage()),
                 _ => usage(),

@@ -7,9 +7,11 @@
 #   pixels    build/oracle/pixels, for x86-64, with build/libvdp.a; where HERE_LIB is set, build/oracle/here/pixels, for this machine, with that
 #   repair    build/oracle/repair, the same
 #   records   build/oracle/records, for x86-64, with build/libvdp.a
+#   docks     build/oracle/docks, the same
 #   here      build/oracle/here/compare, for this machine, with HERE_LIB (an object or archive of the library for it, as build/native/libvdp.a);
 #             where HERE_LIB is not set, with a stand-in made of the model
-#   repair-here, records-here  build/oracle/here/repair and records, the same, with no published Rust
+#   repair-here, records-here, docks-here  build/oracle/here/repair, records and docks, the same, with no published Rust
+#   standin   build/oracle/here/libvdp.so, that stand-in: every call of include/vdp.h by the rules written a second time
 # GEARS names the folder that holds the published vdp.rs and io.rs (tools/gears.sh).
 set -eu
 cd "$(dirname "$0")/.."
@@ -36,7 +38,7 @@ made() {
     made=$1 library=$2
     shift 2
     if [ -e "$made" ] && [ "$(cat "$made.by" 2>/dev/null)" = "$*" ] &&
-        [ -z "$(find oracle/*.rs ${library:+"$library"} ${published:+"$GEARS/vdp.rs" "$GEARS/io.rs"} -newer "$made")" ]; then return; fi
+        [ -z "$(find oracle/*.rs include/vdp.h ${library:+"$library"} ${published:+"$GEARS/vdp.rs" "$GEARS/io.rs"} -newer "$made")" ]; then return; fi
     rm -f "$made.by"
     "$@" -o "$made"
     printf '%s\n' "$*" >"$made.by"
@@ -44,10 +46,14 @@ made() {
 # The rules written a second time, as a library.
 rules_x86() { made $out/x86/librules.rlib "" $RUSTC $flags --crate-type rlib --crate-name rules oracle/rules.rs; }
 rules_here() { made $out/here/librules.rlib "" $RUSTC_HERE $flags --crate-type rlib --crate-name rules oracle/rules.rs; }
+standin() {
+    rules_here
+    made $out/here/libvdp.so "" $RUSTC_HERE $flags --crate-type cdylib --crate-name vdp --extern rules=$out/here/librules.rlib oracle/standin.rs
+}
 
 for what in "$@"; do
     case $what in
-    compare | tiles | repair | records | pixels)
+    compare | tiles | repair | records | docks | pixels)
         [ $what != compare ] || need_gears
         if [ $what = pixels ] && [ -n "${HERE_LIB:-}" ]; then
             rules_here
@@ -61,7 +67,8 @@ for what in "$@"; do
         rules_here
         made $out/$what "" $RUSTC_HERE $flags --extern rules=$out/here/librules.rlib oracle/$what.rs
         ;;
-    here | repair-here | records-here)
+    standin) standin ;;
+    here | repair-here | records-here | docks-here)
         program=${what%-here}
         if [ $what = here ]; then
             need_gears
@@ -72,7 +79,7 @@ for what in "$@"; do
         if [ -n "${HERE_LIB:-}" ]; then
             set -- -C "link-arg=$HERE_LIB"
         else
-            made $out/here/libvdp.so "" $RUSTC_HERE $flags --crate-type cdylib --crate-name vdp --extern rules=$out/here/librules.rlib oracle/standin.rs
+            standin
             set -- -L native=$out/here -l dylib=vdp -C 'link-arg=-Wl,-rpath,$ORIGIN'
         fi
         made $out/here/$program "${HERE_LIB:-$out/here/libvdp.so}" $RUSTC_HERE $flags --extern rules=$out/here/librules.rlib "$@" oracle/$program.rs

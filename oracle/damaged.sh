@@ -7,12 +7,16 @@ here=build/oracle/here
 mkdir -p $here
 [ -e build/native/libvdp.a ] || { echo "damaged: no build/native/libvdp.a: make native makes it" >&2; exit 2; }
 
-# compared NAME OBJECT: the exit status of the comparison with this object, and how it went.
+# compared NAME OBJECT: the exit status of the comparison with this object, and how it went: beside the Rust and the rules, or of the home machine's calls.
+beside=here
 compared() {
-    HERE_LIB=$2 sh oracle/build.sh here
+    HERE_LIB=$2 sh oracle/build.sh $beside
     began=$(date +%s)
     status=0
-    $here/compare "${CALLS:-200000}" "${SEED:-1}" >$here/damaged.out 2>/dev/null || status=$?
+    case $beside in
+    here) $here/compare "${CALLS:-200000}" "${SEED:-1}" >$here/damaged.out 2>/dev/null || status=$? ;;
+    docks-here) $here/docks "${CALLS:-50000}" "${SEED:-1}" >$here/damaged.out 2>/dev/null || status=$? ;;
+    esac
     echo "$1: exit status $status after $(($(date +%s) - began)) s; $(grep -m 1 '^difference' $here/damaged.out || tail -n 1 $here/damaged.out)"
 }
 
@@ -44,6 +48,19 @@ damage "the screen's end is reported at C2 and not at C1" points::report_of 's/(
 damage "a sprite's layer is 65 + n and not 64 + n" column::owner_of 's/(add nuw i64) 64,/\1 65,/'
 damage "a pixel that is held back takes its column from a sprite that was drawn there" column::owner_of 's/icmp eq i8 (%[ar][0-9]+), 0$/icmp ne i8 \1, 1/'
 damage "159 bytes are enough for the layers of a row of 160" points::column_count 's/store i64 160,/store i64 159,/' 2
+
+# The home machine's calls, beside their second writing.
+beside=docks-here
+compared "the library as it is, at home" build/native/libvdp.a
+[ $status -eq 0 ] || failed=1
+damage "the sideways lock holds row 16 too" background::home_column 's/(icmp ult i64 %a1), 16$/\1, 17/'
+damage "one pixel on its own: the fill is nine columns wide" pixel::home_number 's/(icmp ult i64 %a4), 8$/\1, 9/'
+damage "a ninth column has layer 2" row::cover 's/(icmp ult i64 %r[0-9]+), 8$/\1, 9/'
+damage "a filled column has layer 3 and not 2" row::cover 's/store i8 2,/store i8 3,/'
+damage "the fill's colour is register 7 mod 8" row::fill_over 's/(urem i64 %r[0-9]+), 16$/\1, 8/'
+damage "a home row sets no status" row::render_line_home 's/store i8 %r[0-9]+, ptr %r0,/store i8 0, ptr %r0,/'
+damage "palette addresses go on to 63" home_block::write_palette 's/(urem i16 %r[0-9]+), 32$/\1, 64/'
+damage "dirty and table bytes of 2 are taken" home_block::well_formed 's/(icmp ule i8 %r[0-9]+), 1$/\1, 2/' 2
 
 [ $failed -eq 0 ] && echo "damaged: every damaged copy was caught" || echo "damaged: FAILED"
 exit $failed

@@ -1,7 +1,7 @@
 //! The docked home machine (docs/RULES.md, section 20) a second time, straight from its sentences, pixel by pixel; and what `home-trace` and
-//! `home-snapshot` write for an input (R20.9). The published Rust has no such mode: the two programs are held beside this alone.
+//! `home-snapshot` write for an input (R20.9). The published Rust has no such mode: the two programs are held beside this alone. Its calls for C are in dock.rs.
 
-use crate::model::{tile_code, Chosen, Stepped, Table, DEFAULT_TABLE, NO_DISPLAY, SCREEN_DONE, SCREEN_DONE_NO_REFRESH, VIDEO_SIZE};
+use crate::model::{dump_tiles, tile_code, Chosen, Stepped, Table, DEFAULT_TABLE, NO_DISPLAY, SCREEN_DONE, SCREEN_DONE_NO_REFRESH, VIDEO_SIZE};
 use crate::recording::LIMIT;
 
 pub const WIDTH: usize = 256;
@@ -57,10 +57,21 @@ pub struct Met {
     /// A palette write since the read buffer was filled; and a read that gave that byte afterwards.
     palette_written: bool,
     buffer_kept: bool,
+    /// What the last row has met.
+    pub row: Row,
     pub writes: u64,
     pub reads: u64,
     pub steps: u64,
     pub rows: u64,
+}
+
+/// Of a row: what its sprites met.
+#[derive(Clone, Default, Debug)]
+pub struct Row {
+    pub drawn_under_the_fill: bool,
+    pub held_under_the_fill: bool,
+    pub struck: bool,
+    pub struck_under_the_fill: bool,
 }
 
 impl Met {
@@ -89,11 +100,22 @@ impl Met {
             odd_address_first: false,
             palette_written: false,
             buffer_kept: false,
+            row: Row::default(),
             writes: 0,
             reads: 0,
             steps: 0,
             rows: 0,
         }
+    }
+
+    /// Another device, with another read buffer.
+    pub fn begin(&mut self) {
+        self.palette_written = false;
+    }
+
+    /// A port call has answered this refusal, 0 if it was accepted.
+    pub fn answered(&mut self, refusal: u32) {
+        self.refused[refusal as usize] = true;
     }
 
     /// What was never met.
@@ -211,6 +233,9 @@ impl Home {
         let at = self.address as usize;
         match self.chosen {
             Chosen::Nothing => return 4,
+            // (a record made by hand)
+            Chosen::Video if at >= VIDEO_SIZE => return 7,
+            Chosen::Palette if at >= 32 => return 7,
             Chosen::Video => {
                 video[at] = value;
                 self.read_buffer = value;
@@ -245,6 +270,7 @@ impl Home {
                 match self.chosen {
                     Chosen::Nothing => (4, 0),
                     Chosen::Palette => (5, 0),
+                    Chosen::Video if at >= VIDEO_SIZE => (7, 0),
                     Chosen::Video => {
                         met.buffer_kept |= met.palette_written && self.read_buffer != 0;
                         met.palette_written = false;
@@ -257,8 +283,9 @@ impl Home {
         }
     }
 
-    /// A step (R4.1 to R4.5, R20.1): row y is drawn when the counter is y, 0 to 191, into a row of its own size.
-    pub fn step(&mut self, video: &[u8], row: &mut [u8], met: &mut Met) -> Stepped {
+    /// A step (R4.1 to R4.5, R20.1): row y is drawn when the counter is y, 0 to 191, into a row of its own size, and its layers into as many bytes as it has
+    /// columns.
+    pub fn step(&mut self, video: &[u8], row: &mut [u8], layers: &mut [u8], met: &mut Met) -> Stepped {
         self.counter = self.counter.wrapping_add(1);
         if self.counter == 0 {
             self.vertical_scroll = self.registers[9];
@@ -281,11 +308,12 @@ impl Home {
                 self.dirty = false;
             }
             met.rows += 1;
-            let shown = self.picture(video, y, met);
+            let (shown, owners) = self.picture(video, y, met);
             for (pixel, number) in row.chunks_mut(4).zip(&shown) {
                 met.coloured[*number as usize / 16][self.palette[*number as usize] as usize] = true;
                 pixel.copy_from_slice(&self.cache[*number as usize]);
             }
+            layers.copy_from_slice(&owners);
         }
         let mut report = NO_DISPLAY;
         if self.counter == 0xC1 {
@@ -298,13 +326,26 @@ impl Home {
         Stepped { interrupt: frame_interrupt || line_interrupt, report, row: drawn }
     }
 
-    /// The colour numbers of row y (R20.4 to R20.7); sets the status bits.
-    fn picture(&mut self, video: &[u8], y: usize, met: &mut Met) -> [u8; WIDTH] {
+    /// One pixel of row y as it would be drawn now (R16.1, R16.4): its four bytes, and its layer. Nothing is set, so that a copy draws the row.
+    pub fn pixel(&self, video: &[u8], y: usize, x: usize) -> ([u8; 4], u8) {
+        let (shown, owners) = self.clone().picture(video, y, &mut Met::nothing());
+        let cache = if self.dirty { colours(&self.palette) } else { self.cache };
+        (cache[shown[x] as usize], owners[x])
+    }
+
+    /// The tile dump (R5.13 to R5.15), with the cached colours as they stand.
+    pub fn dump(&self, video: &[u8], sheet: &mut [u8]) {
+        dump_tiles(&self.registers, &self.cache, video, sheet);
+    }
+
+    /// The colour numbers of row y (R20.4 to R20.7) and the layers of its columns (R15.1, R15.2; 2 where the fill is); sets the status bits.
+    fn picture(&mut self, video: &[u8], y: usize, met: &mut Met) -> ([u8; WIDTH], [u8; WIDTH]) {
         let registers = self.registers;
         let names = (registers[2] & 0x0E) as usize * 1024;
         let stopped_across = bit(registers[0], 6) && y < 16;
         let stopped_down = bit(registers[0], 7);
         let mut shown = [0; WIDTH];
+        let mut owners = [0; WIDTH];
         let mut front = [false; WIDTH];
         for x in 0..WIDTH {
             let sideways = if stopped_across { 0 } else { registers[8] as usize };
@@ -323,19 +364,24 @@ impl Home {
         }
         met.sideways[stopped_across as usize][registers[8] as usize] = true;
         met.down[stopped_down as usize][self.vertical_scroll as usize] = true;
+        met.row = Row::default();
         met.row_15_stopped |= y == 15 && stopped_across && registers[8] != 0;
         met.row_16_moved |= y == 16 && bit(registers[0], 6) && registers[8] != 0;
-        self.sprites(video, y, &mut shown, &front, met);
+        self.sprites(video, y, &mut shown, &mut owners, &front, met);
         if bit(registers[0], 5) {
             for number in &mut shown[..8] {
                 *number = 16 + registers[7] % 16;
             }
+            for owner in &mut owners[..8] {
+                *owner = 2;
+            }
         }
-        shown
+        (shown, owners)
     }
 
-    /// The sprites of row y (R5.6 to R5.8, R5.11, R20.7), laid on the colour numbers of the background under the marks of its priority.
-    fn sprites(&mut self, video: &[u8], y: usize, shown: &mut [u8; WIDTH], front: &[bool; WIDTH], met: &mut Met) {
+    /// The sprites of row y (R5.6 to R5.8, R5.11, R20.7), laid on the colour numbers of the background under the marks of its priority; and the columns that
+    /// they own, or where they are held back.
+    fn sprites(&mut self, video: &[u8], y: usize, shown: &mut [u8; WIDTH], owners: &mut [u8; WIDTH], front: &[bool; WIDTH], met: &mut Met) {
         let table = (self.registers[5] & 0x7E) as usize * 128;
         let tall = bit(self.registers[1], 1);
         let height = if tall { 16 } else { 8 };
@@ -378,13 +424,20 @@ impl Home {
                     off = true;
                 } else if front[column as usize] {
                     met.held_under_the_fill |= filled(column);
+                    met.row.held_under_the_fill |= filled(column);
+                    // (its priority holds back every sprite in this column: none was drawn here)
+                    owners[column as usize] = 1;
                 } else if taken[column as usize] {
+                    met.row.struck = true;
+                    met.row.struck_under_the_fill |= filled(column);
                     met.struck_under_the_fill |= filled(column);
                     self.status |= 0x20;
                 } else {
                     drawn = true;
                     met.drawn_under_the_fill |= filled(column);
+                    met.row.drawn_under_the_fill |= filled(column);
                     shown[column as usize] = 16 + code;
+                    owners[column as usize] = 64 + n as u8;
                     taken[column as usize] = true;
                 }
             }
@@ -408,7 +461,7 @@ struct Run {
 impl Run {
     /// Runs the whole input on a fresh device; answers also the offset of the first bad record, if there is one. The area byte of a step is 0 (R20.9).
     fn new(input: &[u8], met: &mut Met) -> (Run, Option<usize>) {
-        met.palette_written = false;
+        met.begin();
         let device = Home::made(DEFAULT_TABLE);
         let mut run = Run { device, video: vec![0; VIDEO_SIZE], frame: vec![0; 4 * WIDTH * HEIGHT], text: String::new(), records: 0 };
         let mut at = 0;
@@ -417,20 +470,20 @@ impl Run {
                 [b'P', b'W', port, value, ..] => {
                     let refusal = run.device.write_port(&mut run.video, port, value, met);
                     run.text.push_str(&format!("w {}\n", refusal));
-                    met.refused[refusal as usize] = true;
+                    met.answered(refusal);
                     met.writes += 1;
                     4
                 }
                 [b'P', b'R', port, ..] => {
                     let (refusal, byte) = run.device.read_port(&run.video, port, met);
                     run.text.push_str(&format!("r {} {:02X}\n", refusal, byte));
-                    met.refused[refusal as usize] = true;
+                    met.answered(refusal);
                     met.reads += 1;
                     3
                 }
                 [b'L', b'S', 0, ..] => {
                     let mut row = [0; 4 * WIDTH];
-                    let stepped = run.device.step(&run.video, &mut row, met);
+                    let stepped = run.device.step(&run.video, &mut row, &mut [0; WIDTH], met);
                     if let Some(y) = stepped.row {
                         run.frame[4 * WIDTH * y..4 * WIDTH * (y + 1)].copy_from_slice(&row);
                     }

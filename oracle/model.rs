@@ -599,26 +599,7 @@ impl Device {
         if sheet.len() != SHEET_SIZE {
             return 9;
         }
-        for c in 0..512 {
-            let as_sprite = c >= 256;
-            let (column, row) = if as_sprite && bit(self.registers[1], 1) {
-                ((c % 32) / 2, 2 * (c / 32) + c % 2)
-            } else {
-                (c % 16, c / 16)
-            };
-            let patterns = if as_sprite && bit(self.registers[6], 2) { 8192 } else { 0 };
-            for down in 0..8 {
-                for across in 0..8 {
-                    let code = tile_code(video, patterns + 32 * (c % 256), down, across);
-                    if as_sprite && code == 0 {
-                        continue;
-                    }
-                    let colour = if as_sprite { 16 + code } else { code };
-                    let at = 4 * (128 * (8 * row + down) + 8 * column + across);
-                    sheet[at..at + 4].copy_from_slice(&self.cache[colour as usize]);
-                }
-            }
-        }
+        dump_tiles(&self.registers, &self.cache, video, sheet);
         0
     }
 
@@ -747,6 +728,30 @@ pub fn tile_code(video: &[u8], tile: usize, down: usize, across: usize) -> u8 {
     code
 }
 
+/// The tiles in a sheet of its own size, with these colours (R5.13, R5.14).
+pub fn dump_tiles(registers: &[u8; 11], cache: &[[u8; 4]; 32], video: &[u8], sheet: &mut [u8]) {
+    for c in 0..512 {
+        let as_sprite = c >= 256;
+        let (column, row) = if as_sprite && bit(registers[1], 1) {
+            ((c % 32) / 2, 2 * (c / 32) + c % 2)
+        } else {
+            (c % 16, c / 16)
+        };
+        let patterns = if as_sprite && bit(registers[6], 2) { 8192 } else { 0 };
+        for down in 0..8 {
+            for across in 0..8 {
+                let code = tile_code(video, patterns + 32 * (c % 256), down, across);
+                if as_sprite && code == 0 {
+                    continue;
+                }
+                let colour = if as_sprite { 16 + code } else { code };
+                let at = 4 * (128 * (8 * row + down) + 8 * column + across);
+                sheet[at..at + 4].copy_from_slice(&cache[colour as usize]);
+            }
+        }
+    }
+}
+
 /// The 32 colours of a palette (R4.6).
 pub fn colours(palette: &[u8; 64]) -> [[u8; 4]; 32] {
     let mut all = [[0; 4]; 32];
@@ -788,7 +793,7 @@ pub fn row_view(frame: &[u8], area: Area, row: usize) -> &[u8] {
 }
 
 /// The answer word of a step (R7.7).
-fn step_word(answer: Result<Stepped, u32>) -> u32 {
+pub fn step_word(answer: Result<Stepped, u32>) -> u32 {
     match answer {
         Err(refusal) => refusal,
         Ok(stepped) => {

@@ -10,7 +10,7 @@ const COUNTERS: [u8; 26] = [
     0xFE, 0xFF, 0x00, 0x01, 0x16, 0x17, 0x18, 0x19, 0xA5, 0xA6, 0xA7, 0xA8, 0xBE, 0xBF, 0xC0, 0xC1, 0xC2, 0xD4, 0xD5, 0xD8, 0xD9, 0xDA, 0xDB, 0xDC,
     0xDE, 0xDF,
 ];
-/// X bytes at the edges of both areas, with and without the early clock.
+/// X bytes at the edges of the areas, with and without the early clock.
 const EDGES: [u8; 8] = [0, 8, 40, 48, 56, 200, 208, 248];
 /// Addresses at the ends of both memories.
 const ADDRESSES: [u16; 14] = [0, 1, 2, 62, 63, 64, 65, 66, 16382, 16383, 16384, 16385, 32768, 65535];

@@ -1,8 +1,9 @@
 //! The C face made of the model, as a shared library: stands in for libvdp.a where a program over the C face is tried
 //! and the proved library is not at hand (and, damaged on purpose, shows that the programs notice).
 
+use rules::home::Met;
 use rules::model::{self, Notes};
-use rules::{salvage, tile, writer};
+use rules::{dock, salvage, tile, writer};
 
 /// The bytes that a caller lends.
 unsafe fn lent<'a>(at: *const u8, len: usize) -> &'a [u8] {
@@ -121,4 +122,93 @@ pub unsafe extern "C" fn vdp_record_step(recording: *mut u8, recording_len: usiz
 #[no_mangle]
 pub unsafe extern "C" fn vdp_record_next(recording: *const u8, recording_len: usize, at: usize) -> u32 {
     writer::vdp_record_next(lent(recording, recording_len), at)
+}
+
+#[no_mangle]
+pub unsafe extern "C" fn vdp_home_new(state: *mut u8, state_len: usize) -> u32 {
+    dock::vdp_home_new(lent_mut(state, state_len))
+}
+
+#[no_mangle]
+pub unsafe extern "C" fn vdp_home_new_table(state: *mut u8, state_len: usize, table: u8) -> u32 {
+    dock::vdp_home_new_table(lent_mut(state, state_len), table)
+}
+
+#[no_mangle]
+pub unsafe extern "C" fn vdp_home_out(state: *mut u8, state_len: usize, vram: *mut u8, vram_len: usize, port: u16, value: u8) -> u32 {
+    dock::vdp_home_out(lent_mut(state, state_len), lent_mut(vram, vram_len), port, value, &mut Met::nothing())
+}
+
+#[no_mangle]
+pub unsafe extern "C" fn vdp_home_input(state: *mut u8, state_len: usize, vram: *const u8, vram_len: usize, port: u16) -> u32 {
+    dock::vdp_home_input(lent_mut(state, state_len), lent(vram, vram_len), port, &mut Met::nothing())
+}
+
+#[no_mangle]
+pub unsafe extern "C" fn vdp_home_step(state: *mut u8, state_len: usize, vram: *const u8, vram_len: usize, frame: *mut u8, frame_len: usize) -> u32 {
+    dock::vdp_home_step(lent_mut(state, state_len), lent(vram, vram_len), lent_mut(frame, frame_len), &mut Met::nothing())
+}
+
+#[no_mangle]
+pub unsafe extern "C" fn vdp_home_row_step(state: *mut u8, state_len: usize, vram: *const u8, vram_len: usize, row: *mut u8, row_len: usize) -> u32 {
+    dock::vdp_home_row_step(lent_mut(state, state_len), lent(vram, vram_len), lent_mut(row, row_len), &mut Met::nothing())
+}
+
+#[no_mangle]
+pub unsafe extern "C" fn vdp_home_layer_step(
+    state: *mut u8, state_len: usize, vram: *const u8, vram_len: usize, frame: *mut u8, frame_len: usize, layers: *mut u8, layers_len: usize,
+) -> u32 {
+    let (frame, layers) = (lent_mut(frame, frame_len), lent_mut(layers, layers_len));
+    dock::vdp_home_layer_step(lent_mut(state, state_len), lent(vram, vram_len), frame, layers, &mut Met::nothing())
+}
+
+#[no_mangle]
+pub unsafe extern "C" fn vdp_home_layer_row_step(
+    state: *mut u8, state_len: usize, vram: *const u8, vram_len: usize, row: *mut u8, row_len: usize, layers: *mut u8, layers_len: usize,
+) -> u32 {
+    let (row, layers) = (lent_mut(row, row_len), lent_mut(layers, layers_len));
+    dock::vdp_home_layer_row_step(lent_mut(state, state_len), lent(vram, vram_len), row, layers, &mut Met::nothing())
+}
+
+#[no_mangle]
+pub unsafe extern "C" fn vdp_home_pixel(state: *const u8, state_len: usize, vram: *const u8, vram_len: usize, row: u32, column: u32) -> u64 {
+    dock::vdp_home_pixel(lent(state, state_len), lent(vram, vram_len), row, column)
+}
+
+#[no_mangle]
+pub unsafe extern "C" fn vdp_home_dump_tileset(
+    state: *const u8, state_len: usize, vram: *const u8, vram_len: usize, pixels: *mut u8, pixels_len: usize,
+) -> u32 {
+    dock::vdp_home_dump_tileset(lent(state, state_len), lent(vram, vram_len), lent_mut(pixels, pixels_len))
+}
+
+/// The number of the face in this header's text.
+const fn version_in(header: &[u8], name: &[u8]) -> u32 {
+    let mut at = 0;
+    loop {
+        let mut same = 0;
+        while same < name.len() && header[at + same] == name[same] {
+            same += 1;
+        }
+        if same == name.len() {
+            break;
+        }
+        at += 1;
+    }
+    at += name.len();
+    let mut number = 0;
+    while header[at].is_ascii_digit() {
+        number = 10 * number + (header[at] - b'0') as u32;
+        at += 1;
+    }
+    number
+}
+
+#[no_mangle]
+pub extern "C" fn vdp_version() -> u32 {
+    const HEADER: &[u8] = include_bytes!("../include/vdp.h");
+    const VERSION: u32 = 65536 * version_in(HEADER, b"#define VDP_VERSION_MAJOR ")
+        + 256 * version_in(HEADER, b"#define VDP_VERSION_MINOR ")
+        + version_in(HEADER, b"#define VDP_VERSION_SMALL ");
+    VERSION
 }

@@ -34,11 +34,26 @@ tell "the home machine: traces beside its rules written a second time" $?
 build/oracle/homes snapshot $((${TRACES:-1000} / 10)) "${SEED:-1}" build/bin/home-snapshot
 tell "the home machine: snapshots beside them" $?
 
+# Its calls for C beside the same, on the library for this machine and as it is shipped; and the second writing beside itself.
+HERE_LIB=build/native/libvdp.a sh oracle/build.sh docks-here && build/oracle/here/docks "${HOME_CALLS:-50000}" "${SEED:-1}"
+tell "the home machine: ${HOME_CALLS:-50000} calls for C beside its rules written a second time, the library for this machine" $?
+build/oracle/here/docks pixels "${HOME_STATES:-20}" "${SEED:-1}"
+tell "the home machine: every pixel of ${HOME_STATES:-20} states beside the row step" $?
+sh oracle/build.sh docks && $RUN build/oracle/docks "${HOME_CALLS:-50000}" "${SEED:-1}"
+tell "the home machine: the same calls, the library as it is shipped" $?
+HERE_LIB= sh oracle/build.sh docks-here && build/oracle/here/docks 1000 "${SEED:-1}"
+tell "the home machine: the second writing beside itself" $?
+# The C example with the library and with the second writing in its place; and the second writing's picture of its recording.
+cc -std=c99 -Iinclude examples/dock.c build/native/libvdp.a -o $out/dock && $out/dock $out/dock.ppm $out/dock.trace >/dev/null &&
+    cc -std=c99 -Iinclude examples/dock.c -Lbuild/oracle/here -lvdp -Wl,-rpath,"$PWD/build/oracle/here" -o $out/dock-second && $out/dock-second $out/dock-second.ppm >/dev/null &&
+    cmp $out/dock.ppm $out/dock-second.ppm && build/oracle/homes picture <$out/dock.trace | cmp $out/dock.ppm -
+tell "the home machine: the picture of the C example is the second writing's" $?
+
 # One pixel beside the row step, on the library for this machine and as it is shipped.
 HERE_LIB=build/native/libvdp.a sh oracle/build.sh pixels && build/oracle/here/pixels "${STATES:-300}" "${SEED:-1}"
-tell "every pixel of both areas on ${STATES:-300} states, the library for this machine" $?
+tell "every pixel of all three areas on ${STATES:-300} states, the library for this machine" $?
 sh oracle/build.sh pixels && $RUN build/oracle/pixels 8 "${SEED:-1}"
-tell "every pixel of both areas on 8 states, and all refusals" $?
+tell "every pixel of all three areas on 8 states, and all refusals" $?
 
 # The repair of state blocks beside the model: the library as it is shipped, and for this machine.
 sh oracle/build.sh repair && $RUN build/oracle/repair calls "${REPAIRS:-20000}" "${SEED:-1}"

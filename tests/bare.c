@@ -1,10 +1,10 @@
-/* bare.c: the library with no system and no C library under it: a scene, two passes of each area, a sheet of tiles, and a checksum of all that they left.
+/* bare.c: the library with no system and no C library under it: a scene, two passes of each area and of the home machine, sheets of tiles, and a checksum of all that they left.
  * Compiled with -DBARE it starts by itself, and asks the kernel for no more than to write that number and to end; so the archives for bare metal are tried
  * by an emulator of Linux programs. Compiled without, it is a plain program, which prints the same number.
  */
 #include "vdp.h"
 
-static uint8_t state[VDP_STATE_SIZE], vram[VDP_VRAM_SIZE], frame[VDP_EFFECTIVE_FRAME_SIZE], layers[VDP_EFFECTIVE_LAYERS_SIZE], sheet[VDP_TILESET_SIZE];
+static uint8_t state[VDP_STATE_SIZE], home[VDP_HOME_STATE_SIZE], vram[VDP_VRAM_SIZE], frame[VDP_EFFECTIVE_FRAME_SIZE], layers[VDP_EFFECTIVE_LAYERS_SIZE], sheet[VDP_TILESET_SIZE];
 static uint32_t seed = 1, sum = 1;
 
 static uint8_t any(void)
@@ -20,6 +20,28 @@ static void add(const uint8_t *bytes, size_t count)
 }
 
 static void out(uint16_t port, uint8_t value) { sum = 31 * sum + vdp_out(state, sizeof state, vram, sizeof vram, port, value); }
+
+static void home_out(uint16_t port, uint8_t value) { sum = 31 * sum + vdp_home_out(home, sizeof home, vram, sizeof vram, port, value); }
+
+/* The same of the home machine, over the same video memory. */
+static void docked(void)
+{
+    vdp_home_new(home, sizeof home);
+    for (unsigned k = 0; k < 11; k++)
+        home_out(VDP_PORT_COMMAND, k == 2 || k == 5 ? 0xFF : any()), home_out(VDP_PORT_COMMAND, (uint8_t)(0x80 + k));
+    home_out(VDP_PORT_COMMAND, 0), home_out(VDP_PORT_COMMAND, 0xC0);
+    for (unsigned k = 0; k < 32; k++)
+        home_out(VDP_PORT_DATA, any());
+    for (unsigned k = 0; k < 2 * VDP_CHART_PASS_STEPS; k++) {
+        sum = 31 * sum + vdp_home_layer_step(home, sizeof home, vram, sizeof vram, frame, VDP_HOME_FRAME_SIZE, layers, sizeof layers);
+        add(layers, sizeof layers);
+        uint64_t pixel = vdp_home_pixel(home, sizeof home, vram, sizeof vram, k % VDP_HOME_HEIGHT, any());
+        sum = 31 * sum + (uint32_t)pixel + (uint32_t)(pixel >> 32);
+    }
+    vdp_home_dump_tileset(home, sizeof home, vram, sizeof vram, sheet, sizeof sheet);
+    sum = 31 * sum + vdp_home_input(home, sizeof home, vram, sizeof vram, VDP_PORT_COMMAND);
+    add(frame, sizeof frame), add(sheet, sizeof sheet), add(home, sizeof home);
+}
 
 static uint32_t whole(void)
 {
@@ -39,43 +61,31 @@ static uint32_t whole(void)
         }
     vdp_dump_tileset(state, sizeof state, vram, sizeof vram, sheet, sizeof sheet);
     add(frame, sizeof frame), add(sheet, sizeof sheet), add(state, sizeof state);
+    docked();
     return sum;
 }
 
 #ifdef BARE
-/* One call of the kernel, by its number on each machine. */
+/* One call of the kernel, by its number on each machine: the instruction, the registers of the number and of what goes with it, what the call may spoil. */
+#define KERNEL(call, number, first, second, third, ...)                                     \
+    static void ask(long what, long a, const void *b, long c)                               \
+    {                                                                                       \
+        register long n __asm__(number) = what, x __asm__(first) = a, z __asm__(third) = c; \
+        register const void *y __asm__(second) = b;                                         \
+        __asm__ volatile(call : "+r"(n), "+r"(x) : "r"(y), "r"(z) : __VA_ARGS__);           \
+    }
 #if defined __x86_64__
 enum { WRITE = 1, EXIT = 60 };
-static void ask(long what, long a, const void *b, long c)
-{
-    register long rax __asm__("rax") = what, rdi __asm__("rdi") = a, rdx __asm__("rdx") = c;
-    register const void *rsi __asm__("rsi") = b;
-    __asm__ volatile("syscall" : "+r"(rax) : "r"(rdi), "r"(rsi), "r"(rdx) : "rcx", "r11", "memory");
-}
+KERNEL("syscall", "rax", "rdi", "rsi", "rdx", "rcx", "r11", "memory")
 #elif defined __aarch64__
 enum { WRITE = 64, EXIT = 93 };
-static void ask(long what, long a, const void *b, long c)
-{
-    register long x8 __asm__("x8") = what, x0 __asm__("x0") = a, x2 __asm__("x2") = c;
-    register const void *x1 __asm__("x1") = b;
-    __asm__ volatile("svc 0" : "+r"(x0) : "r"(x8), "r"(x1), "r"(x2) : "memory");
-}
+KERNEL("svc 0", "x8", "x0", "x1", "x2", "memory")
 #elif defined __riscv
 enum { WRITE = 64, EXIT = 93 };
-static void ask(long what, long a, const void *b, long c)
-{
-    register long a7 __asm__("a7") = what, a0 __asm__("a0") = a, a2 __asm__("a2") = c;
-    register const void *a1 __asm__("a1") = b;
-    __asm__ volatile("ecall" : "+r"(a0) : "r"(a7), "r"(a1), "r"(a2) : "memory");
-}
+KERNEL("ecall", "a7", "a0", "a1", "a2", "memory")
 #else
 enum { WRITE = 4, EXIT = 1 };
-static void ask(long what, long a, const void *b, long c)
-{
-    register long r7 __asm__("r7") = what, r0 __asm__("r0") = a, r2 __asm__("r2") = c;
-    register const void *r1 __asm__("r1") = b;
-    __asm__ volatile("svc 0" : "+r"(r0) : "r"(r7), "r"(r1), "r"(r2) : "memory");
-}
+KERNEL("svc 0", "r7", "r0", "r1", "r2", "memory")
 #endif
 
 #ifdef __x86_64__

@@ -25,6 +25,10 @@ least() {
 for workload in visible effective empty unscrolled ended ninth layers dump tiles; do least optimised $workload 1; done
 for seed in 1 2 3; do least optimised any $seed; done
 for workload in ended any tiles; do least plain $workload 1; done
+# The home machine's calls (R21.5): one pixel is an exception of R11.12 here too, and so is the tile that column 192 cuts.
+for workload in home home-dump; do least optimised $workload 1; done
+for seed in 1 2; do least optimised home-any $seed; done
+least plain home-any 1
 
 # A copy of the library whose look through the list loads each byte twice.
 sed -E '/^define .*"sprites::next_on"/,/^}/s/^ *%(r[0-9]+) = load i8, (ptr %r[0-9]+), align 1, !noundef !1$/%once.\1 = load volatile i8, \2\n%twice.\1 = load volatile i8, \2\n%\1 = and i8 %once.\1, %twice.\1/' build/native/vdp.ll >$bus/twice.ll

@@ -1,5 +1,5 @@
 #!/usr/bin/env bash
-# c.sh: what a C or C++ user takes away: the header, the library as shipped (x86-64) and for this machine, the link lines of README, what vdp.h promises a
+# c.sh: what a C or C++ user takes away: the header, the library as shipped (x86-64) and for this machine, the link lines of docs/BUILD.md, what vdp.h promises a
 # caller, how much stack the calls take, and the library as `make install` puts it down. CXX may name another C++ compiler.
 . "$(dirname "$0")/begin.sh"
 : "${CXX:=g++}"
@@ -13,6 +13,17 @@ tell "the C example with the archive for this machine: the same picture" $?
 cc -std=c99 $strict -Iinclude examples/frame.c -Lbuild/native -lvdp -Wl,-rpath,"$PWD/build/native" -o $work/frame-shared &&
     $work/frame-shared $work/frame-shared.ppm >/dev/null && cmp $work/frame.ppm $work/frame-shared.ppm
 tell "the C example with the shared library: the same picture" $?
+
+# The home machine: the same picture of three libraries, and of the program that runs its recording.
+$CC_X86 -std=c99 $strict -Iinclude examples/dock.c build/libvdp.a -o $work/dock && $RUN $work/dock $work/dock.ppm $work/dock.trace
+tell "the home machine's C example: a split, a bar that stands, a fill, a cursor" $?
+cc -std=c99 $strict -Iinclude examples/dock.c build/native/libvdp.a -o $work/dock-here && $work/dock-here $work/dock-here.ppm $work/dock-here.trace >/dev/null &&
+    cmp $work/dock.ppm $work/dock-here.ppm && cmp $work/dock.trace $work/dock-here.trace
+tell "the same with the archive for this machine: the same picture" $?
+cc -std=c99 $strict -Iinclude examples/dock.c -Lbuild/native -lvdp -Wl,-rpath,"$PWD/build/native" -o $work/dock-shared && $work/dock-shared $work/dock-shared.ppm >/dev/null && cmp $work/dock.ppm $work/dock-shared.ppm
+tell "the same with the shared library: the same picture" $?
+build/bin/home-snapshot $work/dock.trace | cmp $work/dock.ppm -
+tell "home-snapshot draws the same picture of its recording" $?
 
 # The names of the header, and no others.
 sed -nE 's/^uint(32|64)_t (vdp_[a-z_]+)\(.*/\2/p' include/vdp.h | sort >$work/header

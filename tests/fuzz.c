@@ -87,7 +87,7 @@ static void make_pages(struct buffer *b)
 /* A hostile length: one byte more or less, none, or another buffer's; `right` five times in six. */
 static size_t length(size_t right)
 {
-    static const size_t other[] = {0, 1, 63, 64, 159, 160, 219, 220, 255, 256, 639, 640, 1023, 1024, 16383, 16384, VDP_VISIBLE_FRAME_SIZE, VDP_TILESET_SIZE, VDP_EFFECTIVE_FRAME_SIZE};
+    static const size_t other[] = {0, 1, 63, 64, 159, 160, 185, 186, 219, 220, 255, 256, 639, 640, 1023, 1024, 16383, 16384, VDP_VISIBLE_FRAME_SIZE, VDP_TILESET_SIZE, VDP_HOME_FRAME_SIZE, VDP_EFFECTIVE_FRAME_SIZE};
     switch (below(24)) {
     case 0: return right + 1;
     case 1: return right - (right > 0);
@@ -217,6 +217,49 @@ static void lend_vram(int constant)
         b->at[below((uint32_t)b->len)] = (uint8_t)any();
 }
 
+/* ---- the same of the home machine */
+
+static int home_is_good(const uint8_t *block, size_t len)
+{
+    return len == VDP_HOME_STATE_SIZE && block[0] == 0x56 && block[1] == 0x48 && block[VDP_AT_JUMPED] <= 1 && block[VDP_AT_CHOSEN] <= 2 && block[VDP_AT_COMMAND_LATCHED] <= 1 &&
+           block[VDP_HOME_AT_DIRTY] <= 1 && block[VDP_HOME_AT_TABLE] <= 1 && (block[VDP_AT_COMMAND_LATCHED] || !block[VDP_AT_COMMAND_BYTE]);
+}
+static unsigned home_refusal(void) { return home_is_good(buffer[STATE].at, buffer[STATE].len) ? VDP_OK : VDP_REFUSED_BLOCK; }
+
+/* A home block: as a state block is lent; now and then one of the handheld. */
+static void lend_home(int constant)
+{
+    if (once_in(16)) {
+        lend_state(constant);
+        return;
+    }
+    struct buffer *b = lend(STATE, once_in(6) ? length(VDP_HOME_STATE_SIZE) : VDP_HOME_STATE_SIZE, constant);
+    uint8_t *s = b->at;
+    if (b->len != VDP_HOME_STATE_SIZE)
+        return;
+    for (size_t k = 0; k < b->len; k++)
+        if (once_in(3))
+            s[k] = (uint8_t)any();
+    if (once_in(12))
+        return; /* any bytes */
+    s[0] = 0x56, s[1] = 0x48;
+    s[VDP_AT_JUMPED] %= 2, s[VDP_AT_CHOSEN] %= 3, s[VDP_AT_COMMAND_LATCHED] %= 2, s[VDP_HOME_AT_DIRTY] %= 2, s[VDP_HOME_AT_TABLE] %= 2;
+    s[VDP_AT_COMMAND_BYTE] *= s[VDP_AT_COMMAND_LATCHED];
+    if (!once_in(4))
+        s[VDP_AT_ADDRESS + 1] %= s[VDP_AT_CHOSEN] == 2 ? 1 : 64, s[VDP_AT_ADDRESS] %= s[VDP_AT_CHOSEN] == 2 ? 32 : 255;
+    if (once_in(8))
+        s[below((uint32_t)b->len)] ^= (uint8_t)(1u << below(8));
+}
+
+/* Now and then a home block, to a call of the handheld. */
+static void lend_either(int constant)
+{
+    if (once_in(16))
+        lend_home(constant);
+    else
+        lend_state(constant);
+}
+
 static uint8_t some_area(void)
 {
     static const uint8_t area[] = {0, 1, 2, 0, 1, 2, 0, 1, 2, 3, 128, 255};
@@ -247,7 +290,7 @@ static void check_fresh(uint8_t table)
 static void do_new(void)
 {
     unsigned due;
-    lend_state(0);
+    lend_either(0);
     due = buffer[STATE].len == VDP_STATE_SIZE ? VDP_OK : VDP_REFUSED_BLOCK;
     before_call("vdp_new");
     uint32_t answer = vdp_new(buffer[STATE].at, buffer[STATE].len);
@@ -260,7 +303,7 @@ static void do_new_table(void)
 {
     static const uint8_t tables[] = {0, 1, 0, 1, 2, 255};
     uint8_t table = ONE_OF(tables);
-    lend_state(0);
+    lend_either(0);
     size_t len = buffer[STATE].len;
     unsigned due = table <= 1 && (len == VDP_STATE_SIZE || (table == 0 && len == VDP_OLD_STATE_SIZE)) ? VDP_OK : VDP_REFUSED_BLOCK;
     before_call("vdp_new_table");
@@ -281,7 +324,7 @@ static void do_out(void)
 {
     uint16_t port = some_port();
     uint8_t value = (uint8_t)any(), low = (uint8_t)port;
-    lend_state(0);
+    lend_either(0);
     lend_vram(0);
     unsigned due = first(block_refusal(), vram_refusal());
     const uint8_t *s = buffer[STATE].at;
@@ -327,13 +370,17 @@ static void do_out(void)
         stop("answers more than 0");
 }
 
-static void do_input(void)
+/* A port read, on either machine: its refusals and what it leaves stand in bytes that both blocks have. */
+static void do_read(int home)
 {
     uint16_t port = some_port();
     uint8_t low = (uint8_t)port;
-    lend_state(0);
+    if (home)
+        lend_home(0);
+    else
+        lend_either(0);
     lend_vram(1);
-    unsigned due = first(block_refusal(), vram_refusal());
+    unsigned due = first(home ? home_refusal() : block_refusal(), vram_refusal());
     unsigned chosen = due ? 0 : buffer[STATE].at[VDP_AT_CHOSEN];
     if (!due)
         due = low == VDP_PORT_LINE || low == VDP_PORT_COMMAND ? VDP_OK
@@ -343,8 +390,8 @@ static void do_input(void)
               : chosen == 2                                   ? VDP_REFUSED_PALETTE_READ
               : address() >= VDP_VRAM_SIZE                    ? VDP_REFUSED_ADDRESS
                                                               : VDP_OK;
-    before_call("vdp_input");
-    uint32_t answer = vdp_input(buffer[STATE].at, buffer[STATE].len, buffer[VRAM].at, buffer[VRAM].len, port);
+    before_call(home ? "vdp_home_input" : "vdp_input");
+    uint32_t answer = (home ? vdp_home_input : vdp_input)(buffer[STATE].at, buffer[STATE].len, buffer[VRAM].at, buffer[VRAM].len, port);
     if (due >= VDP_REFUSED_REGISTER && due <= VDP_REFUSED_ADDRESS)
         latch_may_empty();
     if (!due && low != VDP_PORT_LINE) {
@@ -360,13 +407,15 @@ static void do_input(void)
     after_call(answer, due);
 }
 
+static void do_input(void) { do_read(0); }
+
 /* A step of any kind: on a frame or a row, with layers or without. */
 static void do_step(int whole, int layered)
 {
     static const char *const names[] = {"vdp_row_step", "vdp_layer_row_step", "vdp_step", "vdp_layer_step"};
     uint8_t area = some_area();
     size_t need = whole ? frame_size(area) : row_size(area), columns = row_size(area) / 4;
-    lend_state(0);
+    lend_either(0);
     lend_vram(1);
     lend(PIXELS, length(need), 0);
     if (layered)
@@ -420,7 +469,7 @@ static void do_layer_row(void) { do_step(0, 1); }
 
 static void do_dump(void)
 {
-    lend_state(1);
+    lend_either(1);
     lend_vram(1);
     lend(PIXELS, length(VDP_TILESET_SIZE), 0);
     struct buffer *s = &buffer[STATE], *v = &buffer[VRAM], *p = &buffer[PIXELS];
@@ -439,7 +488,7 @@ static void do_pixel(void)
     static const uint32_t edge[] = {0, 143, 144, 159, 160, 223, 224, 255, 256, 0x80000000u, 0xFFFFFFFFu};
     uint8_t area = some_area();
     uint32_t row = once_in(4) ? ONE_OF(edge) : below(144), column = once_in(4) ? ONE_OF(edge) : below(160);
-    lend_state(1);
+    lend_either(1);
     lend_vram(1);
     struct buffer *s = &buffer[STATE], *v = &buffer[VRAM];
     unsigned due = first(first(block_refusal(), area > 2 ? VDP_REFUSED_AREA : VDP_OK), vram_refusal());
@@ -507,7 +556,7 @@ static void do_read_tile(void)
 static void do_repair(void)
 {
     static const uint8_t mended[] = {0, 1, 15, 17, 18, 20, 21, 22, 23, 24, 26, 219};
-    lend_state(0);
+    lend_either(0);
     lend(LIST, length(VDP_LIST_SIZE), 0);
     struct buffer *s = &buffer[STATE], *l = &buffer[LIST];
     unsigned due = s->len != VDP_STATE_SIZE && s->len != VDP_OLD_STATE_SIZE ? VDP_REFUSED_BLOCK : l->len < VDP_LIST_SIZE ? VDP_REFUSED_LIST_LENGTH : VDP_OK;
@@ -579,6 +628,175 @@ static void do_version(void)
     after_call(VDP_OK, VDP_OK);
 }
 
+/* ---- the home machine's calls */
+
+static void do_home_new(void)
+{
+    static const uint8_t tables[] = {0, 1, 0, 1, 2, 255}, registers[11] = {0, 0, 0xFF, 0xFF, 0xFF, 0xFF, 0xFF, 0, 0, 0, 1};
+    int named = once_in(2);
+    uint8_t table = named ? ONE_OF(tables) : VDP_CHART_TABLE;
+    lend_home(0);
+    struct buffer *s = &buffer[STATE];
+    unsigned due = s->len == VDP_HOME_STATE_SIZE && table <= 1 ? VDP_OK : VDP_REFUSED_BLOCK;
+    before_call(named ? "vdp_home_new_table" : "vdp_home_new");
+    uint32_t answer = named ? vdp_home_new_table(s->at, s->len, table) : vdp_home_new(s->at, s->len);
+    for (size_t k = 0; !due && k < s->len; k++) {
+        uint8_t is = k == 0 ? 0x56 : k == 1 ? 0x48 : k >= VDP_AT_REGISTERS && k < VDP_AT_REGISTERS + 11 ? registers[k - VDP_AT_REGISTERS] : k == VDP_HOME_AT_DIRTY ? 1 : k == VDP_HOME_AT_TABLE ? table : 0;
+        if (s->at[k] != is)
+            stop("makes a device that is not fresh");
+    }
+    if (!due)
+        may_change(STATE, 0, s->len);
+    after_call(answer, due);
+}
+
+static void do_home_out(void)
+{
+    uint16_t port = some_port();
+    uint8_t value = (uint8_t)any(), low = (uint8_t)port;
+    lend_home(0);
+    lend_vram(0);
+    unsigned due = first(home_refusal(), vram_refusal());
+    const uint8_t *s = buffer[STATE].at;
+    unsigned at = due ? 0 : address(), chosen = due ? 0 : s[VDP_AT_CHOSEN];
+    int second = !due && low == VDP_PORT_COMMAND && s[VDP_AT_COMMAND_LATCHED];
+    unsigned latched = due ? 0 : s[VDP_AT_COMMAND_BYTE];
+    if (!due)
+        due = low == VDP_PORT_COMMAND                      ? second && value >> 6 == 2 && (value & 0x7F) > 10 ? VDP_REFUSED_REGISTER : VDP_OK
+              : low != VDP_PORT_DATA                       ? VDP_REFUSED_PORT
+              : chosen == 0                                ? VDP_REFUSED_NO_MEMORY
+              : at >= (chosen == 1 ? VDP_VRAM_SIZE : 32)   ? VDP_REFUSED_ADDRESS
+                                                           : VDP_OK;
+    before_call("vdp_home_out");
+    uint32_t answer = vdp_home_out(buffer[STATE].at, buffer[STATE].len, buffer[VRAM].at, buffer[VRAM].len, port, value);
+    if (due >= VDP_REFUSED_REGISTER && due <= VDP_REFUSED_ADDRESS)
+        latch_may_empty();
+    if (!due && low == VDP_PORT_COMMAND && !second) {
+        if (s[VDP_AT_COMMAND_LATCHED] != 1 || s[VDP_AT_COMMAND_BYTE] != value)
+            stop("latches another byte");
+        may_change(STATE, VDP_AT_COMMAND_LATCHED, 2);
+    } else if (!due) {
+        latch_may_empty();
+        if (second && value >> 6 == 2)
+            may_change(STATE, VDP_AT_REGISTERS + (value & 0x7F), 1);
+        else
+            may_change(STATE, VDP_AT_ADDRESS, 2);
+        if (second && value >> 6 != 2)
+            may_change(STATE, VDP_AT_CHOSEN, 1);
+        if (second && value >> 6 == 3 && address() != latched % 32)
+            stop("sets another palette address");
+        if ((second && value >> 6 == 0) || (!second && chosen == 1))
+            may_change(STATE, VDP_AT_READ_BUFFER, 1);
+        if (!second && chosen == 1)
+            may_change(VRAM, at, 1);
+        if (!second && chosen == 2) {
+            /* stored at once and whole, and dirty exactly where it is another byte */
+            int other = was(STATE, VDP_HOME_AT_PALETTE + at) != value;
+            if (s[VDP_HOME_AT_PALETTE + at] != value || s[VDP_HOME_AT_DIRTY] != (was(STATE, VDP_HOME_AT_DIRTY) || other) || address() != (at + 1) % 32)
+                stop("stores a colour otherwise");
+            may_change(STATE, VDP_HOME_AT_PALETTE + at, 1);
+            may_change(STATE, VDP_HOME_AT_DIRTY, 1);
+        }
+    }
+    after_call(answer, due);
+    if (!due && answer != VDP_OK)
+        stop("answers more than 0");
+}
+
+static void do_home_input(void) { do_read(1); }
+
+static void do_home_step(int whole, int layered)
+{
+    static const char *const names[] = {"vdp_home_row_step", "vdp_home_layer_row_step", "vdp_home_step", "vdp_home_layer_step"};
+    size_t need = whole ? VDP_HOME_FRAME_SIZE : VDP_HOME_ROW_SIZE;
+    lend_home(0);
+    lend_vram(1);
+    lend(PIXELS, length(need), 0);
+    if (layered)
+        lend(LAYERS, length(VDP_HOME_LAYERS_SIZE), 0);
+    struct buffer *s = &buffer[STATE], *v = &buffer[VRAM], *p = &buffer[PIXELS], *l = &buffer[LAYERS];
+    unsigned due = first(home_refusal(), vram_refusal());
+    due = first(due, p->len < need ? VDP_REFUSED_PIXELS_LENGTH : whole && p->len > need ? VDP_REFUSED_FRAME_LONG : VDP_OK);
+    due = first(due, layered && l->len < VDP_HOME_LAYERS_SIZE ? VDP_REFUSED_LAYERS_LENGTH : VDP_OK);
+    before_call(names[2 * whole + layered]);
+    uint32_t answer = whole ? layered ? vdp_home_layer_step(s->at, s->len, v->at, v->len, p->at, p->len, l->at, l->len)
+                                      : vdp_home_step(s->at, s->len, v->at, v->len, p->at, p->len)
+                            : layered ? vdp_home_layer_row_step(s->at, s->len, v->at, v->len, p->at, p->len, l->at, l->len)
+                                      : vdp_home_row_step(s->at, s->len, v->at, v->len, p->at, p->len);
+    if (!due) {
+        unsigned jump = was(STATE, VDP_HOME_AT_TABLE) ? 0xDB : 0xDA;
+        unsigned line = (was(STATE, VDP_AT_COUNTER) + 1u) & 0xFF;
+        if (line == jump && !was(STATE, VDP_AT_JUMPED))
+            line = 0xD5;
+        int drawn = line < VDP_HOME_HEIGHT;
+        if (s->at[VDP_AT_COUNTER] != line)
+            stop("sets another line");
+        if ((answer & ~0x700u) != (drawn ? 1u << 24 | line << 16 : 0))
+            stop("answers another row");
+        may_change(STATE, VDP_AT_COUNTER, 3); /* counter, jump flag, line count */
+        may_change(STATE, VDP_AT_STATUS, 1);
+        if (line == 0)
+            may_change(STATE, VDP_HOME_AT_VERTICAL_SCROLL, 1);
+        if (drawn) {
+            if (s->at[VDP_HOME_AT_DIRTY])
+                stop("draws, and leaves the colours dirty");
+            if (was(STATE, VDP_HOME_AT_DIRTY))
+                may_change(STATE, VDP_HOME_AT_DIRTY, 1), may_change(STATE, VDP_HOME_AT_COLOURS, 128);
+            const uint8_t *row = p->at + (whole ? line * VDP_HOME_ROW_SIZE : 0);
+            int fill = s->at[VDP_AT_REGISTERS] >> 5 & 1;
+            for (unsigned k = 0; fill && k < 8; k++)
+                if (memcmp(row + 4 * k, s->at + VDP_HOME_AT_COLOURS + 4 * (16 + s->at[VDP_AT_REGISTERS + 7] % 16), 4))
+                    stop("fills with another colour");
+            may_change(PIXELS, whole ? line * VDP_HOME_ROW_SIZE : 0, VDP_HOME_ROW_SIZE);
+            if (layered) {
+                for (unsigned k = 0; k < VDP_HOME_LAYERS_SIZE; k++) {
+                    int filled = fill && k < 8;
+                    if (filled != (l->at[k] == VDP_LAYER_FILLED) || (!filled && l->at[k] > VDP_LAYER_HELD_BACK && (l->at[k] < VDP_LAYER_SPRITE || l->at[k] > VDP_LAYER_SPRITE + 63)))
+                        stop("tells a layer that there is not");
+                }
+                may_change(LAYERS, 0, VDP_HOME_LAYERS_SIZE);
+            }
+        }
+    }
+    after_call(answer, due);
+}
+static void do_home_frame(void) { do_home_step(1, 0); }
+static void do_home_row(void) { do_home_step(0, 0); }
+static void do_home_layer_frame(void) { do_home_step(1, 1); }
+static void do_home_layer_row(void) { do_home_step(0, 1); }
+
+static void do_home_pixel(void)
+{
+    static const uint32_t edge[] = {0, 7, 8, 15, 16, 191, 192, 193, 255, 256, 0x80000000u, 0xFFFFFFFFu};
+    uint32_t row = once_in(4) ? ONE_OF(edge) : below(192), column = once_in(4) ? ONE_OF(edge) : below(256);
+    lend_home(1);
+    lend_vram(1);
+    struct buffer *s = &buffer[STATE], *v = &buffer[VRAM];
+    unsigned due = first(home_refusal(), vram_refusal());
+    int there = !due && row < VDP_HOME_HEIGHT && column < VDP_HOME_WIDTH;
+    before_call("vdp_home_pixel");
+    uint64_t answer = vdp_home_pixel(s->at, s->len, v->at, v->len, row, column);
+    if ((uint32_t)answer != (due ? due : there ? 1u << 24 : 0) || (!there && answer >> 32))
+        stop("has other bits");
+    after_call(due, due);
+}
+
+static void do_home_dump(void)
+{
+    lend_home(1);
+    lend_vram(1);
+    lend(PIXELS, length(VDP_TILESET_SIZE), 0);
+    struct buffer *s = &buffer[STATE], *v = &buffer[VRAM], *p = &buffer[PIXELS];
+    unsigned due = first(first(home_refusal(), vram_refusal()), p->len != VDP_TILESET_SIZE ? VDP_REFUSED_PIXELS_LENGTH : VDP_OK);
+    before_call("vdp_home_dump_tileset");
+    uint32_t answer = vdp_home_dump_tileset(s->at, s->len, v->at, v->len, p->at, p->len);
+    if (!due)
+        may_change(PIXELS, 0, VDP_TILESET_SIZE);
+    after_call(answer, due);
+    if (!due && answer != VDP_OK)
+        stop("answers more than 0");
+}
+
 static const struct {
     const char *names;
     void (*make)(void);
@@ -599,6 +817,15 @@ static const struct {
     {"vdp_record_out\nvdp_record_input\nvdp_record_step", do_record},
     {"vdp_record_next", do_next},
     {"vdp_version", do_version},
+    {"vdp_home_new\nvdp_home_new_table", do_home_new},
+    {"vdp_home_out", do_home_out},
+    {"vdp_home_input", do_home_input},
+    {"vdp_home_step", do_home_frame},
+    {"vdp_home_row_step", do_home_row},
+    {"vdp_home_layer_step", do_home_layer_frame},
+    {"vdp_home_layer_row_step", do_home_layer_row},
+    {"vdp_home_pixel", do_home_pixel},
+    {"vdp_home_dump_tileset", do_home_dump},
 };
 
 int main(int argc, char **argv)

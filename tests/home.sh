@@ -1,6 +1,7 @@
 #!/usr/bin/env bash
 # home.sh: build/bin/home-trace and build/bin/home-snapshot on whole, damaged, empty and long recordings; what docs/HOME.md says of colours, locks, fill and
-# sprites, asked of them; and the pictures and lines of that page, made anew. (Beside the rules written a second time they are held in oracle/suite.sh.)
+# sprites, asked of them; and the pictures, lines and C program of that page, made anew. (Beside the rules written a second time they are held in oracle/suite.sh, with
+# the calls for C.)
 . "$(dirname "$0")/begin.sh"
 needs build desk
 page=docs/HOME.md
@@ -71,6 +72,12 @@ sed -n '/home-trace$/,/^end /p' $page | sed -n '/^[wrse]/p' >$work/expected
 sh -c "$shown" | build/bin/home-trace | cmp $work/expected -
 tell 'the trace that the page shows with printf' $?
 
+# The C program of the page, with the library for this machine, prints the line behind it.
+awk '/^```c$/ { on = 1; next } /^```$/ { on = 0 } on' $page >$work/page.c
+awk '/^```c$/ { c = 1 } c == 2 && /^```$/ { c = 3; next } c == 1 && /^```$/ { c = 2; next } c == 3 && /^```$/ { exit } c == 3' $page >$work/expected
+[ -s $work/page.c ] && [ -s $work/expected ] && cc -std=c99 -Wall -Wextra -pedantic -Werror -O2 -Iinclude $work/page.c build/native/libvdp.a -o $work/page && $work/page | cmp $work/expected -
+tell 'the C program of the page' $?
+
 if ! command -v python3 >/dev/null; then
     skip 'the pictures of the page' 'no python3 here'
     total
@@ -110,10 +117,21 @@ behind held "map 29 7 = 8 priority times 2\nmap 29 8 = 8 priority times 2\n$(gre
 tell 'priority holds sprites back under the fill' $?
 
 # The commands of the page.
-said=$(python3 tests/desk/document.py $page $work/page 2>&1)
+said=$(python3 tests/desk/document.py $page $work/shown 2>&1)
 status=$?
 [ $status -eq 0 ] || printf '%s\n' "$said"
 tell "its commands print what stands there, and draw its pictures: $(tail -n 1 <<<"$said")" $status
+
+# One scene on both: what the handheld shows is what stands in the home machine's upper left corner.
+made house docs/scripts/both-home.desk && build/bin/desk make docs/scripts/both-handheld.desk -o $work/handheld.trace >/dev/null && build/bin/snapshot $work/handheld.trace >$work/handheld.ppm &&
+    tail -c 69120 $work/handheld.ppm | od -An -v -tx1 -w480 | cmp - <(tail -c 147456 $work/house.ppm | od -An -v -tx1 -w768 | head -n 144 | cut -c 1-1440) && shows house 95 0 40 55aaff && shows house 96 0 256 aa5500
+tell 'the scene of both machines is the same in columns 0 to 159, rows 0 to 143' $?
+
+# Layers are 2 where the page's screen is filled, and nowhere else: by the library, at every pixel, beside the pictures with the fill and without it.
+said=$(python3 tests/desk/filled.py $work/fill.trace $work/bar.trace $work/panel.trace 2>&1)
+status=$?
+[ $status -eq 0 ] || printf '%s\n' "$said"
+tell "layers and pixels of the page's screens: $(tail -n 1 <<<"$said")" $status
 
 # The question of the page: a colour that changes while the counter reads 90.
 behind ninety 'until line 255\nuntil line 90\ncolour 0 = 3F\nuntil line 191\n'

@@ -12,7 +12,7 @@
 enum { STACK = 16384, FILL = 0xA5, TURNS = 5000 };
 
 static unsigned char stack[STACK] __attribute__((aligned(64)));
-static uint8_t state[VDP_STATE_SIZE], vram[VDP_VRAM_SIZE], pixels[VDP_EFFECTIVE_FRAME_SIZE], layers[VDP_EFFECTIVE_LAYERS_SIZE];
+static uint8_t state[VDP_STATE_SIZE], home[VDP_HOME_STATE_SIZE], vram[VDP_VRAM_SIZE], pixels[VDP_EFFECTIVE_FRAME_SIZE], layers[VDP_EFFECTIVE_LAYERS_SIZE];
 static ucontext_t here, there;
 static unsigned long used;
 static uint32_t word = 1;
@@ -37,6 +37,17 @@ static void device(void)
     state[VDP_AT_COMMAND_LATCHED] = (uint8_t)(next() % 2);
     state[VDP_AT_PALETTE_LATCHED] = (uint8_t)(next() % 2);
     state[VDP_AT_DIRTY] = (uint8_t)(next() % 2);
+    /* and a home machine beside it */
+    vdp_home_new_table(home, sizeof home, (uint8_t)(next() % 2));
+    for (unsigned n = 0; n < 11; n++)
+        home[VDP_AT_REGISTERS + n] = (uint8_t)next();
+    for (unsigned n = 0; n < 32; n++)
+        home[VDP_HOME_AT_PALETTE + n] = (uint8_t)next();
+    home[VDP_AT_COUNTER] = (uint8_t)next();
+    home[VDP_AT_CHOSEN] = (uint8_t)(next() % 3);
+    home[VDP_AT_COMMAND_LATCHED] = (uint8_t)(next() % 2);
+    home[VDP_HOME_AT_DIRTY] = (uint8_t)(next() % 2);
+    home[VDP_HOME_AT_VERTICAL_SCROLL] = (uint8_t)next();
     for (unsigned n = 0; n < 64; n++)
         vram[next() % sizeof vram] = (uint8_t)next();
 }
@@ -80,6 +91,15 @@ static void make_record(void)
     vdp_record_next(pixels, 12, at);
 }
 static void make_version(void) { vdp_version(); }
+static void make_home_new(void) { vdp_home_new(home, sizeof home - (next() % 8 == 0)), vdp_home_new_table(home, sizeof home, (uint8_t)(next() % 3)); }
+static void make_home_out(void) { vdp_home_out(home, sizeof home, vram, sizeof vram - (next() % 8 == 0), (uint16_t)(0xBE + next() % 3), (uint8_t)next()); }
+static void make_home_input(void) { vdp_home_input(home, sizeof home, vram, sizeof vram - (next() % 8 == 0), (uint16_t)(next() % 2 ? 0xBE + next() % 2 : 0x7E + next() % 2)); }
+static void make_home_step(void) { vdp_home_step(home, sizeof home, vram, sizeof vram, pixels, VDP_HOME_FRAME_SIZE + (next() % 8 == 0)); }
+static void make_home_row_step(void) { vdp_home_row_step(home, sizeof home, vram, sizeof vram, pixels, VDP_HOME_ROW_SIZE - (next() % 8 == 0)); }
+static void make_home_layer_step(void) { vdp_home_layer_step(home, sizeof home, vram, sizeof vram, pixels, VDP_HOME_FRAME_SIZE, layers, sizeof layers - (next() % 8 == 0)); }
+static void make_home_layer_row_step(void) { vdp_home_layer_row_step(home, sizeof home, vram, sizeof vram, pixels, VDP_HOME_ROW_SIZE, layers, sizeof layers - (next() % 8 == 0)); }
+static void make_home_pixel(void) { vdp_home_pixel(home, sizeof home, vram, sizeof vram - (next() % 8 == 0), next() % 200, next() % 260); }
+static void make_home_dump(void) { vdp_home_dump_tileset(home, sizeof home, vram, sizeof vram, pixels, VDP_TILESET_SIZE - (next() % 8 == 0)); }
 
 static void (*call)(void);
 
@@ -106,13 +126,13 @@ static unsigned long measure(const char *name, void (*what)(void), unsigned turn
         makecontext(&there, run, 0);
         swapcontext(&here, &there);
     }
-    printf("%-18s %5lu bytes\n", name, used);
+    printf("%-24s %5lu bytes\n", name, used);
     return used;
 }
 
 int main(void)
 {
-    unsigned long most = 0, each[12];
+    unsigned long most = 0, each[21];
     for (unsigned n = 0; n < sizeof vram; n++)
         vram[n] = (uint8_t)next();
     each[0] = measure("vdp_new", make_new, TURNS);
@@ -127,7 +147,16 @@ int main(void)
     each[9] = measure("vdp_pixel", make_pixel, TURNS);
     each[10] = measure("vdp_repair", make_repair, TURNS);
     each[11] = measure("vdp_record_*", make_record, TURNS);
-    for (unsigned n = 0; n < 12; n++)
+    each[12] = measure("vdp_home_new", make_home_new, TURNS);
+    each[13] = measure("vdp_home_out", make_home_out, TURNS);
+    each[14] = measure("vdp_home_input", make_home_input, TURNS);
+    each[15] = measure("vdp_home_step", make_home_step, TURNS);
+    each[16] = measure("vdp_home_row_step", make_home_row_step, TURNS);
+    each[17] = measure("vdp_home_layer_step", make_home_layer_step, TURNS);
+    each[18] = measure("vdp_home_layer_row_step", make_home_layer_row_step, TURNS);
+    each[19] = measure("vdp_home_pixel", make_home_pixel, TURNS);
+    each[20] = measure("vdp_home_dump_tileset", make_home_dump, TURNS / 50);
+    for (unsigned n = 0; n < sizeof each / sizeof each[0]; n++)
         most = each[n] > most ? each[n] : most;
     printf("stack: %lu bytes at the most; the header allows %d\n", most, VDP_STACK_NEED);
     return most > VDP_STACK_NEED;

@@ -30,8 +30,8 @@ ready() {
 }
 
 # What the same programs print here.
-for name in frame bare; do cc $strict "$(source_of $name)" build/native/libvdp.a -o $out/here/$name || exit 1; done
-$out/here/frame $out/here/frame.ppm >$out/here/frame.text && $out/here/bare >$out/here/bare.text || exit 1
+for name in frame dock bare; do cc $strict "$(source_of $name)" build/native/libvdp.a -o $out/here/$name || exit 1; done
+$out/here/frame $out/here/frame.ppm >$out/here/frame.text && $out/here/dock $out/here/dock.ppm >$out/here/dock.text && $out/here/bare >$out/here/bare.text || exit 1
 
 for target in aarch64 riscv64 armv7 x86_64; do
     [ $target != "$machine" ] || continue
@@ -46,7 +46,7 @@ for target in aarch64 riscv64 armv7 x86_64; do
     [ "$(grep -c '^define .*signext i32 @vdp_' $folder/vdp.ll)" -eq "$due" ]
     tell "$target: its answers are as its C has them" $?
     status=0
-    for name in replay frame promises record stack fuzz; do $cc $strict "$(source_of $name)" $folder/libvdp.a -o $work/$name || status=1; done
+    for name in replay frame dock promises record stack fuzz; do $cc $strict "$(source_of $name)" $folder/libvdp.a -o $work/$name || status=1; done
     tell "$target: C programs are compiled and linked" $status
     run() {
         local name=$1
@@ -57,6 +57,8 @@ for target in aarch64 riscv64 armv7 x86_64; do
     tell "$target: 65,536 answers of the Rust" $?
     run frame $work/frame.ppm >$work/frame.text && cmp $out/here/frame.text $work/frame.text && cmp $out/here/frame.ppm $work/frame.ppm
     tell "$target: the C example, and the same picture" $?
+    run dock $work/dock.ppm >$work/dock.text && cmp $out/here/dock.text $work/dock.text && cmp $out/here/dock.ppm $work/dock.ppm
+    tell "$target: the home machine's C example, and the same picture" $?
     run promises
     tell "$target: what vdp.h promises a caller" $?
     run record
