@@ -45,6 +45,8 @@ def parser():
         sub.add_argument("--table", type=int, choices=commands.TABLES, default=commands.TABLES[-1], help="the line table of the device: 1, 262 steps to a pass (default), or 0, 261 steps")
         sub.add_argument("--without", action="append", metavar="LABEL", default=[], help="leave out the lines of the script that have this label" if name != "differ" else
                          "of one script, A: compare it without the lines that have this label, and with them")
+        if name != "make":
+            sub.add_argument("--home", action="store_true", help="on the home machine (docs/HOME.md)")
         sub.set_defaults(function=function)
         return sub
 
@@ -68,15 +70,12 @@ def parser():
     output(sub, "the trace")
     sub = command("list", "tell in words what each record of a trace does; what it prints is a script that makes the trace again", commands.list_trace, "trace")
     sub.add_argument("--each", action="store_true", help="every record on a line of its own")
-    sub.add_argument("--home", action="store_true", help="on the home machine (docs/HOME.md), by build/bin/home-trace")
     sub = command("interrupts", "tell the lines that interrupt, a line for each frame", commands.interrupts, "trace")
-    sub.add_argument("--home", action="store_true", help="on the home machine (docs/HOME.md), by build/bin/home-trace")
     sub = command("show", "draw the frames of a trace, several of them as one sheet", commands.show, "trace")
     output(sub, "the PNG")
     looks(sub)
     sub.add_argument("--layers", action="store_true", help="each pixel coloured by the layer that owns it, with a legend below")
-    sub.add_argument("--check", action="store_true", help="also run build/bin/snapshot or layers, and hold its picture to the last frame")
-    sub.add_argument("--home", action="store_true", help="draw on the home machine (docs/HOME.md), 256 x 192, by build/bin/home-snapshot")
+    sub.add_argument("--check", action="store_true", help="also run build/bin/snapshot, layers or home-snapshot, and hold its picture to the last frame")
     running(sub)
     sub = command("differ", "tell which pixels differ between two traces, or with --without between a script without some lines and with them", commands.differ, "one", "other")
     output(sub, "a PNG with the changed pixels marked", False)
@@ -106,7 +105,6 @@ def parser():
     running(sub, False)
     sub = command("page", "put a trace in a page that opens in a browser (docs/PAGE.md)", commands.page, "trace")
     output(sub, "the page")
-    sub.add_argument("--home", action="store_true", help="the trace is for the home machine (docs/HOME.md)")
     return top
 
 

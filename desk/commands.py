@@ -6,7 +6,6 @@ import errors
 import files
 import frame_sprites
 import header
-import home
 import language
 import layers
 import lettering
@@ -52,47 +51,42 @@ def shown(name):
     return errors.shown(name)
 
 
-def scripted(options, name, home_taken, without):
+def scripted(options, name, wanted, without):
     """What a script makes, with its notes told."""
-    made = language.script(name, options.table, home_taken, without)
+    made = language.script(name, options.table, wanted, without)
     for text in made.notes:
         note(text)
-    return made.trace
+    return made
 
 
-def trace_bytes(options, name, at_home, without):
+def machine_of(options):
+    """The machine that is asked for."""
+    return machines.machine(options.home)
+
+
+def trace_bytes(options, name, without):
     """The bytes of a trace; of a script (NAME.desk) those that it makes, but for the lines of these labels."""
     if files.is_script(name):
-        return scripted(options, name, at_home, without)
+        return scripted(options, name, machine_of(options), without).trace
     if without:
         raise errors.Bad(f"desk: {shown(name)}: --without goes with a script, whose name ends in {files.SCRIPT}: a trace has no labels")
     return files.read(name, files.MOST_TRACE)
 
 
-def loaded(options, name, at_home=False, without=None):
-    """The trace that is named; with `at_home` one for the home machine."""
-    data = trace_bytes(options, name, at_home, options.without if without is None else without)
-    return records.Trace(data, shown(name), at_home)
-
-
-def home_alone(command, options):
-    """What does not go with --home."""
-    for given, word, why in (
-        (getattr(options, "layers", False), "--layers", "the home machine has no layers"),
-        (getattr(options, "check", False), "--check", f"the picture is that of the program `{home.SNAPSHOT}` already"),
-        (getattr(options, "area", None) is not None, "--area", "the home machine has one picture, and no areas"),
-        (options.table != TABLES[-1], f"--table {options.table}", "the programs of the home machine go by table 1 alone"),
-    ):
-        if given:
-            raise errors.Bad(f"desk {command}: --home and {word} do not go together: {why}")
+def loaded(options, name, without=None):
+    """The trace that is named, for the machine that is asked for."""
+    data = trace_bytes(options, name, options.without if without is None else without)
+    return records.Trace(data, shown(name), machine_of(options).chip)
 
 
 def played(options, name, keep=None, watch=None, without=None):
     """The trace that is named, run to its end."""
-    return play.Run(loaded(options, name, False, without), options.table, keep, play.Progress(options.progress), watch)
+    return play.Run(loaded(options, name, without), options.table, keep, play.Progress(options.progress), watch)
 
 
 def area_of(options, run):
+    if options.area is not None and options.home:
+        raise errors.Bad(f"desk {options.command}: --home and --area do not go together: the home machine has one picture, and no areas")
     if options.area is not None and not library.is_area(options.area):
         raise errors.Bad(f"desk: area {options.area}: the library has no such area")
     return run.area(options.area)
@@ -126,10 +120,11 @@ def plain(frame, by_layers, colours=layers.COLOURS):
 
 # ---- make and list
 def make(options):
-    trace = scripted(options, options.script, True, options.without)
+    made = scripted(options, options.script, None, options.without)
+    trace = made.trace
     files.write(options.output, trace)
     if options.output != "-":
-        found = records.Trace(trace, options.output)
+        found = records.Trace(trace, options.output, made.machine.chip)
         steps = sum(record.kind == records.STEP for record in found)
         say(f"{shown(options.output)}: {many(len(trace), 'byte')}, {many(found.count, 'record')}, {many(steps, 'step')} among them")
     if len(trace) > records.LIMIT:
@@ -137,17 +132,15 @@ def make(options):
 
 
 def list_trace(options):
-    if options.home:
-        home_alone("list", options)
-    data = trace_bytes(options, options.trace, options.home, options.without)
+    data = trace_bytes(options, options.trace, options.without)
     broken = None
     try:
-        found = records.Trace(data, shown(options.trace), options.home)
+        found = records.Trace(data, shown(options.trace), machine_of(options).chip)
     except records.Broken as error:
         found, broken = error.before, error
     steps = language.PASS[options.table]
     say(f"# {shown(options.trace)}: {many(len(data), 'byte')}, {many(found.count, 'record')}; line table {options.table}, {steps} steps to a pass")
-    text, notes = listing.listed(found, options.table, options.each, options.home)
+    text, notes = listing.listed(found, options.table, options.each)
     sys.stdout.write(text)
     for words in notes:
         note(words)
@@ -158,10 +151,8 @@ def list_trace(options):
 # ---- interrupts
 def interrupts(options):
     """The lines that interrupt, a line for each frame."""
-    if options.home:
-        home_alone("interrupts", options)
-    trace = loaded(options, options.trace, options.home)
-    device, tally = home.Device(trace) if options.home else library.Device(options.table), play.Tally()
+    trace = loaded(options, options.trace)
+    device, tally = library.Device(options.table, trace.chip), play.Tally()
     lines, frame = [], 0
 
     def told(which):
@@ -189,26 +180,14 @@ class Drawn:
         self.frames, self.count, self.screen, self.notes, self.owners = frames, count, screen, notes, owners
 
 
-def drawn_home(options):
-    """On the home machine, by its program."""
-    home_alone("show", options)
-    trace = loaded(options, options.trace, True)
-    found = home.Frames(trace)
-    has_frame(len(found.ends), options.frame, shown(options.trace))
-    if not any(record.kind == records.STEP for record in trace):
-        note("no step of the trace has drawn a row")
-    return Drawn(found.pictures(options.frame, play.Progress(options.progress)), len(found.ends), machines.home().screens[0], found.notes(options.frame))
-
-
 def drawn(options):
-    """On the handheld."""
     trace = loaded(options, options.trace)
     run = play.Run(trace, options.table, options.frame or play.ALL, play.Progress(options.progress))
     area = area_of(options, run)
-    rows_there = sum(count for number, count in run.rows_drawn.items() if library.areas()[number].size == area.size)
+    rows_there = sum(count for number, count in run.rows_drawn.items() if run.areas[number].size == area.size)
     others = sum(run.rows_drawn.values()) - rows_there
     if not rows_there:
-        note(f"no step of the trace has drawn a row of area {area.number}")
+        note(f"no step of the trace has drawn a row of {area.named}")
     if others:
         note(f"{many(others, 'row')} of an area of another size not shown: --area chooses")
     kept, count = run.frames(area), run.count(area)
@@ -217,32 +196,33 @@ def drawn(options):
         check(options, trace.data, area, plain(kept[count], options.layers, layers.PROGRAM))
     wanted = {number: frame for number, frame in kept.items() if options.frame in (None, number)}
     owners = [set(frame.layers) for frame in wanted.values()] if options.layers else []
-    return Drawn({number: plain(frame, options.layers) for number, frame in wanted.items()}, count, machines.handheld().screens[area.number], run.notes(area, options.frame), owners)
+    return Drawn({number: plain(frame, options.layers) for number, frame in wanted.items()}, count, machine_of(options).screens[area.number], run.notes(area, options.frame), owners)
 
 
 def check(options, data, area, last):
     """The proved program of this picture draws the same."""
-    program = "layers" if options.layers else "snapshot"
-    if options.table != TABLES[-1]:
-        if options.layers:
-            raise errors.Bad("desk show: --check: the program `layers` goes by table 1 alone")
-        program += "-261"
-    if area.size != library.areas()[0].size:
-        raise errors.Bad(f"desk show: --check: `{program}` draws no area {area.number}")
+    known = machine_of(options).programs
+    program = known.get("layers" if options.layers else str(options.table))
+    if options.layers and program and options.table != TABLES[-1]:
+        raise errors.Bad(f"desk show: --check: the program `{program}` goes by table {TABLES[-1]} alone")
+    if not program:
+        raise errors.Bad(f"desk show: --check: no program draws the home machine's {'layers' if options.layers else 'picture by table 0'}")
+    if area.size != library.areas(area.chip)[0].size:
+        raise errors.Bad(f"desk show: --check: `{program}` draws no {area.named}")
     if programs.picture(program, data).data != last.data:
         raise errors.Bad(f"desk: THE PICTURE OF `{program}` IS ANOTHER: believe the program, and tell us")
     say(f"checked: `{program}` draws the same")
 
 
 def show(options):
-    found = drawn_home(options) if options.home else drawn(options)
+    found = drawn(options)
     sheet = finished(options, list(found.frames.values()), found.screen, None, found.owners)
     size = f"{found.screen.columns} x {found.screen.rows}"
     if options.frame:
         what = f"frame {options.frame} of {found.count}, {size}"
     else:
         what = f"1 frame, {size}" if found.count == 1 else f"{found.count:,} frames of {size}, row by row"
-    how = (", by layers" if options.layers else "") + (", on the home machine" if options.home else "")
+    how = (", by layers" if options.layers else "") + machine_of(options).said
     save(options.output, sheet, what + (f", scale {options.scale}" if options.scale > 1 else "") + how)
     for words in found.notes:
         note(words)
@@ -285,7 +265,7 @@ def differ(options):
             owners += [set(frame.layers) for frame in frames] if options.layers and options.sides else []
     if options.output:
         what = ("A, B, and B" if options.sides else "B") + " with the changed pixels in magenta"
-        save(options.output, finished(options, found, machines.handheld().screens[areas[0].number], 3 if options.sides else None, owners), what)
+        save(options.output, finished(options, found, machine_of(options).screens[areas[0].number], 3 if options.sides else None, owners), what)
     for letter, (_, run), area in zip("AB", both, areas):
         for words in run.notes(area, options.frame):
             note(words if one_run.notes(areas[0], options.frame) == other_run.notes(areas[1], options.frame) else f"{letter}: {words}")
@@ -309,7 +289,7 @@ def told_row(options):
     run = played(options, options.trace, None, watch)
     area = area_of(options, run)
     if options.row >= area.rows:
-        raise errors.Bad(f"desk: row {options.row}: area {area.number} has rows 0 to {area.rows - 1}")
+        raise errors.Bad(f"desk: row {options.row}: {area.named} has rows 0 to {area.rows - 1}")
     count = run.count(area)
     has_frame(count, options.frame, name)
     if options.now:
@@ -328,7 +308,7 @@ def told_row(options):
 def pixel(options):
     told, when = told_row(options)
     if options.column >= told.area.columns:
-        raise errors.Bad(f"desk: column {options.column}: area {told.area.number} has columns 0 to {told.area.columns - 1}")
+        raise errors.Bad(f"desk: column {options.column}: {told.area.named} has columns 0 to {told.area.columns - 1}")
     say(rows.pixel_text(told, options.column, when))
 
 
@@ -349,8 +329,8 @@ def every_row(options):
     kept = {}
 
     def watch(area, row, frame, device, pixels, layers):
-        if area.number not in rules.VIEWS:
-            raise errors.Bad(f"desk: the desk has no rules for the sprites of area {area.number}")
+        if not rules.view_of(area):
+            raise errors.Bad(f"desk: the desk has no rules for the sprites of {area.named}")
         if options.frame in (None, frame):
             kept.setdefault((area.size, frame), {})[row] = frame_sprites.OnRow(rows.Row(device, area, row), options.sprite)
 
@@ -359,7 +339,7 @@ def every_row(options):
     has_frame(run.count(area), options.frame, shown(options.trace))
     for (size, frame), by_row in sorted(kept.items()):
         if size == area.size:
-            say(f"frame {frame} of {run.count(area)}, area {area.number}:")
+            say(f"frame {frame} of {run.count(area)}, {area.named}:")
             say(frame_sprites.words(by_row, options.sprite))
     if not any(size == area.size for size, _ in kept):
         say("the trace draws no row")
@@ -383,9 +363,12 @@ def tiles(options):
 
 def palette(options):
     device = played(options, options.trace).device
-    stored, colours = device.at("PALETTE", 64), device.colours()
+    size, colours = machine_of(options).palette.bytes, device.colours()
+    stored = device.at("PALETTE", size * len(colours))
+    if options.home:
+        say("home")  # so that it is a script
     for number, (red, green, blue, _) in enumerate(colours):
-        say(f"colour {number:2} = {stored[2 * number]:02X} {stored[2 * number + 1]:02X}  # red {red:3}, green {green:3}, blue {blue:3}")
+        say(f"colour {number:2} = {listing.hexes(stored[size * number : size * (number + 1)])}  # red {red:3}, green {green:3}, blue {blue:3}")
     if device.at("DIRTY"):
         note("the palette has changed since the last row was drawn: the next row will show these colours")
     if options.output:
@@ -397,13 +380,11 @@ def palette(options):
 def page(options):
     name, script, at_home = options.trace, "", options.home
     if files.is_script(name):
-        made = language.script(name, options.table, True, options.without)
-        for text in made.notes:
-            note(text)
-        data, script, at_home = made.trace, files.text(name), made.home or at_home
+        made = scripted(options, name, machines.home() if at_home else None, options.without)
+        data, script, at_home = made.trace, files.text(name), made.machine.home
     else:
-        data = trace_bytes(options, name, at_home, options.without)
-    records.Trace(data, shown(name), at_home)
+        data = trace_bytes(options, name, options.without)
+    records.Trace(data, shown(name), machines.machine(at_home).chip)
     text = pages.made(pages.given(name, data, script, at_home, options.table, {})).encode("utf-8")
     files.write(options.output, text)
     if options.output != "-":

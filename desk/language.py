@@ -8,7 +8,6 @@ import re
 import blocks
 import errors
 import files
-import home
 import library
 import machines
 import png
@@ -18,6 +17,7 @@ from line import Wrong
 
 COMMAND, DATA = library.N["PORT_COMMAND"], library.N["PORT_DATA"]
 PASS = {library.N["OLD_TABLE"]: library.N["OLD_PASS_STEPS"], library.N["CHART_TABLE"]: library.N["CHART_PASS_STEPS"]}
+LAST_LINE = 255  # of a frame: the step from it, to line 0, begins the next
 CODES = r"[0-9A-Fa-f]+"
 FLAGS = {"across": 2, "down": 4, "palette1": 8, "priority": 16}
 MOST_ERRORS = 20
@@ -45,7 +45,8 @@ how many and which one (steps, lines, tiles, places) is decimal, or hexadecimal 
   until line 90               steps, at least one, until the line counter reads 90
   until row 66                steps, at least one, until row 66 has been drawn
   until interrupt             steps, at least one, until one of them interrupts
-  pass, passes 2              as many steps as a pass has, or twice as many
+  frame, frames 2             steps, at least one, until the line counter reads 255, where a frame has ended; or until the second has
+  pass, passes 2              as many steps as a pass has, or twice as many: on a fresh device to line 0, the first of the next frame
   area 1                      steps are of this area from here on, and so are the places of sprites
   read 7E                     a read of port 7E
   write BF = 00 40            bytes to a port, just as they are; `times` goes here too
@@ -72,18 +73,23 @@ class Full(Exception):
 class Maker:
     """A script on its way to a trace."""
 
-    def __init__(self, folder, table, home_taken=True, without=()):
-        self.folders, self.table, self.home_taken, self.pass_steps = [folder], table, home_taken, PASS[table]
+    def __init__(self, folder, table, wanted=None, without=()):
+        self.folders, self.table, self.wanted, self.pass_steps = [folder], table, wanted, PASS[table]
         self.without, self.labels = set(without), {None}
-        self.machine, self.palette, self.statements = machines.handheld(), None, 0  # palette: the home machine's
-        self.device, self.area, self.trace = library.Device(table), 0, bytearray()
-        self.screen, self.unseen, self.place = self.machine.screens[0], unseen.Unseen(), ""
+        self.statements, self.trace = 0, bytearray()
+        self.unseen, self.place = unseen.Unseen(), ""
         self.wrong, self.status = [], 1
-        self.lend()
+        self.on(machines.handheld())
 
-    def lend(self):
-        """What the steps of the area draw into."""
-        area = library.areas()[self.area]
+    def on(self, machine):
+        """The script is for this machine, and a fresh device goes along."""
+        self.machine, self.device = machine, library.Device(self.table, machine.chip)
+        self.of_area(0)
+
+    def of_area(self, number):
+        """Steps are of this area from here on; what they draw into."""
+        area = library.areas(self.machine.chip)[number]
+        self.area, self.screen = number, self.machine.screens[number]
         self.row, self.layers = area.row(), area.layers()
 
     # ---- lines and blocks
@@ -120,6 +126,8 @@ class Maker:
         word = "colour" if first.text == "color" else first.text
         if first.quoted or word not in STATEMENTS:
             raise Wrong(first.column, f"{first} is no statement: {', '.join(STATEMENTS)}")
+        if word not in ("home", "include") and self.wanted not in (None, self.machine) and not self.wrong:  # an `include` that failed may have had it
+            raise Wrong(first.column, other_machine(self.machine), last=True)
         self.statements += 1
         if self.statements > MOST_STATEMENTS:
             raise Wrong(first.column, f"more than {MOST_STATEMENTS:,} statements", last=True)
@@ -162,8 +170,6 @@ class Maker:
         if port == DATA and self.device.at("CHOSEN") == library.CHOSEN_VIDEO:
             self.unseen.wrote(self.device.address, len(values), self.place)
         for value in values:
-            if self.palette:
-                self.palette.write(self.device, port, value)
             self.device.out(port, value)
         self.trace += records.write(port, *values)
 
@@ -189,9 +195,8 @@ class Maker:
             answer = device.row_step(self.row, self.layers, self.area)
             self.trace += record
             count += 1
-            row = self.screen.row_at(device.counter)
-            if row is not None:
-                drawn.add((row, device.at("VERTICAL_SCROLL")))
+            if answer.drawn:
+                drawn.add((answer.row, device.at("VERTICAL_SCROLL")))
             if not going(answer, count):
                 break
         if drawn:
@@ -316,7 +321,7 @@ class Maker:
             raise Wrong(token.column, f"{name}: {len(places):,} tiles, and there are 512: behind the file its tile can be named")
         shown = {}
         if image.palette is None:
-            colours = self.palette.colours() if self.palette else self.device.colours()
+            colours = self.device.colours()
             # of two that are the same the first counts; code 0 stays for what cannot be seen, where there is such a pixel
             for code in reversed(range(image.clear(), 16)):
                 shown[self.machine.palette.upper(colours[palette + code])] = code
@@ -401,6 +406,19 @@ class Maker:
         line.close()
         self.steps(line, count * self.pass_steps)
 
+    def frames(self, line, count):
+        for _ in range(count):
+            self.step(line, lambda answer, done: self.device.counter != LAST_LINE)
+
+    def do_frame(self, line):
+        line.close()
+        self.frames(line, 1)
+
+    def do_frames(self, line):
+        count = line.number("how many frames", 10000, 1)
+        line.close()
+        self.frames(line, count)
+
     def do_until(self, line):
         token = line.take("`line`, `row` or `interrupt`")
         if token.text == "line" and not token.quoted:
@@ -410,7 +428,7 @@ class Maker:
         elif token.text == "row" and not token.quoted:
             wanted = line.number("the row", self.screen.rows - 1)
             line.close()
-            self.step(line, lambda answer, done: self.screen.row_at(self.device.counter) != wanted)
+            self.step(line, lambda answer, done: not answer.drawn or answer.row != wanted)
         elif token.text == "interrupt" and not token.quoted:
             line.close()
             last = self.step(line, lambda answer, done: not answer.interrupt and done < 2 * self.pass_steps)
@@ -438,31 +456,31 @@ class Maker:
 
     def do_home(self, line):
         line.close()
-        why = None
-        if not self.home_taken:
-            why = "the script is for the home machine: `desk make` takes it, and `show`, `list` and `interrupts` with --home"
-        elif self.palette or self.statements != len(self.folders):  # but for the `include` of each script that is open
-            why = "`home` stands before all other statements"
-        elif self.table != library.N["CHART_TABLE"]:
-            why = "the programs of the home machine go by table 1 alone"
-        if why:
-            raise Wrong(line.found[0].column, why, last=True)
-        self.machine, self.palette = machines.home(), home.Palette()
-        self.screen = self.machine.screens[0]
+        if self.machine.home or self.statements != len(self.folders):  # but for the `include` of each script that is open
+            raise Wrong(line.found[0].column, "`home` stands before all other statements", last=True)
+        if self.wanted not in (None, machines.home()):
+            raise Wrong(line.found[0].column, other_machine(machines.home()), last=True)
+        self.on(machines.home())
 
     def do_area(self, line):
-        if self.palette:
+        if self.machine.home:
             raise Wrong(line.found[0].column, "the home machine has one picture, and no areas")
         token = line.peek()
         number = line.number("the area", 255)
         line.close()
         if not library.is_area(number):
             raise Wrong(token.column, f"area {number}: the library has no such area")
-        self.area, self.screen = number, self.machine.screens[number]
-        self.lend()
+        self.of_area(number)
 
 
 STATEMENTS = sorted([name[3:] for name in dir(Maker) if name.startswith("do_")] + ["repeat", "end"])
+
+
+def other_machine(machine):
+    """What is told of a script for this machine, where the other one was asked for."""
+    if machine.home:
+        return "the script is for the home machine: --home takes it"
+    return "the script is for the handheld, as no `home` stands before all other statements: without --home it is taken, or with --home the trace that `desk make` makes of it"
 
 
 def _behind(error, name=None):
@@ -480,22 +498,24 @@ def tile_places(across, down, tall):
 
 
 class Made:
-    """What a script makes: a trace, the notes to its author, and whether it is for the home machine."""
+    """What a script makes: a trace, the machine that it is for, and the notes to its author."""
 
     def __init__(self, maker):
-        self.trace, self.home = bytes(maker.trace), maker.palette is not None
+        self.trace, self.machine = bytes(maker.trace), maker.machine
         self.notes = [f"{place}: {words}" if place else words for place, words in maker.unseen.notes()]
 
 
-def made(text, name, folder, table, home_taken=True, without=()):
-    """What a script makes. Refused, with every error by line and column, where something is wrong."""
-    maker = Maker(str(folder), table, home_taken, without)
+def made(text, name, folder, table, wanted=None, without=()):
+    """What a script makes, for the machine that is wanted, or for either. Refused, with every error by line and column, where something is wrong."""
+    maker = Maker(str(folder), table, wanted, without)
     try:
         maker.run(text, name)
     except Full:
         pass
     if maker.wrong:
         raise Refused(maker.wrong, maker.status)
+    if wanted not in (None, maker.machine):  # which a script with no statements has not told
+        raise errors.Bad(f"desk: {errors.shown(name)}: {other_machine(maker.machine)}")
     for label in without:
         if label not in maker.labels:
             there = ", ".join(sorted(maker.labels - {None})) or "none"
@@ -503,6 +523,6 @@ def made(text, name, folder, table, home_taken=True, without=()):
     return Made(maker)
 
 
-def script(name, table, home_taken=True, without=()):
+def script(name, table, wanted=None, without=()):
     """The same of a file, or of standard input."""
-    return made(files.text(name), name, "" if name == "-" else os.path.dirname(name), table, home_taken, without)
+    return made(files.text(name), name, "" if name == "-" else os.path.dirname(name), table, wanted, without)

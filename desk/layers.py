@@ -5,9 +5,9 @@ import pathlib
 import errors
 import header
 
-BACKGROUND, HELD_BACK, SPRITE = (header.NUMBERS["LAYER_" + name] for name in ("BACKGROUND", "HELD_BACK", "SPRITE"))
+BACKGROUND, HELD_BACK, FILLED, SPRITE = (header.NUMBERS["LAYER_" + name] for name in ("BACKGROUND", "HELD_BACK", "FILLED", "SPRITE"))
 UNDRAWN = 255  # in place of a layer, where no step has drawn
-NAMES = {BACKGROUND: "background", HELD_BACK: "held back", UNDRAWN: "not drawn"}
+NAMES = {BACKGROUND: "background", HELD_BACK: "held back", FILLED: "filled", UNDRAWN: "not drawn"}
 
 
 def _loaded():
@@ -32,7 +32,7 @@ def words(layer):
         return "nothing drawn"
     if layer >= SPRITE:
         return f"sprite {layer - SPRITE}"
-    return "background, which holds a sprite back" if layer == HELD_BACK else "background"
+    return {HELD_BACK: "background, which holds a sprite back", FILLED: "the fill of columns 0 to 7"}.get(layer, "background")
 
 
 def words_at(picture, y, x):

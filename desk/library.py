@@ -1,29 +1,57 @@
-"""The proved library through its C calls: a device with its video memory, and what areas there are."""
+"""The proved library through its C calls: a device of either machine with its video memory, and what areas there are."""
 import ctypes
 import functools
 import os
+import types
 
 import errors
 import header
 
 N = header.NUMBERS
-STATE, VRAM = N["STATE_SIZE"], N["VRAM_SIZE"]
+VRAM = N["VRAM_SIZE"]
 NO_SUCH_AREA = N["REFUSED_AREA"]
 CHOSEN_VIDEO, CHOSEN_PALETTE = 1, 2  # at VDP_AT_CHOSEN
 
 _pointer, _size, _byte = ctypes.c_void_p, ctypes.c_size_t, ctypes.c_uint8
 _slice = [_pointer, _size]
+# What both machines have, by the names behind their prefix; in the place of AREA stands that of a step or a pixel, where the machine has areas.
+AREA = object()
 CALLS = {
-    "vdp_version": [],
-    "vdp_new_table": _slice + [_byte],
-    "vdp_out": _slice * 2 + [ctypes.c_uint16, _byte],
-    "vdp_input": _slice * 2 + [ctypes.c_uint16],
-    "vdp_layer_step": _slice * 4 + [_byte],
-    "vdp_layer_row_step": _slice * 4 + [_byte],
-    "vdp_dump_tileset": _slice * 3,
-    "vdp_pixel": _slice * 2 + [_byte, ctypes.c_uint32, ctypes.c_uint32],
-    "vdp_write_tile": _slice + [ctypes.c_uint16] + _slice,
+    "new_table": _slice + [_byte],
+    "out": _slice * 2 + [ctypes.c_uint16, _byte],
+    "input": _slice * 2 + [ctypes.c_uint16],
+    "layer_step": _slice * 4 + [AREA],
+    "layer_row_step": _slice * 4 + [AREA],
+    "dump_tileset": _slice * 3,
+    "pixel": _slice * 2 + [AREA, ctypes.c_uint32, ctypes.c_uint32],
 }
+OTHERS = {"vdp_version": [], "vdp_write_tile": _slice + [ctypes.c_uint16] + _slice}
+
+
+class Chip:
+    """A machine as the library has it: how its calls begin, the size of its block and what stands where in it, and whether there are areas."""
+
+    def __init__(self, name, prefix, size, offsets, has_areas):
+        self.name, self.prefix, self.size, self.offsets, self.has_areas = name, prefix, size, offsets, has_areas
+
+    def area(self, number):
+        """What a call is given for an area."""
+        return [number] if self.has_areas else []
+
+    @functools.lru_cache(maxsize=None)
+    def calls(self):
+        """Its calls, by the names behind their prefix."""
+        library = opened()
+        return types.SimpleNamespace(**{name: getattr(library, self.prefix + name) for name in CALLS})
+
+
+def _offsets(prefix, below=1 << 16):
+    return {name[len(prefix) :]: at for name, at in N.items() if name.startswith(prefix) and at < below}
+
+
+HANDHELD = Chip("handheld", "vdp_", N["STATE_SIZE"], _offsets("AT_"), True)
+# Up to its own part a home block is laid out as the handheld's.
+HOME = Chip("home", "vdp_home_", N["HOME_STATE_SIZE"], {**_offsets("AT_", N["HOME_AT_VERTICAL_SCROLL"]), **_offsets("HOME_AT_")}, False)
 
 
 @functools.lru_cache(maxsize=None)
@@ -34,10 +62,11 @@ def opened():
         raise errors.Failed(f"desk: no {path}: `make desk` makes it")
     try:
         library = ctypes.CDLL(path)
-        for name, arguments in CALLS.items():
-            call = getattr(library, name)
-            call.argtypes = arguments
-            call.restype = ctypes.c_uint64 if name == "vdp_pixel" else ctypes.c_uint32
+        known = {chip.prefix + name: arguments for chip in (HANDHELD, HOME) for name, arguments in CALLS.items()}
+        for name, arguments in {**known, **OTHERS}.items():
+            call, area = getattr(library, name), not name.startswith(HOME.prefix)
+            call.argtypes = [_byte if argument is AREA else argument for argument in arguments if area or argument is not AREA]
+            call.restype = ctypes.c_uint64 if name.endswith("_pixel") else ctypes.c_uint32
     except (OSError, AttributeError) as error:
         raise errors.Failed(f"desk: {path}: {error}")
     wanted = (N["VERSION_MAJOR"] << 16) + (N["VERSION_MINOR"] << 8) + N["VERSION_SMALL"]
@@ -71,16 +100,16 @@ class Answer:
 
 
 class Device:
-    """A device of either line table and its video memory."""
+    """A device of either machine and either line table, and its video memory."""
 
-    def __init__(self, table=N["CHART_TABLE"]):
-        self.calls = opened()
-        self.state, self.vram = Buffer(STATE), Buffer(VRAM)
-        self.calls.vdp_new_table(*self.state.slice, table)
+    def __init__(self, table=N["CHART_TABLE"], chip=HANDHELD):
+        self.chip, self.calls = chip, chip.calls()
+        self.state, self.vram = Buffer(chip.size), Buffer(VRAM)
+        self.calls.new_table(*self.state.slice, table)
 
     def copy(self):
         other = object.__new__(Device)
-        other.calls, other.state, other.vram = self.calls, self.state.copy(), self.vram.copy()
+        other.chip, other.calls, other.state, other.vram = self.chip, self.calls, self.state.copy(), self.vram.copy()
         return other
 
     def mark(self):
@@ -91,8 +120,8 @@ class Device:
         self.state.bytes[:] = mark
 
     def at(self, name, count=1):
-        """The bytes of the state block at VDP_AT_name: a number, or several as bytes."""
-        start = N["AT_" + name]
+        """The bytes of the block at VDP_AT_name, or VDP_HOME_AT_name: a number, or several as bytes."""
+        start = self.chip.offsets[name]
         return self.state.bytes[start] if count == 1 else bytes(self.state.bytes[start : start + count])
 
     @property
@@ -110,34 +139,35 @@ class Device:
 
     def out(self, port, value):
         """The refusal of a write."""
-        return self.calls.vdp_out(*self.state.slice, *self.vram.slice, port, value) & 0xFF
+        return self.calls.out(*self.state.slice, *self.vram.slice, port, value) & 0xFF
 
     def input(self, port):
         """The refusal of a read, and its byte."""
-        word = self.calls.vdp_input(*self.state.slice, *self.vram.slice, port)
+        word = self.calls.input(*self.state.slice, *self.vram.slice, port)
         return word & 0xFF, word >> 8 & 0xFF
 
     def step(self, frame, layers, area):
         """A step that draws its row in the frame, and the row's layers at the start of theirs."""
-        return Answer(self.calls.vdp_layer_step(*self.state.slice, *self.vram.slice, *frame.slice, *layers.slice, area))
+        return Answer(self.calls.layer_step(*self.state.slice, *self.vram.slice, *frame.slice, *layers.slice, *self.chip.area(area)))
 
     def row_step(self, row, layers, area):
-        return Answer(self.calls.vdp_layer_row_step(*self.state.slice, *self.vram.slice, *row.slice, *layers.slice, area))
+        return Answer(self.calls.layer_row_step(*self.state.slice, *self.vram.slice, *row.slice, *layers.slice, *self.chip.area(area)))
 
     def pixel(self, area, row, column):
         """The four bytes of a pixel as its row would be drawn now, or None where there is none."""
-        word = self.calls.vdp_pixel(*self.state.slice, *self.vram.slice, area, row, column)
+        word = self.calls.pixel(*self.state.slice, *self.vram.slice, *self.chip.area(area), row, column)
         return (word >> 32).to_bytes(4, "little") if word >> 24 & 1 else None
 
     def dump(self, sheet):
-        return self.calls.vdp_dump_tileset(*self.state.slice, *self.vram.slice, *sheet.slice) & 0xFF
+        return self.calls.dump_tileset(*self.state.slice, *self.vram.slice, *sheet.slice) & 0xFF
 
     def row_now(self, area, row):
         """A row as it would be drawn now: its pixels, its layers, and the status bits that it sets. The device stays."""
-        other, place = self.copy(), areas()[area]
-        other.state.bytes[N["AT_STATUS"]] = 0
-        other.state.bytes[N["AT_COUNTER"]] = (place.first_line + row - 1) % 256
-        other.state.bytes[N["AT_JUMPED"]] = 1  # so that the next line is this row's, and no jump
+        other, place, at = self.copy(), areas(self.chip)[area], self.chip.offsets
+        other.state.bytes[at["STATUS"]] = 0
+        other.state.bytes[at["REGISTERS"] + 9] = self.at("VERTICAL_SCROLL")  # which a step to line 0 takes
+        other.state.bytes[at["COUNTER"]] = (place.first_line + row - 1) % 256
+        other.state.bytes[at["JUMPED"]] = 1  # so that the next line is this row's, and no jump
         pixels, layers = place.row(), place.layers()
         answer = other.row_step(pixels, layers, area)
         assert answer.drawn and answer.row == row
@@ -145,7 +175,7 @@ class Device:
 
     def settled(self):
         """A copy whose colours are those of the palette: it has gone on to a row, and drawn it."""
-        other, area = self.copy(), areas()[0]
+        other, area = self.copy(), areas(self.chip)[0]
         row, layers = area.row(), area.layers()
         while not other.row_step(row, layers, area.number).drawn:
             pass
@@ -165,11 +195,13 @@ def tile_bytes(codes):
 
 
 class Area:
-    """An area as the library has it: its size, the line that draws its first row, and the X byte of a sprite in its column 0."""
+    """An area as the library has it, or the one screen of the home machine: its size, the line that draws its first row, and the X byte of a sprite in its
+    column 0."""
 
-    def __init__(self, number):
-        self.number = number
-        device = Device()
+    def __init__(self, number, chip):
+        self.number, self.chip = number, chip
+        self.named = f"area {number}" if chip.has_areas else "the home machine"
+        device = Device(chip=chip)
         self.rows = _most(lambda row: device.pixel(number, row, 0))
         self.columns = _most(lambda column: device.pixel(number, 0, column))
         # sprite 0, solid, at X 128 of the line that comes, until a row is drawn
@@ -204,10 +236,12 @@ def _most(there):
     return count
 
 
-def is_area(number):
-    """Whether the library takes an area of this number."""
+def is_area(number, chip=HANDHELD):
+    """Whether the library takes an area of this number. The home machine has none, and its steps stand in a trace as of area 0."""
+    if not chip.has_areas:
+        return number == 0
     device = _probe()
-    return number < 256 and device.calls.vdp_pixel(*device.state.slice, *device.vram.slice, number, 0, 0) & 0xFF != NO_SUCH_AREA
+    return number < 256 and device.calls.pixel(*device.state.slice, *device.vram.slice, number, 0, 0) & 0xFF != NO_SUCH_AREA
 
 
 @functools.lru_cache(maxsize=None)
@@ -215,11 +249,15 @@ def _probe():
     return Device()
 
 
-@functools.lru_cache(maxsize=None)
-def areas():
+def areas(chip=HANDHELD):
     """All that the library takes, by their numbers."""
+    return _areas(chip)
+
+
+@functools.lru_cache(maxsize=None)
+def _areas(chip):
     found, number = {}, 0
-    while number < 256 and is_area(number):
-        found[number] = Area(number)
+    while number < 256 and is_area(number, chip):
+        found[number] = Area(number, chip)
         number += 1
     return found

@@ -1,6 +1,5 @@
 """A trace in words: statements of the language that make the same bytes again, each with what it does."""
 import header
-import home
 import language
 import library
 import machines
@@ -83,13 +82,13 @@ def hexes(values):
 class Lister:
     """Goes through the records with a device beside them, and makes lines of statement and words."""
 
-    def __init__(self, found, table, each, at_home):
+    def __init__(self, found, table, each):
         self.found, self.each, self.at = list(found), each, 0
         self.lines, self.area, self.drawn = [], 0, None
-        self.machine, self.tally = machines.machine(at_home), play.Tally()
+        self.machine, self.tally = machines.of(found.chip), play.Tally()
         self.screens = self.machine.screens
-        self.device = home.Device(found) if at_home else library.Device(table)
-        if at_home:
+        self.device = library.Device(table, found.chip)
+        if self.machine.home:
             self.say("home", f"the home machine, {self.screens[0].columns} x {self.screens[0].rows}")
 
     def say(self, statement, words, refusals=(), place=""):
@@ -214,7 +213,8 @@ class Lister:
         if area != self.area:
             self.say(f"area {area}", f"steps of area {area} from here on, {size[0]} x {size[1]}")
             self.area = area
-        row, layers = library.areas()[area].row(), library.areas()[area].layers()
+        place = library.areas(self.machine.chip)[area]
+        row, layers = place.row(), place.layers()
         sort, count, first, last = None, 0, None, None
         while self.at < len(self.found) and self.found[self.at].kind == records.STEP and self.found[self.at].place == area:
             mark, before = self.device.mark(), self.device.counter
@@ -248,7 +248,7 @@ class Lister:
         return [play.off_words(self.tally.off[size]) for size in sorted(self.tally.off)]
 
 
-def listed(found, table, each=False, at_home=False):
+def listed(found, table, each=False):
     """The text of a listing, and what is to be said of its frames."""
-    lister = Lister(found, table, each, at_home)
+    lister = Lister(found, table, each)
     return "".join(f"{statement:{WIDTH}}  # {words}\n" for statement, words in lister.run()), lister.notes()

@@ -1,4 +1,5 @@
-"""What each machine has, in one table (machines.json): its screens, the form of its palette, and the words for what is written to its registers."""
+"""What each machine has: its screens, as the library tells them, and in one table (machines.json) the form of its palette and the words for what is written to
+its registers."""
 import functools
 import json
 import pathlib
@@ -13,12 +14,9 @@ TILE = 8
 class Screen:
     """A screen of 8 x 8 tiles: its size, the line that draws its row 0, and the X byte of a sprite in its column 0. What the library has as an area is one."""
 
-    def __init__(self, view, columns, rows, first_line, left):
-        self.view, self.columns, self.rows, self.first_line, self.left = view, columns, rows, first_line, left
-
-    def row_at(self, line):
-        """The row that the step to this line draws, or None."""
-        return line - self.first_line if 0 <= line - self.first_line < self.rows else None
+    def __init__(self, area):
+        self.view = rules.view_of(area) or rules.Visible
+        self.columns, self.rows, self.first_line, self.left = area.columns, area.rows, area.first_line, area.left
 
     def early(self, registers):
         """How far to the left the early clock puts a sprite (R5.9)."""
@@ -84,10 +82,14 @@ class Palette:
 
 
 class Machine:
-    """A machine: its screens by the area of a step, its palette, its words."""
+    """A machine: its chip, its screens by the area of a step, its palette, its words. What its table has not is as in that of the handheld."""
 
-    def __init__(self, home, screens, palette, registers):
-        self.home, self.screens, self.palette, self.registers = home, screens, palette, registers
+    def __init__(self, chip):
+        told = data()[chip.name]
+        self.chip, self.home = chip, chip is library.HOME
+        self.screens = {number: Screen(area) for number, area in library.areas(chip).items()}
+        self.palette, self.registers = Palette(told["palette"]), {**data()["handheld"]["registers"], **told["registers"]}
+        self.said, self.programs = told["said"], told["programs"]
 
     def register_words(self, number, value):
         """What the rules read in a register."""
@@ -114,19 +116,20 @@ def data():
 
 @functools.lru_cache(maxsize=None)
 def handheld():
-    told = data()["handheld"]
-    screens = {number: Screen(rules.VIEWS.get(number, rules.Visible), area.columns, area.rows, area.first_line, area.left) for number, area in library.areas().items()}
-    return Machine(False, screens, Palette(told["palette"]), told["registers"])
+    return Machine(library.HANDHELD)
 
 
 @functools.lru_cache(maxsize=None)
 def home():
-    told = data()["home"]
-    return Machine(True, {0: Screen(rules.Home, **told["screen"])}, Palette(told["palette"]), {**data()["handheld"]["registers"], **told["registers"]})
+    return Machine(library.HOME)
 
 
 def machine(is_home):
     return home() if is_home else handheld()
+
+
+def of(chip):
+    return machine(chip is library.HOME)
 
 
 def status_words(value):

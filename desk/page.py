@@ -8,7 +8,6 @@ import re
 import errors
 import header
 
-HOME_CALLS = "HOME_STATE_SIZE"  # in include/vdp.h, where the library has calls for the home machine
 PAGE = pathlib.Path(os.environ.get("DESK_PAGE") or header.ROOT / "build" / "desk.html")  # of `make page`, or the one that DESK_PAGE names
 GIVEN = re.compile(r'(<script type="application/json" id="given">)(.*?)(</script>)', re.S)
 
@@ -20,8 +19,6 @@ def plain(value):
 
 def given(name, data, script, at_home, table, question):
     """What the page is given: the bytes of a trace, its name, of a script its text, the machine, the line table and the question to begin with."""
-    if at_home and HOME_CALLS not in header.NUMBERS:
-        raise errors.Bad(f"desk: {errors.shown(name)}: it is for the home machine, and the page's library has no calls for it")
     return {"trace": base64.b64encode(data).decode("ascii"), "name": os.path.basename(errors.shown(name)), "script": script,
             "machine": "home machine" if at_home else "handheld", "table": table, "question": question}
 

@@ -10,6 +10,7 @@ import records
 
 DISPLAY_OFF = library.N["SCREEN_DONE_NO_REFRESH"]
 LAST_LINE = 255  # the step from it begins a pass
+FIRST_LINE = 0
 ALL = 0  # frames to keep
 MOST = 1000  # that are kept
 
@@ -77,10 +78,16 @@ def off_words(numbers):
     return f"frames {difference.runs(numbers)} end with the display off; a player shows nothing new"
 
 
+def begun_words(number):
+    """What is to be said of a last frame that has row 0 alone."""
+    return f"frame {number} has row 0 alone: the last step of the trace, to line 0, begins it (in a script, `frame` in place of `pass` ends before that step)"
+
+
 def walked(trace, device, tally):
-    """The records of a trace, done one after the other on a device of either machine: of each the answer, where it is a step, and the frames that ended
-    before it."""
-    row, layers = library.Buffer(max(4 * area.columns for area in library.areas().values())), library.Buffer(max(area.columns for area in library.areas().values()))
+    """The records of a trace, done one after the other on a device: of each the answer, where it is a step, and the frames that ended before it."""
+    areas = library.areas(device.chip)
+    columns = max(area.columns for area in areas.values())
+    row, layers = library.Buffer(4 * columns), library.Buffer(columns)
     for record in trace:
         answer, ended = None, []
         if record.kind == records.WRITE:
@@ -90,7 +97,7 @@ def walked(trace, device, tally):
         else:
             ended = tally.began(device.counter)
             answer = device.row_step(row, layers, record.place)
-            tally.step(library.areas()[record.place].size, answer.drawn, answer.report)
+            tally.step(areas[record.place].size, answer.drawn, answer.report)
         yield record, answer, ended
 
 
@@ -118,7 +125,8 @@ class Run:
     draws: area, row, the frame's number, device, and the row's pixels and layers."""
 
     def __init__(self, trace, table, keep=None, progress=None, watch=None):
-        self.device, self.keep, self.watch = library.Device(table), keep, watch
+        self.device, self.keep, self.watch = library.Device(table, trace.chip), keep, watch
+        self.areas, self.begun = library.areas(trace.chip), None  # begun: the size of the area whose row 0 the last step drew, to line 0
         self.canvases, self.rows_drawn = {}, {}  # by the size of an area; by an area's number
         self.tally = Tally()
         progress = progress or Progress()
@@ -130,7 +138,7 @@ class Run:
             elif record.kind == records.READ:
                 self.device.input(record.place)
             else:
-                self.step(library.areas()[record.place])
+                self.step(self.areas[record.place])
         progress.end(trace.count, "records")
         self.finish(self.tally.ended())
 
@@ -149,6 +157,7 @@ class Run:
         canvas = self.canvas(area)
         answer = self.device.step(canvas.frame, canvas.row_layers, area.number)
         self.tally.step(area.size, answer.drawn, answer.report)
+        self.begun = area.size if answer.drawn and self.device.counter == FIRST_LINE else None
         if not answer.drawn:
             return
         self.rows_drawn[area.number] = self.rows_drawn.get(area.number, 0) + 1
@@ -160,10 +169,9 @@ class Run:
 
     def area(self, asked):
         """The area to look at: the asked one; else the first that has drawn a row, those of area 0's size before the others; else area 0."""
-        first = library.areas()[0]
-        drawn = [library.areas()[number] for number in self.rows_drawn]
-        area = library.areas()[asked] if asked is not None else min(drawn, key=lambda area: (area.size != first.size, area.number), default=first)
-        return area
+        first = self.areas[0]
+        drawn = [self.areas[number] for number in self.rows_drawn]
+        return self.areas[asked] if asked is not None else min(drawn, key=lambda area: (area.size != first.size, area.number), default=first)
 
     def count(self, area):
         """How many frames there are; one, though nothing were drawn."""
@@ -179,4 +187,5 @@ class Run:
     def notes(self, area, only=None):
         """What is to be said of the frames of an area, or of one of them."""
         off = [number for number in self.tally.off.get(area.size, []) if only in (None, number)]
-        return [off_words(off)] if off else []
+        begun = self.begun == area.size and self.count(area) > 1
+        return ([off_words(off)] if off else []) + ([begun_words(self.count(area))] if begun else [])

@@ -1,4 +1,4 @@
-"""The proved programs, traces in and pictures out: what the desk's own pictures are held to where `--check` asks for it, and what has the home machine."""
+"""The proved programs, traces in and pictures out: what the desk's own pictures are held to where `--check` asks for it."""
 import os
 
 import errors
@@ -27,15 +27,6 @@ def short(program, trace):
     """The trace is not too long for a program."""
     if len(trace) > records.LIMIT:
         raise errors.Bad(f"desk: the trace has {len(trace):,} bytes, and `{program}` takes at most {records.LIMIT:,}")
-
-
-def lines(program, trace):
-    """The lines that a program prints of a trace with no bad record (R7.10)."""
-    short(program, trace)
-    said = run(program, trace).decode("ascii", "replace").splitlines()
-    if not (said and said[-1].startswith("end ")):
-        raise errors.Failed(f"desk: {program} has not run the trace to its end")
-    return said
 
 
 def picture(program, trace):

@@ -31,7 +31,7 @@ def step(area):
     return STEP + bytes([area])
 
 
-def whats_wrong(data, at, home=False):
+def whats_wrong(data, at, chip=library.HANDHELD):
     """Why no record stands at this offset; None where one does."""
     mark = data[at : at + 2]
     if mark not in LENGTHS:
@@ -40,10 +40,8 @@ def whats_wrong(data, at, home=False):
         return f"no record begins with the bytes {mark.hex(' ').upper()}"
     if at + LENGTHS[mark] > len(data):
         return "the record is cut: the trace ends in it"
-    if mark == STEP and home and data[at + 2]:
-        return f"a step of area {data[at + 2]}, and the home machine's steps are of area 0"
-    if mark == STEP and not library.is_area(data[at + 2]):
-        return f"a step of area {data[at + 2]}, and there is no such area"
+    if mark == STEP and not library.is_area(data[at + 2], chip):
+        return f"a step of area {data[at + 2]}, and " + ("there is no such area" if chip.has_areas else "the home machine's steps are of area 0")
     return None
 
 
@@ -57,17 +55,17 @@ def hint(data, name):
 
 
 class Trace:
-    """The bytes of a trace, each record of them whole; Broken where one is none, as `trace`, or for the home machine `home-trace`, prints `bad` and its
-    offset."""
+    """The bytes of a trace for a machine, each record of them whole; Broken where one is none, as `trace`, or for the home machine `home-trace`, prints `bad`
+    and its offset."""
 
-    def __init__(self, data, name, home=False):
-        self.data, self.count = data, 0
-        known, at = {0} if home else set(library.areas()), 0
+    def __init__(self, data, name, chip=library.HANDHELD):
+        self.data, self.chip, self.count = data, chip, 0
+        known, at = set(library.areas(chip)), 0
         while at < len(data):
             mark = data[at : at + 2]
             length = LENGTHS.get(mark)
             if length is None or at + length > len(data) or (mark == STEP and data[at + 2] not in known):
-                raise Broken(f"desk: {name}: byte {at}, record {self.count + 1}: {whats_wrong(data, at, home)}{hint(data, name) if at == 0 else ''}", Trace(data[:at], name, home))
+                raise Broken(f"desk: {name}: byte {at}, record {self.count + 1}: {whats_wrong(data, at, chip)}{hint(data, name) if at == 0 else ''}", Trace(data[:at], name, chip))
             self.count += 1
             at += length
 

@@ -15,9 +15,9 @@ class Row:
         self.pixels, self.layers, self.status = device.row_now(area.number, row)
         self.registers = device.registers
         self.rules = None
-        if area.number in rules.VIEWS:
+        if rules.view_of(area):
             memory = bytes(device.vram.bytes)
-            self.rules = rules.Row(memory, device.registers, device.at("VERTICAL_SCROLL"), area.number, row)
+            self.rules = rules.Row(memory, device.registers, device.at("VERTICAL_SCROLL"), rules.view_of(area), row)
             self.check()
 
     def pixel(self, column):
@@ -36,13 +36,18 @@ class Row:
                 raise errors.Bad(self.wrong(f"{what}: the library says {bool(self.status & bit)}, the desk's reasons {said}"))
 
     def wrong(self, what):
-        return f"desk: THE DESK'S REASONS DISAGREE WITH THE LIBRARY, which is proved: believe the library, and tell us.\ndesk: area {self.area.number}, row {self.number}, {what}"
+        return f"desk: THE DESK'S REASONS DISAGREE WITH THE LIBRARY, which is proved: believe the library, and tell us.\ndesk: {self.area.named}, row {self.number}, {what}"
 
     def same_pixel(self, column):
         """The library's other engine has the same pixel."""
         alone = self.device.pixel(self.area.number, self.number, column)
         if alone != self.pixel(column):
-            raise errors.Bad(self.wrong(f"column {column}: the row has {list(self.pixel(column))}, vdp_pixel {list(alone or b'')}"))
+            raise errors.Bad(self.wrong(f"column {column}: the row has {list(self.pixel(column))}, {self.device.chip.prefix}pixel {list(alone or b'')}"))
+
+    def under_fill(self, sprite):
+        """How many pixels of a sprite were drawn, and stand under the fill."""
+        return sum(fate == rules.DRAWN and self.layers[column] == layers.FILLED for column, fate in sprite.fates.items() if column < self.area.columns)
+
 
 
 def background_words(back):
@@ -74,8 +79,9 @@ def fate_words(told, sprite, column):
     if fate == rules.STRUCK:
         by = next(other for other in row.laid if place in other.marks)
         return f"struck: {code}; sprite {by.number} has marked its place ({place}) already"
-    over = told.layers[column] - layers.SPRITE
-    return f"drawn: {code}; colour {16 + sprite.codes[column]}" + ("" if over == sprite.number else f"; then sprite {over} was drawn over it")
+    over = told.layers[column]
+    then = "" if over == layers.SPRITE + sprite.number else "; then the fill was laid over it" if over == layers.FILLED else f"; then sprite {over - layers.SPRITE} was drawn over it"
+    return f"drawn: {code}; colour {16 + sprite.codes[column]}{then}"
 
 
 def pixel_text(told, column, when):
@@ -83,7 +89,7 @@ def pixel_text(told, column, when):
     told.same_pixel(column)
     red, green, blue, last = told.pixel(column)
     layer = told.layers[column]
-    lines = [f"row {told.number}, column {column} of area {told.area.number}, {when}",
+    lines = [f"row {told.number}, column {column} of {told.area.named}, {when}",
              f"  bytes   {red:02X} {green:02X} {blue:02X} {last:02X}: red {red}, green {green}, blue {blue}"]
     if told.rules is None:
         lines.append(f"  layer   {layer}: {layers.words(layer)}")
@@ -99,7 +105,7 @@ def pixel_text(told, column, when):
     reach = [(sprite, words) for sprite, words in fates if words]
     lines.append(f"  sprites {len(on_row)} on the row, {len(reach)} {'reaches' if len(reach) == 1 else 'reach'} this column" + (":" if reach else ""))
     lines += [f"    sprite {sprite.number:<2}  {words}" for sprite, words in reach]
-    lines.append("  checked with the library: its row, its layers and vdp_pixel say the same")
+    lines.append(f"  checked with the library: its row, its layers and {told.device.chip.prefix}pixel say the same")
     return "\n".join(lines)
 
 
@@ -119,10 +125,10 @@ def sprites_text(told, when):
     """What `desk sprites` prints of a row."""
     row = told.rules
     if row is None:
-        raise errors.Bad(f"desk: the desk has no rules for the sprites of area {told.area.number}")
+        raise errors.Bad(f"desk: the desk has no rules for the sprites of {told.area.named}")
     end = f"a Y byte of D0 ends the list before sprite {row.end}" if row.end is not None else "no Y byte of D0 ends the list"
     count = len(row.laid) + len(row.beyond)
-    lines = [f"row {told.number} of area {told.area.number} (line {row.line}), {when}",
+    lines = [f"row {told.number} of {told.area.named} (line {row.line}), {when}",
              f"  {count or 'no'} sprite{'s' if count != 1 else ''} on the row, each {16 if row.tall else 8} high; their table is at {row.table:04X}; {end}",
              f"  {machines.handheld().register_words(6, told.registers[6])} (register 6)"]
     if count:
@@ -130,8 +136,9 @@ def sprites_text(told, when):
     for place, sprite in enumerate(row.laid, 1):
         fates = [fate for column, fate in sprite.fates.items() if column < told.area.columns or fate == rules.UNSEEN]
         counts = [fates.count(fate) for fate in (rules.DRAWN, rules.HELD_BACK, rules.STRUCK, rules.CLEAR)]
+        under = told.under_fill(sprite)
         lines.append(f"  {place:5}  {sprite.number:6}  {sprite.y:02X}  {sprite.x:02X}  {tile_words(sprite):12}  {columns_words(told, sprite):11}"
-                     f"  {counts[0]:5}  {counts[1]:9}  {counts[2]:6}  {counts[3]:5}" + ("" if sprite.stand.seen else "  unseen"))
+                     f"  {counts[0]:5}  {counts[1]:9}  {counts[2]:6}  {counts[3]:5}" + ("" if sprite.stand.seen else "  unseen") + (f"  {under} under the fill" if under else ""))
     for place, sprite in enumerate(row.beyond, len(row.laid) + 1):
         why = "NINTH: not laid, and sets status bit 6" if place == rules.MOST + 1 else "after the ninth: not laid"
         lines.append(f"  {place:5}  {sprite.number:6}  {sprite.y:02X}  {sprite.x:02X}  {tile_words(sprite):12}  {columns_words(told, sprite):11}  {why}")

@@ -18,6 +18,7 @@ class View:
     """What a screen shows on a row: the map's pixel of each column, where a tile of priority marks, and where a sprite stands."""
 
     around = False  # whether a sprite goes around from one edge to the other
+    fill = None  # the colour that columns 0 to 7 show over everything
 
     def cells(self):
         """The places of the map, as columns and rows of tiles, that the row shows."""
@@ -90,13 +91,14 @@ class TrueEdges(Visible):
 
 
 class Home(View):
-    """The home machine's screen, R20.4, R20.5 and R20.7."""
+    """The home machine's screen, R20.4 to R20.7."""
 
     width = 256
 
     def __init__(self, registers, scroll, row):
         self.registers, self.scroll, self.line = registers, scroll, row
         self.early = 8 if registers[0] & 8 else 0
+        self.fill = 16 + registers[7] % 16 if registers[0] & 32 else None
 
     def map_x(self, x):
         return x if self.registers[0] & 64 and self.line < 16 else (x - self.registers[8]) % 256
@@ -111,8 +113,12 @@ class Home(View):
         return self.edge_stand(byte, 0)
 
 
-# The handheld's, by an area's number. Of an area that is not here the library's answer is told, and no reasons.
-VIEWS = {0: Visible, 1: Effective, 2: TrueEdges}
+# By machine and by an area's number. Of an area that is not here the library's answer is told, and no reasons.
+VIEWS = {"handheld": {0: Visible, 1: Effective, 2: TrueEdges}, "home": {0: Home}}
+
+
+def view_of(area):
+    return VIEWS[area.chip.name].get(area.number)
 
 
 class Sprite:
@@ -154,10 +160,10 @@ def code_at(memory, address, pixel):
 
 
 class Row:
-    """A row of an area: colour numbers, layers, status bits, and the sprites that are laid on it and those that are not."""
+    """A row of a view: colour numbers, layers, status bits, and the sprites that are laid on it and those that are not."""
 
-    def __init__(self, memory, registers, scroll, area, row):
-        view = VIEWS[area](registers, scroll, row)
+    def __init__(self, memory, registers, scroll, view_of_area, row):
+        view = view_of_area(registers, scroll, row)
         self.view, self.line = view, view.line
         self.back = [Background(memory, registers, view.map_x(x), view.map_y(x)) for x in range(view.width)]
         self.colours = [back.colour for back in self.back]
@@ -182,6 +188,8 @@ class Row:
         for sprite in self.laid:
             self.lay(memory, sprite, mask)
             mask |= sprite.marks
+        if view.fill is not None:
+            self.colours[:8], self.layers[:8] = [view.fill] * 8, [2] * 8
 
     def sprite(self, memory, registers, n, line):
         x, tile = memory[self.table + 128 + 2 * n], memory[self.table + 129 + 2 * n]

@@ -7,9 +7,10 @@ import { Look } from "./look.js";
 import { machines } from "./machines.js";
 import { interruptFrames } from "./panels.js";
 import { pixelText, spritesText } from "./row.js";
+import { SAYS } from "./says.js";
 import { inTurns, Stopped } from "./tasks.js";
 import { Trace } from "./trace.js";
-import { many } from "./words.js";
+import { filled, many } from "./words.js";
 import { WhatIf } from "./whatif.js";
 /** @typedef {import("./question.js").Question} Question */
 
@@ -42,7 +43,7 @@ class App {
     this.lister = null;
     /**
      * What is open.
-     * @type {{data: Uint8Array, name: string, script: string} | null}
+     * @type {{data: Uint8Array, name: string, script: string, made: string} | null}
      */
     this.file = null;
     /** @type {Film | null} */
@@ -59,11 +60,6 @@ class App {
 
   settings() {
     select("machine").replaceChildren(...this.machines.map((machine) => make("option", { value: machine.name }, machine.name)));
-    if (this.machines.length === 1) {
-      select("machine").disabled = true;
-      any("machine-note").hidden = false;
-      any("machine-note").textContent = "The library of this page has no calls for the home machine.";
-    }
     const { VERSION_MAJOR: major, VERSION_MINOR: minor, VERSION_SMALL: small } = this.library.numbers;
     any("version").textContent = `face ${major}.${minor}.${small}`;
     const theme = select("theme");
@@ -142,7 +138,7 @@ class App {
   /** The same trace with other settings. */
   async again() {
     this.machine = this.machines.find((machine) => machine.name === select("machine").value) ?? this.machines[0];
-    if (this.file) await this.open(this.file.data, this.file.name, this.file.script, null);
+    if (this.file) await this.open(this.file.data, this.file.name, this.file.script, null, this.file.made);
   }
 
   /**
@@ -200,17 +196,19 @@ class App {
    * @param {string} name
    * @param {string} script
    * @param {Partial<Question> | null} question null: only the settings are others
+   * @param {string} made the machine that its script is for; of a trace none is known
    */
-  async open(data, name, script, question) {
+  async open(data, name, script, question, made = "") {
     const table = Number(select("table").value), trace = new Trace(data, name);
     const chosen = question ? "" : select("area").value;
     const area = this.machine.areas && /^\d$/.test(chosen) ? Number(chosen) : null;
     const film = await this.busy(`Running ${name}`, (turns) => this.filmed(trace, this.machine, table, area, turns));
     if (!film) return this.settingsAgain();
-    this.problem(trace.wrong && `${name}: ${trace.wrong}.` + (trace.count ? " What stands before it is shown." : ""));
+    const wrong = trace.wrong && `${name}: ${trace.wrong}.` + (trace.count ? " What stands before it is shown." : "");
+    this.problem(wrong || (made && made !== film.machine.name ? filled(SAYS.otherMachine, { name, machine: made }) : ""));
     const before = this.film;
     this.film = film;
-    this.file = { data, name, script };
+    this.file = { data, name, script, made };
     this.chosen = chosen;
     this.areas(film, chosen);
     const screen = this.screen(film, chosen);
@@ -331,14 +329,9 @@ async function start() {
   const module = await new Response(new Blob([bytesOf(textOf("module"))]).stream().pipeThrough(unpack)).arrayBuffer();
   const library = await Library.load(new Uint8Array(module), JSON.parse(textOf("header"))), app = new App(library);
   select("table").value = String(given.table);
-  const machine = app.machines.find(({ name }) => name === given.machine);
-  if (machine) {
-    app.machine = machine;
-    select("machine").value = machine.name;
-    await app.open(bytesOf(given.trace), given.name, given.script, given.question);
-  } else {
-    app.problem(`${given.name} is for the ${given.machine}, and the library of this page has no calls for it.`);
-  }
+  app.machine = app.machines.find(({ name }) => name === given.machine) ?? app.machine;
+  select("machine").value = app.machine.name;
+  await app.open(bytesOf(given.trace), given.name, given.script, given.question, given.script && given.machine);
   // For the browser's console, and for the tests: the calls, and what the page holds.
   Object.assign(globalThis, { desk: { app, library, interruptFrames, pixelText, spritesText, ready: true } });
 }

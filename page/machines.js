@@ -5,9 +5,9 @@ import { MACHINES } from "./words.js";
 /** @typedef {import("./library.js").Slice} Slice */
 
 /**
- * What is drawn: its size, the line of its row 0, the X byte of a sprite in its column 0, whether a sprite goes around from one edge to the other, and
- * which rules it goes by (rules.js).
- * @typedef {{number: number, name: string, columns: number, rows: number, firstLine: number, left: number, around: boolean, view: string}} Screen
+ * What is drawn: how sentences call it, its size, the line of its row 0, the X byte of a sprite in its column 0, whether a sprite goes around from one edge to the
+ * other, and which rules it goes by (rules.js).
+ * @typedef {{number: number, name: string, said: string, columns: number, rows: number, firstLine: number, left: number, around: boolean, view: string}} Screen
  */
 
 /**
@@ -67,9 +67,9 @@ export function handheld({ numbers: n }) {
     name: "handheld", prefix: "vdp_", areas: true, block: n.STATE_SIZE,
     at: { ...shared(n), VERTICAL_SCROLL: n.AT_VERTICAL_SCROLL, PALETTE: n.AT_PALETTE, COLOURS: n.AT_COLOURS },
     screens: [
-      { number: 0, name: "visible", ...visible, view: "visible" },
-      { number: 1, name: "effective", columns: n.EFFECTIVE_WIDTH, rows: n.EFFECTIVE_HEIGHT, firstLine: 0, left: 0, around: true, view: "effective" },
-      { number: 2, name: "true edges", ...visible, view: "edges" },
+      { number: 0, name: "visible", said: "area 0", ...visible, view: "visible" },
+      { number: 1, name: "effective", said: "area 1", columns: n.EFFECTIVE_WIDTH, rows: n.EFFECTIVE_HEIGHT, firstLine: 0, left: 0, around: true, view: "effective" },
+      { number: 2, name: "true edges", said: "area 2", ...visible, view: "edges" },
     ],
     ...palette(MACHINES.handheld.palette),
   };
@@ -81,21 +81,20 @@ export function handheld({ numbers: n }) {
  * @returns {Machine}
  */
 export function home({ numbers: n }) {
-  const { columns, rows, first_line: firstLine, left } = MACHINES.home.screen;
   return {
-    name: "home machine", prefix: "vdp_home_", areas: false, block: 186,
-    at: { ...shared(n), VERTICAL_SCROLL: 23, PALETTE: 26, COLOURS: 58 },
-    screens: [{ number: 0, name: "home screen", columns, rows, firstLine, left, around: false, view: "home" }],
+    name: "home machine", prefix: "vdp_home_", areas: false, block: n.HOME_STATE_SIZE,
+    at: { ...shared(n), VERTICAL_SCROLL: n.HOME_AT_VERTICAL_SCROLL, PALETTE: n.HOME_AT_PALETTE, COLOURS: n.HOME_AT_COLOURS },
+    screens: [{ number: 0, name: "home screen", said: "the home machine", columns: n.HOME_WIDTH, rows: n.HOME_HEIGHT, firstLine: 0, left: 0, around: false, view: "home" }],
     ...palette(MACHINES.home.palette),
   };
 }
 
 /**
- * The machines that the module has calls for.
+ * Both of them.
  * @param {Library} library
  */
 export function machines(library) {
-  return [handheld, home].map((make) => make(library)).filter((machine) => library.calls[machine.prefix + "step"]);
+  return [handheld(library), home(library)];
 }
 
 /**

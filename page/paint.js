@@ -4,7 +4,6 @@ import { LAYERS } from "./words.js";
 
 const TILE = 8;
 const RULER = { top: 18, side: 30 };
-const FILLED = "808080"; // the fill of the home machine
 
 /** The colours of layers, three bytes each, as the desk has them. */
 export const LAYER_COLOURS = layerColours();
@@ -12,7 +11,7 @@ export const LAYER_COLOURS = layerColours();
 function layerColours() {
   const table = new Uint8Array(3 * 256);
   /** @type {[number, string][]} */
-  const colours = [[0, LAYERS.background], [LAYER_HELD_BACK, LAYERS["held back"]], [LAYER_FILLED, FILLED], [UNDRAWN, LAYERS["not drawn"]]];
+  const colours = [[0, LAYERS.background], [LAYER_HELD_BACK, LAYERS["held back"]], [LAYER_FILLED, LAYERS.filled], [UNDRAWN, LAYERS["not drawn"]]];
   LAYERS.sprites.forEach((/** @type {string} */ colour, /** @type {number} */ n) => colours.push([LAYER_SPRITE + n, colour]));
   for (const [layer, colour] of colours) table.set([0, 2, 4].map((at) => parseInt(colour.slice(at, at + 2), 16)), 3 * layer);
   return table;

@@ -94,7 +94,7 @@ export class Panels {
       if (name === "Bytes") said.prepend(make("span", { class: "swatch", style: `background: rgb(${red} ${green} ${blue})` }));
       list.append(make("dt", {}, name), said);
     }
-    panel.replaceChildren(row.wrong ? make("p", { class: "wrong" }, row.wrong) : list, ...(row.wrong ? [] : [make("p", { class: "ok" }, SAYS.checkedPixel)]));
+    panel.replaceChildren(row.wrong ? make("p", { class: "wrong" }, row.wrong) : list, ...(row.wrong ? [] : [make("p", { class: "ok" }, row.checkedPixel)]));
   }
 
   // The writes: only the lines that can be seen are on the page.

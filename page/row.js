@@ -24,6 +24,7 @@ export class ToldRow {
     this.layers = now.layers;
     this.colours = device.colours();
     this.palette = device.palette;
+    this.call = device.machine.prefix + "pixel";
     this.colourSize = device.machine.colourSize;
     this.registers = device.registers;
     this.rules = new RuledRow(device.vram.bytes.slice(), this.registers, device.at("VERTICAL_SCROLL"), screen, number);
@@ -56,12 +57,25 @@ export class ToldRow {
    */
   samePixel(device, column) {
     const alone = device.pixel(this.screen.number, this.number, column);
-    if (!alone || alone.some((byte, part) => byte !== this.pixel(column)[part])) this.wrong = this.disagree(`column ${column}, vdp_pixel`);
+    if (!alone || alone.some((byte, part) => byte !== this.pixel(column)[part])) this.wrong = this.disagree(`column ${column}, ${this.call}`);
   }
 
   /** @param {string} what */
   disagree(what) {
-    return filled(SAYS.disagree, { area: this.screen.number, row: this.number, what });
+    return filled(SAYS.disagree, { where: this.screen.said, row: this.number, what });
+  }
+
+  /** What is said of a pixel that was checked. */
+  get checkedPixel() {
+    return filled(SAYS.checkedPixel, { call: this.call });
+  }
+
+  /**
+   * How many pixels of a sprite were drawn, and stand under the fill.
+   * @param {Sprite} sprite
+   */
+  underFill(sprite) {
+    return [...sprite.fates].filter(([column, fate]) => fate === DRAWN && this.layers[column] === LAYER_FILLED).length;
   }
 }
 
@@ -141,11 +155,11 @@ export function pixelFacts(told, column) {
 export function pixelText(told, column, when) {
   const facts = pixelFacts(told, column);
   return [
-    `row ${told.number}, column ${column} of area ${told.screen.number}, ${when}`,
+    `row ${told.number}, column ${column} of ${told.screen.said}, ${when}`,
     `  bytes   ${facts.bytes}`, `  colour  ${facts.colour}`, `  layer   ${facts.layer}`, `  behind  ${facts.behind}`,
     `  sprites ${facts.sprites}` + (facts.reach.length ? ":" : ""),
     ...facts.reach.map(({ sprite, words }) => `    sprite ${String(sprite.number).padEnd(2)}  ${words}`),
-    "  " + SAYS.checkedPixel,
+    "  " + told.checkedPixel,
   ].join("\n");
 }
 
@@ -171,7 +185,8 @@ export function spriteFacts(told) {
     const fates = [...sprite.fates].filter(([column, fate]) => column < told.screen.columns || fate === UNSEEN).map(([, fate]) => fate);
     const counts = [DRAWN, HELD_BACK, STRUCK, CLEAR].map((wanted) => fates.filter((fate) => fate === wanted).length);
     const laid = index < rules.laid.length;
-    const note = laid ? (sprite.stand.seen ? "" : "unseen") : index === MOST ? "NINTH: not laid, and sets status bit 6" : "after the ninth: not laid";
+    const under = told.underFill(sprite), hidden = under ? filled(SAYS.underFill, { count: under }) : "";
+    const note = laid ? (sprite.stand.seen ? hidden : "unseen") : index === MOST ? "NINTH: not laid, and sets status bit 6" : "after the ninth: not laid";
     return { place: index + 1, sprite: sprite.number, y: two(sprite.y), x: two(sprite.x), tile: `${sprite.shown}: ${sprite.real}, ${hex(32 * sprite.real, 4)}`, columns: columnsWords(told, sprite), counts: laid ? counts : null, note };
   });
   return { head: `${count || "no"} sprite${count === 1 ? "" : "s"} on the row, each ${rules.tall ? 16 : 8} high; their table is at ${hex(rules.table, 4)}; ${end}`, tiles: `${registerWords(false, 6, told.registers[6])} (register 6)`, rows, met: rules.met };
@@ -190,7 +205,7 @@ export function spritesText(told, when) {
    */
   const right = (value, width) => String(value).padStart(width);
   return [
-    `row ${told.number} of area ${told.screen.number} (line ${told.rules.line}), ${when}`,
+    `row ${told.number} of ${told.screen.said} (line ${told.rules.line}), ${when}`,
     "  " + head,
     "  " + tiles,
     ...(rows.length ? ["  place  sprite   Y   X  its tile is   columns      drawn  held back  struck  clear"] : []),

@@ -4,10 +4,12 @@
 export const REPORTS = ["", "the screen ends", "the screen ends, with the display off"];
 
 export const SAYS = {
-  disagree: "THE PAGE'S REASONS DISAGREE WITH THE LIBRARY, which is proved: believe the picture, and tell us (area {area}, row {row}: {what})",
+  disagree: "THE PAGE'S REASONS DISAGREE WITH THE LIBRARY, which is proved: believe the picture, and tell us ({where}, row {row}: {what})",
   disagreeRows: "THE PAGE'S REASONS DISAGREE WITH THE LIBRARY, which is proved: a row that was drawn before the change differs. Believe the pictures, and tell us.",
-  checkedPixel: "checked with the library: its row, its layers and vdp_pixel say the same",
+  checkedPixel: "checked with the library: its row, its layers and {call} say the same",
   checkedRow: "checked with the library: its row, its layers and its status bits say the same",
+  otherMachine: "{name} is a script for the {machine}. Here its trace runs on the other one, where its bytes mean something else.",
+  underFill: "{count} under the fill",
   never: "In frame {frame} the counter never reads {line} after a step of this trace.",
   latched: "A command byte waits for its second there: the chip would take this write for it.",
   follows: "The trace goes on at the data port with the address from before, which this write has moved: what follows is stored elsewhere, as it would be on the console.",

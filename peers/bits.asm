@@ -10,13 +10,7 @@ away:   equ 0
 dots:   equ 0x7f
 top:    equ 100
 across: equ 100
-        include 'head.asm'
-handler:
-        ei
-        reti
-start:
-        ld hl, setup
-        call begin
+        include 'quiet.asm'
         ld de, 32               ; tile 1: all but its first line and its first column
         call video
         ld b, 4

@@ -1,13 +1,7 @@
 ; ports.asm: where a byte goes after a first command byte alone, and after a register write; what a read gives while the palette is chosen; the low bits of the
 ; status. The answers: the byte at 1000 and at 1005, the byte at 1000 and at 0805, the palette read, the status.
 home:   equ 0
-        include 'head.asm'
-handler:
-        ei
-        reti
-start:
-        ld hl, setup
-        call begin
+        include 'quiet.asm'
         ld de, 0x1000           ; a first command byte, and then data
         call video
         ld a, 5

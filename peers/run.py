@@ -2,8 +2,8 @@
 """run.py [--here] [--write] [PAGE]: plays our own cartridges here, in MAME and in mednafen, where these are installed, and prints what each of them shows as a
 table. With a PAGE its table is held to that one: all of it, or with --here the column of this chip alone, which needs no other player; --write puts it in.
 
-Here: build/cartridge/play; for the home machine its recording, drawn by build/bin/home-snapshot. MAME and mednafen run with no screen and no sound; of each the
-picture after some seconds is looked at, when nothing on it changes any more."""
+Here: build/cartridge/play. MAME and mednafen run with no screen and no sound; of each the picture after some seconds is looked at, when nothing on it changes any
+more."""
 import os
 import pathlib
 import re
@@ -21,7 +21,6 @@ import png  # noqa: E402
 
 PATH = os.environ["PATH"] + ":/usr/games"
 FRAMES, SECONDS, TRIES = 230, 4, 5
-EMULATOR = [] if os.uname().machine == "x86_64" else ["qemu-x86_64"]
 
 
 class Picture:
@@ -60,10 +59,7 @@ def of_ppm(data):
 
 # ---- the players, each by what it shows of a cartridge
 def here(cartridge, home, folder):
-    if home:
-        subprocess.run([str(PLAYER), "--frames", "40", "--record", "game.trace", str(cartridge)], cwd=folder, check=True, stdout=subprocess.DEVNULL, stderr=subprocess.DEVNULL)
-        return of_ppm(subprocess.run(EMULATOR + [str(ROOT / "build" / "bin" / "home-snapshot"), "game.trace"], cwd=folder, check=True, stdout=subprocess.PIPE).stdout)
-    subprocess.run([str(PLAYER), "--frames", str(FRAMES), "--picture", "here.ppm", str(cartridge)], cwd=folder, check=True, stdout=subprocess.DEVNULL)
+    subprocess.run([str(PLAYER), *["--home"] * home, "--frames", str(FRAMES), "--picture", "here.ppm", str(cartridge)], cwd=folder, check=True, stdout=subprocess.DEVNULL)
     return of_ppm((folder / "here.ppm").read_bytes())
 
 
@@ -271,7 +267,7 @@ def main():
             continue
         there = text[start:end]
         if "--here" in words:
-            cut = re.findall(r"^\| (.*?) \| (.*?) \|", there, re.M)[2:]
+            cut = re.findall(r"^\| (.*?) \| (.*?) \|", there, re.M)[1:]
             if cut != [(case[0], answer) for case, answer in zip(CASES, answers[0])]:
                 sys.exit(f"peers: {page} has another column of this chip: {set(cut) ^ {(case[0], answer) for case, answer in zip(CASES, answers[0])}}")
         elif there != table:

@@ -1,13 +1,7 @@
 ; scroll.asm: register 9 becomes 4 while the counter reads `at`, and 0 again after the screen. White lines every eighth row tell which rows have moved.
 home:   equ 0
 at:     equ 90
-        include 'head.asm'
-handler:
-        ei
-        reti
-start:
-        ld hl, setup
-        call begin
+        include 'quiet.asm'
         ld de, 32               ; tile 1: its first line alone
         call video
         ld a, 0xff

@@ -5,13 +5,7 @@ y:      equ 100
 many:   equ 2
 priority: equ 0
 shown:  equ 1
-        include 'head.asm'
-handler:
-        ei
-        reti
-start:
-        ld hl, setup
-        call begin
+        include 'quiet.asm'
         if priority
         ld de, names
         call video

@@ -1,6 +1,6 @@
 #!/usr/bin/env bash
 # cartridge.sh: examples/cartridge: its cartridges are assembled and played on a Z80 core; their pictures are held to what they must show, and their
-# recordings, run by trace and snapshot, to the same answers and the same pixels. What the player does with banks, ports, interrupts and their cycles, buttons,
+# recordings, run by trace and snapshot (that of the home machine by home-trace, home-snapshot and the desk), to the same answers and the same pixels. What the player does with banks, ports, interrupts and their cycles, buttons,
 # pictures and bad input. The page docs/CARTRIDGE.md, whose commands are run again, and this chip's column in the handbook's table of players.
 . "$(dirname "$0")/begin.sh"
 needs build native
@@ -117,6 +117,56 @@ tell "sprites: the status that it reads tells the end of the screen, a ninth spr
 [ "$(pixel $work/sprites.ppm 127 23)" = ffeebb ] && [ "$(pixel $work/sprites.ppm 120 16)" = 224488 ] && [ "$(pixel $work/sprites.ppm 135 16)" = 224488 ] &&
     [ "$(pixel $work/sprites.ppm 120 31)" = 224488 ] && [ "$(pixel $work/sprites.ppm 135 31)" = 224488 ]
 tell "sprites: the moon is round: its tile is turned across, down, and both" $?
+
+# The home machine: home.sms by --home, its recording on home-trace, home-snapshot and the desk, and what it must show.
+$player --home --frames 60 --picture $work/home.ppm --record $work/home.trace --answers $work/home.text build/cartridge/home.sms >$work/home.said 2>&1 &&
+    grep -q '^60 frames: 15719 steps, [1-9][0-9]* port calls, 0 refused$' $work/home.said && [ "$(wc -l <$work/home.said)" -eq 1 ] && grep -qxF "$(cat $work/home.said)" examples/cartridge/README.md
+tell "home: 60 frames are played, and no call is refused; the line is that of examples/cartridge/README.md" $?
+build/bin/home-trace $work/home.trace | cmp $work/home.text - && tail -n 1 $work/home.text | grep -q '^end [1-9]'
+tell "home: home-trace gives the answers that the player got" $?
+build/bin/home-snapshot $work/home.trace | cmp $work/home.ppm -
+tell "home: home-snapshot draws the player's picture" $?
+tail -c +5 $work/home.trace >$work/less.trace
+! build/bin/home-trace $work/less.trace | cmp -s $work/home.text -
+tell "home: a recording that lacks its first record gives other answers" $?
+# home_rows PICTURE: its rows, a line of hex each.
+home_rows() { tail -c 147456 "$1" | od -An -v -tx1 -w768 | tr -d ' '; }
+for frame in 2 39 40; do $player --home --frame $frame --picture $work/home-$frame.ppm build/cartridge/home.sms >/dev/null; done
+[ "$(home_rows $work/home-39.ppm | cut -c 1-48 | sort -u)" = 555555555555555555555555555555555555555555555555 ]
+tell "home: columns 0 to 7 are filled" $?
+cmp <(home_rows $work/home-39.ppm | head -n 16) <(home_rows $work/home-40.ppm | head -n 16) && [ "$(home_rows $work/home-39.ppm | head -n 16 | grep -c ffffff)" -eq 7 ] &&
+    [ "$(home_rows $work/home-39.ppm | sed -n 15p | cut -c $((6 * 32 + 1))-$((6 * 36)))" = ffffffffffffffffffffffff ]
+tell "home: the bar stands, with a mark at column 32" $?
+cmp <(home_rows $work/home-39.ppm | sed -n 17,112p | cut -c 49-1530) <(home_rows $work/home-40.ppm | sed -n 17,112p | cut -c 55-1536) && ! cmp -s $work/home-39.ppm $work/home-40.ppm
+tell "home: a frame later the hills have gone by a column" $?
+[ "$(home_rows $work/home-39.ppm | head -n 120 | grep -c aa5500)" -eq 0 ] && [ "$(home_rows $work/home-39.ppm | tail -n 72 | grep -c 00aaff)" -eq 0 ] && home_rows $work/home-39.ppm | sed -n 120p | grep -q 00aaff &&
+    home_rows $work/home-39.ppm | sed -n 121p | grep -q aa5500
+tell "home: the ground begins at row 120, by line interrupt" $?
+sed 's/^ground: equ 120 /ground: equ 77 /' examples/cartridge/home.asm >$work/other.asm
+z80asm -I examples/cartridge -o $work/other.sms $work/other.asm && $player --home --frames 4 --picture $work/other.ppm $work/other.sms >/dev/null && [ "$(home_rows $work/other.ppm | head -n 77 | grep -c aa5500)" -eq 0 ] &&
+    [ "$(home_rows $work/other.ppm | tail -n 115 | grep -c 00aaff)" -eq 0 ] && home_rows $work/other.ppm | sed -n 78p | grep -q aa5500
+tell "home: and at row 77 where the source says so" $?
+[ "$(home_rows $work/home-39.ppm | sed -n 116p | cut -c 49-54)" = ffaa00 ] && [ "$(home_rows $work/home-39.ppm | sed -n 112,120p | grep -o ffaa00 | wc -l)" -lt 52 ]
+tell "home: the ball is partly under the fill" $?
+if command -v python3 >/dev/null; then
+    status=0
+    for frame in 2 39 40 60; do
+        [ $frame = 60 ] && picture=$work/home.ppm || picture=$work/home-$frame.ppm
+        python3 tools/ppm2png.py <$picture >$work/played.png
+        build/bin/desk show $work/home.trace --home --frame $frame -o $work/shown.png >$work/said && grep -q ": frame $frame of 60, 256 x 192, on the home machine\$" $work/said && python3 tests/desk/same.py $work/played.png $work/shown.png || status=1
+    done
+    tell "home: desk show --home of the recording draws the player's pictures, frame by frame" $status
+    $player --home --table 0 --frames 20 --picture $work/home-261.png --record $work/home-261.trace build/cartridge/home.sms >$work/said && grep -q '^20 frames: 5219 steps, ' $work/said &&
+        build/bin/desk show $work/home-261.trace --home --table 0 --frame 20 -o $work/shown.png >/dev/null && python3 tests/desk/same.py $work/home-261.png $work/shown.png
+    tell "home: by table 0, and as a PNG" $?
+    build/bin/desk interrupts $work/home.trace --home | sed -n 39p | grep -qx 'frame 39: lines 119, 193' && build/bin/desk sprites $work/home.trace 115 --home --frame 39 | grep -q ' under the fill$' &&
+        [ "$(build/bin/desk palette $work/home.trace --home 2>/dev/null | sed -n 2p)" = 'colour  0 = 38  # red   0, green 170, blue 255' ]
+    tell "home: what the desk says of it" $?
+    python3 tools/ppm2png.py 2 <$work/home-39.ppm | cmp examples/cartridge/home.png -
+    tell "examples/cartridge/home.png is what home.sms shows" $?
+else
+    skip "the recording of the home machine at the desk" "no python3 here"
+fi
 
 # The pictures of the documents.
 if command -v python3 >/dev/null; then
@@ -366,6 +416,13 @@ assembled $work/buttons.asm
 $player --frames 8 --press 2:start --press 3-4:up --press 4:left --press 5:1 --press 6:2 --press 6:down --press 7:right --record $work/buttons.trace $work/buttons.gg >/dev/null &&
     [ "$(written $work/buttons.trace)" = ' c0 ff 40 ff c0 fe c0 fa c0 ef c0 dd c0 f7 c0 ff' ]
 tell "buttons are down in the frames that --press names, and in no others" $?
+cp $work/buttons.gg $work/buttons.sms
+$player --home --frames 8 --press 3-4:up --press 4:left --press 5:1 --press 6:2 --press 6:down --press 7:right --record $work/buttons.trace $work/buttons.sms >/dev/null &&
+    [ "$(written $work/buttons.trace)" = ' ff ff ff ff ff fe ff fa ff ef ff dd ff f7 ff ff' ]
+tell "at home too, but for start, which is not there" $?
+refuses "start at home" 1 "play: --press: the home machine has no button start" --press 2:start --home build/cartridge/home.sms
+refuses "a cartridge of the home machine without --home" 1 "play: build/cartridge/home.sms: a cartridge of the home machine, by its name: --home plays it" build/cartridge/home.sms
+refuses "a cartridge of the handheld with --home" 1 "play: build/cartridge/split.gg: a cartridge of the handheld, by its name: it is played without --home" --home build/cartridge/split.gg
 for press in start 0:start 1:fire 1: 5-4:up 1-:up x:up 1:start,2:up 9999999999:up ''; do
     refuses "--press '$press'" 1 "play: --press: FRAME:BUTTON or FRAME-FRAME:BUTTON, with start, up, down, left, right, 1 or 2, and not '$press'" --press "$press" build/cartridge/split.gg
 done

@@ -348,53 +348,175 @@ for frame in 1 2; do
 done
 python3 tests/desk/same.py "$work/shown.png" docs/home-fill.png
 tell 'show --home: and docs/home-fill.png' $?
+python3 tests/desk/random_traces.py 2 "${SEED:-1}" "$work/home" home
+"$desk" make tests/desk/home-corners.desk -o "$work/home/corners.trace" >/dev/null
+cp "$work/fill.trace" tests/traces/refusals.trace tests/traces/interrupts.trace "$work/home/"
+texts= frames=
+for trace in build/test/desk/home/*.trace; do
+    build/bin/home-trace "$trace" >"${trace%.trace}.text"
+    build/bin/home-snapshot "$trace" >"${trace%.trace}.ppm"
+    texts="$texts $trace ${trace%.trace}.text" frames="$frames $trace ${trace%.trace}.ppm"
+    run show "$trace" --home --check --layers -o "$work/shown.png"
+    [ "$status" -eq 1 ] && [ "$(cat "$work/err")" = "desk show: --check: no program draws the home machine's layers" ] && run show "$trace" --home --check -o "$work/shown.png" &&
+        [ "$status" -eq 0 ] && grep -qx 'checked: `home-snapshot` draws the same' "$work/out"
+    tell "show --home --check: $(basename "$trace")" $?
+done
+damaged 's/data\[part::3\] = pixels\[part::4\]/data[part::3] = pixels[2 - part::4]/' pictures.py && "$work/copy/desk/desk" show "$work/fill.trace" --home --check -o "$work/none" >"$work/out" 2>"$work/err"
+[ $? -eq 1 ] && grep -q '^desk: THE PICTURE OF `home-snapshot` IS ANOTHER' "$work/err"
+tell 'show --home --check catches a picture that is another' $?
 run show $fill --home -o "$work/two.png"
 [ "$status" -eq 0 ] && [ "$(cat "$work/out")" = "$work/two.png: 2 frames of 256 x 192, row by row, on the home machine" ] && [ "$(od -An -tx1 -j16 -N8 "$work/two.png" | tr -d ' ')" = "$(printf '%08x%08x' 516 192)" ]
 tell 'show --home: of a script, two frames are one sheet' $?
 run show "$work/fill.trace" --home --frame 2 --grid --scale 3 -o "$work/grid.png"
 [ "$status" -eq 0 ] && [ "$(od -An -tx1 -j16 -N8 "$work/grid.png" | tr -d ' ')" = "$(printf '%08x%08x' $((256 * 3 + 31)) $((192 * 3 + 23)))" ]
 tell 'show --home --grid' $?
+# By layers: the fill and no other column, the discs by their numbers, and priority behind which one is held back.
+run show "$work/fill.trace" --home --frame 2 --layers -o "$work/layers.png"
+[ "$status" -eq 0 ] && [ "$(cat "$work/out")" = "$work/layers.png: frame 2 of 2, 256 x 192, by layers, on the home machine" ] &&
+    python3 tests/desk/at.py "$work/layers.png" $(for row in 0 15 16 63 66 191; do for column in 0 7; do echo "$column,$row=0,0,136"; done; done) 8,0=32,32,32 8,191=32,32,32 8,63=204,255,153 9,65=204,255,153 10,63=32,32,32 \
+        103,63=153,255,0 255,104=170,187,238 251,104=32,32,32
+tell 'show --home --layers: 2 in columns 0 to 7, where the fill is' $?
+run show docs/scripts/home-bar.desk --home --frame 2 --layers -o "$work/layers.png"
+[ "$status" -eq 0 ] && python3 tests/desk/at.py "$work/layers.png" 0,0=32,32,32 7,191=32,32,32 5,61=204,255,153
+tell 'and nowhere where there is none' $?
+run show tests/desk/home-corners.desk --home --frame 2 --layers -o "$work/layers.png"
+[ "$status" -eq 0 ] && python3 tests/desk/at.py "$work/layers.png" 204,46=255,0,255 7,46=0,0,136
+tell 'and held back behind priority' $?
+# Frames: a pass begins at line 0, and the last frame may have row 0 alone, which is told.
 status_frames=0
-for both in '261 1' '262 2' '523 2' '524 3'; do
-    read -r steps frames <<<"$both"
-    printf 'home\nsteps %s\n' "$steps" >"$work/steps.desk"
-    run show "$work/steps.desk" --home --frame "$frames" -o "$work/shown.png"
-    [ "$status" -eq 0 ] && grep -q ": frame $frames of $frames, " "$work/out" || status_frames=1
+begins='has row 0 alone: the last step of the trace, to line 0, begins it (in a script, `frame` in place of `pass` ends before that step)'
+for both in '261 1' '262 2' '263 2' '523 2' '524 3'; do
+    read -r steps frames_there <<<"$both"
+    printf 'home\nreg 1 = 40\nsteps %s\n' "$steps" >"$work/steps.desk"
+    run show "$work/steps.desk" --home --frame "$frames_there" -o "$work/shown.png"
+    expected=
+    case $steps in 262 | 524) expected="desk: note: frame $frames_there $begins" ;; esac
+    [ "$status" -eq 0 ] && grep -q ": frame $frames_there of $frames_there, " "$work/out" && [ "$(cat "$work/err")" = "$expected" ] || status_frames=1
 done
 tell 'show --home: a pass begins at line 0' $status_frames
+printf 'home\nreg 1 = 40\npasses 2\n' >"$work/passes.desk"
+printf 'reg 1 = 40\npasses 2\n' >"$work/handheld.desk"
+printf 'area 1\nreg 1 = 40\npasses 2\n' >"$work/effective.desk"
+for both in 'passes 3 --home' 'handheld 2' 'effective 3'; do
+    read -r name count home <<<"$both"
+    run show "$work/$name.desk" $home -o "$work/shown.png"
+    expected=
+    [ "$count" -eq 2 ] || expected="desk: note: frame 3 $begins"
+    [ "$status" -eq 0 ] && grep -q ": $count frames of " "$work/out" && [ "$(cat "$work/err")" = "$expected" ]
+    tell "passes 2 of a fresh device, $name: $count frames" $?
+    sed 's/passes/frames/' "$work/$name.desk" >"$work/frames.desk"
+    run show "$work/frames.desk" $home -o "$work/shown.png"
+    [ "$status" -eq 0 ] && grep -q ': 2 frames of ' "$work/out" && [ ! -s "$work/err" ]
+    tell "frames 2, $name: 2 frames" $?
+done
 run show tests/traces/empty.trace --home -o "$work/shown.png"
-[ "$status" -eq 0 ] && grep -q ': 1 frame, 256 x 192' "$work/out" && [ "$(cat "$work/err")" = 'desk: note: no step of the trace has drawn a row' ]
+[ "$status" -eq 0 ] && grep -q ': 1 frame, 256 x 192' "$work/out" && [ "$(cat "$work/err")" = 'desk: note: no step of the trace has drawn a row of the home machine' ]
 tell 'show --home: nothing drawn' $?
-alone='do not go together'
-says 'show --home --layers' 1 "desk show: --home and --layers $alone: the home machine has no layers" show "$work/fill.trace" --home --layers -o "$work/none"
-says 'show --home --check' 1 "desk show: --home and --check $alone: the picture is that of the program \`home-snapshot\` already" show "$work/fill.trace" --home --check -o "$work/none"
-says 'show --home --area' 1 "desk show: --home and --area $alone: the home machine has one picture, and no areas" show "$work/fill.trace" --home --area 0 -o "$work/none"
-says 'show --home --table 0' 1 "desk show: --home and --table 0 $alone: the programs of the home machine go by table 1 alone" show "$work/fill.trace" --home --table 0 -o "$work/none"
-says 'list --home --table 0' 1 "desk list: --home and --table 0 $alone: the programs of the home machine go by table 1 alone" list "$work/fill.trace" --home --table 0
-says 'make --table 0 of a script for the home machine' 1 "docs/scripts/home-scene.desk:3:1: the programs of the home machine go by table 1 alone" make $fill --table 0 -o "$work/none"
+# No limit of length.
+{ echo home; echo 'reg 1 = 40'; echo 'vram 0 = FF times 16384'; echo 'sprite 0 end'; echo 'colour 31 = 0B'; echo 'frames 40'; } >"$work/home-long.desk"
+run show "$work/home-long.desk" --home --frame 40 -o "$work/long.png"
+[ "$status" -eq 0 ] && [ "$(cat "$work/out")" = "$work/long.png: frame 40 of 40, 256 x 192, on the home machine" ] && python3 tests/desk/at.py "$work/long.png" 0,0=255,170,0 255,191=255,170,0
+tell 'show --home: a trace that is too long for the program is shown' $?
+"$desk" make "$work/home-long.desk" -o "$work/home-long.trace" 2>/dev/null >&2
+says 'show --home --check: which is told' 1 "desk: the trace has $(wc -c <"$work/home-long.trace" | sed 's/...$/,&/') bytes, and \`home-snapshot\` takes at most 65,535" show "$work/home-long.trace" --home --check -o "$work/none"
+# Either line table.
+printf 'home\nreg 1 = 40\nframe\n' >"$work/frame.desk"
+for table in 0 1; do
+    run list "$work/frame.desk" --home --table $table
+    [ "$status" -eq 0 ] && [ ! -s "$work/err" ] && head -n 1 "$work/out" | grep -q "; line table $table, $((261 + table)) steps to a pass\$" && [ "$(awk '$1 == "steps" { n += $2 } END { print n }' "$work/out")" -eq $((260 + table)) ]
+    tell "list --home --table $table: a frame of $((260 + table)) steps from a fresh device on" $?
+done
+# Pixels, sprites, differences, tiles and colours.
+try 'pixel --home: every pixel of some rows is that of the frame that home-snapshot draws' python3 tests/desk/pixels.py --home 5 $frames
+run pixel "$work/fill.trace" 63 3 --home
+[ "$status" -eq 0 ] && [ "$(cat "$work/out")" = 'row 63, column 3 of the home machine, as frame 2 of 2 drew it at line 63
+  bytes   55 55 55 FF: red 85, green 85, blue 85
+  colour  16: palette 1, code 0
+  layer   2: the fill of columns 0 to 7
+  behind  tile 8 of the map'"'"'s column 29, row 7 (entry at 39FA), palette 0, code 5
+  sprites 2 on the row, 1 reaches this column:
+    sprite 0   drawn: code 7 of its tile 0, tile 256 at 2000 (register 6 has bit 2); colour 23; then the fill was laid over it
+  checked with the library: its row, its layers and vdp_home_pixel say the same' ]
+tell 'pixel --home: under the fill' $?
+run pixel "$work/fill.trace" 0 8 --home --now
+[ "$status" -eq 0 ] && [ "$(head -n 1 "$work/out")" = 'row 0, column 8 of the home machine, as it would be drawn now, at the end of the trace' ]
+tell 'pixel --home --now' $?
+# a scroll that was written and is not yet taken, in row 0, which a step to line 0 draws
+{ sed "s#include #&$PWD/docs/scripts/#" docs/scripts/home-panel.desk; echo 'reg 9 = 00'; } >"$work/late.desk"
+"$desk" make "$work/late.desk" -o "$work/late.trace" >/dev/null 2>&1
+run pixel "$work/late.trace" 0 20 --home --now
+late=$(sed -n 's/^  bytes   //p' "$work/out")
+run pixel docs/scripts/home-panel.desk 0 20 --home
+[ "$status" -eq 0 ] && [ -n "$late" ] && [ "$late" = "$(sed -n 's/^  bytes   //p' "$work/out")" ] && grep -qx "  behind  tile .* of the map's column 2, row 5 .*" "$work/out"
+tell 'pixel --home --now: row 0 has the latched scroll' $?
+says 'a row that the home machine has not' 1 'desk: row 192: the home machine has rows 0 to 191' pixel "$work/fill.trace" 192 0 --home
+says 'a column that it has not' 1 'desk: column 256: the home machine has columns 0 to 255' pixel "$work/fill.trace" 191 256 --home
+run sprites "$work/fill.trace" 65 --home
+[ "$status" -eq 0 ] && head -n 1 "$work/out" | grep -qx 'row 65 of the home machine (line 65), as frame 2 of 2 drew it at line 65' && grep -qx '      1       0  3B  02  0: 256, 2000  2 to 9           8          0       0      0  6 under the fill' "$work/out" &&
+    grep -q 'status bit 5 is set$' "$work/out"
+tell 'sprites --home: a row' $?
+run sprites tests/desk/home-corners.desk --home --frame 2
+[ "$status" -eq 0 ] && head -n 1 "$work/out" | grep -qx 'frame 2 of 2, the home machine:' && grep -qx '  rows 47 to 51    0 1 2 3 4 5 6 7 | NINTH 8, then 9: not laid' "$work/out"
+tell 'sprites --home: every row' $?
+run sprites "$work/fill.trace" --sprite 1 --home --frame 2
+[ "$status" -eq 0 ] && grep -qx '  rows 64 to 67    sprite 1 is number 2 of 3, before it 0: 8 of 26 pixels drawn (8 under the fill), 18 struck' "$work/out"
+tell 'sprites --home --sprite' $?
+for damage in 's/registers\[7\] % 16/registers[7] % 8/' 's/self.line < 16 else/self.line < 8 else/' 's/x >= 192/x >= 184/' 's/edge_stand(byte, 0)/edge_stand(byte, 8)/' 's/\[view.fill\] \* 8, \[2\]/[view.fill] * 8, [0]/'; do
+    caught=1
+    damaged "$damage" rules.py && "$work/copy/desk/desk" sprites tests/desk/home-corners.desk --home >"$work/out" 2>"$work/err"
+    [ $? -eq 1 ] && grep -q "^desk: THE DESK'S REASONS DISAGREE WITH THE LIBRARY" "$work/err" && [ ! -s "$work/out" ] && caught=0
+    tell "wrong reasons of the home machine are caught: $damage" $caught
+done
+printf 'include %s/docs/scripts/home-scene.desk\nframe\nuntil line 90\nwrite: colour 0 = 3F\nframe\n' "$PWD" >"$work/ninety.desk"
+run differ "$work/ninety.desk" --without write --home --brief
+[ "$status" -eq 0 ] && [ ! -s "$work/err" ] && sed -n 1p "$work/out" | grep -qx 'frame 1: no pixel differs' && sed -n 2p "$work/out" | grep -Eqx 'frame 2: [0-9,]+ of 49,152 pixels differ, in rows 91 to 191'
+tell 'differ --home: a colour at line 90 changes rows 91 to 191' $?
+"$desk" make "$work/ninety.desk" --without write -o "$work/old.trace" >/dev/null && "$desk" make "$work/ninety.desk" -o "$work/new.trace" >/dev/null
+run differ "$work/old.trace" "$work/new.trace" --home --frame 2 --sides -o "$work/differ.png"
+for name in old new; do build/bin/home-snapshot "$work/$name.trace" >"$work/$name.ppm"; done
+count=$(cmp -l "$work/old.ppm" "$work/new.ppm" | awk '{ pixel[int(($1 - 16) / 3)] = 1 } END { for (p in pixel) n++; print n }' | sed -E 's/([0-9]{3})$/,\1/')
+[ "$status" -eq 0 ] && head -n 1 "$work/out" | grep -q "^frame 2: $count of 49,152 pixels differ, in rows 91 to 191" && [ "$(od -An -tx1 -j16 -N8 "$work/differ.png" | tr -d ' ')" = "$(printf '%08x%08x' 776 192)" ]
+tell 'differ --home: as many pixels as differ between the pictures of home-snapshot' $?
+run differ docs/scripts/home-bar.desk docs/scripts/home-fill.desk --home --layers --frame 2
+[ "$status" -eq 0 ] && grep -qx '  first: row 0, column 0: A has background; B has the fill of columns 0 to 7' "$work/out"
+tell 'differ --home --layers' $?
+run tiles "$work/fill.trace" --home -o "$work/tiles.png"
+[ "$status" -eq 0 ] && [ ! -s "$work/err" ] && python3 tests/desk/at.py "$work/tiles.png" 0,0=0,85,170 8,0=170,85,0 15,0=85,0,0 16,0=0,0,85 2,128=255,255,0 0,128=0,0,0 10,128=255,0,0
+tell 'tiles --home: background in palette 0 above, sprites in palette 1 below' $?
+run palette "$work/fill.trace" --home -o "$work/palette.png" --scale 4
+[ "$status" -eq 0 ] && [ "$(wc -l <"$work/out")" -eq 34 ] && grep -qx 'colour 23 = 0F  # red 255, green 255, blue   0' "$work/out" && sed '$d' "$work/out" >"$work/colours.desk" && printf 'frame\n' >>"$work/colours.desk" &&
+    python3 tests/desk/at.py "$work/palette.png" 0,0=0,85,170 28,4=255,255,0 && cp "$work/out" "$work/before" && run palette "$work/colours.desk" --home && head -n 33 "$work/before" | cmp - "$work/out"
+tell 'palette --home: as a script takes them' $?
+# What does not go together, and the other machine's scripts and traces.
+for command in 'show -o none.png' 'pixel 0 0' sprites "differ $work/fill.trace"; do
+    read -r word rest <<<"$command"
+    says "$word --home --area" 1 "desk $word: --home and --area do not go together: the home machine has one picture, and no areas" $word "$work/fill.trace" $rest --home --area 0
+done
+says 'show --home --table 0 --check' 1 "desk show: --check: no program draws the home machine's picture by table 0" show "$work/fill.trace" --home --table 0 --check -o "$work/none"
 says 'show --home: a step of another area, by its offset' 1 "desk: tests/traces/areas.trace: byte 3, record 2: a step of area 1, and the home machine's steps are of area 0" show tests/traces/areas.trace --home -o "$work/none"
 [ "$(build/bin/home-trace tests/traces/areas.trace | tail -n 1)" = 'bad 3' ]
 tell 'as home-trace tells it' $?
 says 'show --home: a frame that is not there' 1 "desk: $work/fill.trace: frame 3, and there are 2 frames" show "$work/fill.trace" --home --frame 3 -o "$work/none"
-says 'show --home: a trace that is too long for the program' 1 'desk: the trace has 96,984 bytes, and `home-snapshot` takes at most 65,535' show "$work/long.trace" --home -o "$work/none"
-for command in list interrupts 'show -o none.png' 'pixel 0 0' sprites 'tiles -o none.png' palette "differ $fill"; do
+flicker=docs/scripts/flicker.desk
+for command in list interrupts 'show -o none.png' 'pixel 0 0' sprites 'tiles -o none.png' palette differ; do
     read -r word rest <<<"$command"
     # a row and a column stand behind the script, all else may
-    says "$word: a script for the home machine" 1 "docs/scripts/home-scene.desk:3:1: the script is for the home machine: \`desk make\` takes it, and \`show\`, \`list\` and \`interrupts\` with --home" $word $fill $rest
+    says "$word: a script for the home machine" 1 'docs/scripts/home-scene.desk:3:1: the script is for the home machine: --home takes it' $word $fill $rest $([ $word != differ ] || echo $fill)
+    says "$word --home: a script for the handheld" 1 "$flicker:3:1: the script is for the handheld, as no \`home\` stands before all other statements: without --home it is taken, or with --home the trace that \`desk make\` makes of it" \
+        $word $flicker $rest $([ $word != differ ] || echo $flicker) --home
 done
-damaged 's/no C call/no call/I' home.py && rm "$work/copy/build" && mkdir "$work/copy/build" && ln -s "$PWD/build/native" "$work/copy/build/native" && "$work/copy/desk/desk" show "$work/fill.trace" --home -o "$work/none" >"$work/out" 2>"$work/err"
-[ $? -eq 2 ] && [ "$(cat "$work/err")" = "desk: no $work/copy/build/bin/home-trace: \`make\` makes it" ]
-tell 'show --home: no program' $?
-[ ! -e "$work/none" ]
+printf '# nothing\n' >"$work/nothing.desk"
+says 'show --home: a script with no statement' 1 "desk: $work/nothing.desk: the script is for the handheld, as no \`home\` stands before all other statements: without --home it is taken, or with --home the trace that \`desk make\` makes of it" show "$work/nothing.desk" --home -o "$work/none"
+"$desk" make $flicker -o "$work/flicker.trace" >/dev/null
+run show "$work/flicker.trace" --home -o "$work/shown.png"
+[ "$status" -eq 0 ] && grep -q ' frames of 256 x 192, row by row, on the home machine$' "$work/out"
+tell 'show --home: the trace of one is shown' $?
+damaged 's/proved programs/programs/' programs.py && rm "$work/copy/build" && mkdir "$work/copy/build" && ln -s "$PWD/build/native" "$work/copy/build/native" && "$work/copy/desk/desk" show "$work/fill.trace" --home --check -o "$work/none" >"$work/out" 2>"$work/err"
+[ $? -eq 2 ] && [ "$(cat "$work/err")" = "desk: no $work/copy/build/bin/home-snapshot: \`make\` makes it" ]
+tell 'show --home --check: no program' $?
+[ ! -e "$work/none" ] && [ ! -e none.png ]
 tell 'nothing was written' $?
-# Listings, by home-trace.
-python3 tests/desk/random_traces.py 2 "${SEED:-1}" "$work/home" home
-cp "$work/fill.trace" tests/traces/refusals.trace tests/traces/interrupts.trace "$work/home/"
-texts=
-for trace in build/test/desk/home/*.trace; do
-    build/bin/home-trace "$trace" >"${trace%.trace}.text"
-    texts="$texts $trace ${trace%.trace}.text"
-done
+# Listings, beside home-trace.
 try 'list --home: listings make their traces again, and say of each record what home-trace prints' python3 tests/desk/round.py --home $texts
 run list "$work/fill.trace" --home
 cp "$work/out" "$work/listing.desk"

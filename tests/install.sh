@@ -28,7 +28,7 @@ tell "sheet and repair from there" $?
 
 if command -v python3 >/dev/null; then
     PATH="$prefix/bin:$PATH"
-    # the same words as from the project: a question, a picture held to the programs, the home machine by its programs
+    # the same words as from the project: a question, a picture held to the programs, the home machine
     for words in 'differ split-old.desk split-new.desk -o PNG' 'show --check split90.trace -o PNG' 'show --home home-scene.desk -o PNG' 'pixel split90.trace 3 67'; do
         (eval "desk ${words/PNG/there.png}") >there.text 2>&1
         status=$?

@@ -45,9 +45,12 @@ printf 'PR~LS\377' >"$work/damaged"
 "$desk" page "$work/damaged" -o "$work/none.html" 2>"$work/err"
 [ $? -eq 1 ] && [ "$(cat "$work/err")" = "desk: $work/damaged: byte 3, record 2: a step of area 255, and there is no such area" ] && [ ! -e "$work/none.html" ]
 tell 'desk page: a damaged trace, and nothing is written' $?
-if ! grep -q VDP_HOME_STATE_SIZE include/vdp.h; then
-    "$desk" page docs/scripts/home-scene.desk -o "$work/none.html" 2>"$work/err"
-    [ $? -eq 1 ] && [ "$(cat "$work/err")" = "desk: docs/scripts/home-scene.desk: it is for the home machine, and the page's library has no calls for it" ]
-    tell 'desk page: a script for the home machine' $?
-fi
+"$desk" page docs/scripts/flicker.desk --home -o "$work/none.html" 2>"$work/err"
+[ $? -eq 1 ] && grep -q '^docs/scripts/flicker.desk:3:1: the script is for the handheld, ' "$work/err" && [ ! -e "$work/none.html" ]
+tell 'desk page --home: a script for the handheld' $?
+"$desk" page tests/traces/areas.trace --home -o "$work/none.html" 2>"$work/err"
+[ $? -eq 1 ] && [ "$(cat "$work/err")" = "desk: tests/traces/areas.trace: byte 3, record 2: a step of area 1, and the home machine's steps are of area 0" ] && [ ! -e "$work/none.html" ]
+tell 'desk page --home: a trace of other areas' $?
+"$desk" page "$work/home/random-0.trace" --home -o "$work/home.html" >/dev/null && grep -q '"machine":"home machine"' "$work/home.html"
+tell 'desk page --home: a trace for the home machine' $?
 total

@@ -39,7 +39,7 @@ video:
         out (command), a
         ret
 
-; colours: the B bytes from HL on, two a colour, go to the palette from byte A on.
+; colours: the B bytes from HL on, two a colour (on the home machine one), go to the palette from byte A on.
 colours:
         out (command), a
         ld a, 0xc0

@@ -1,6 +1,7 @@
-/* play.c: a small player of handheld cartridges, of libvdp and of Debian's Z80 core, libz80ex: it runs a .gg file for
- * some frames, writes the last one as a picture, and records what the program asked of the chip, so that
- * build/bin/trace and build/bin/snapshot answer the same again. README.md beside this file shows how.
+/* play.c: a small player of cartridges, of libvdp and of Debian's Z80 core, libz80ex: it runs a .gg file of the handheld,
+ * or with --home a .sms file of the home machine, for some frames, writes the last one as a picture, and records what the
+ * program asked of the chip, so that build/bin/trace and build/bin/snapshot (at home home-trace and home-snapshot) answer
+ * the same again. README.md beside this file shows how.
  *
  * The machine: the file under C000, 8 KiB of memory from there on, which stand there again from E000; 228 cycles of the
  * processor, then a step of the chip; the chip's interrupt at 0038. No sound; buttons are pressed as the command line says.
@@ -27,6 +28,7 @@
 /* What was asked for; 0 frames where no number was named. */
 static long frames, picture_frame;
 static uint8_t table = VDP_CHART_TABLE;
+static int home;
 static const char *cartridge_name, *picture_name, *recording_name, *answers_name;
 
 /* The cartridge, and which of its pages of 16 KiB stand at 0000, 4000 and 8000. */
@@ -35,10 +37,11 @@ static size_t cartridge_size;
 static uint8_t pages[3] = {0, 1, 2};
 static uint8_t memory[0x2000];
 
-/* The chip: its state, video memory and frame, and whether it asks for an interrupt that was not taken yet. */
+/* The chip: its state, video memory and frame, each as large as either machine needs it, and whether it asks for an
+ * interrupt that was not taken yet. */
 static uint8_t state[VDP_STATE_SIZE];
 static uint8_t vram[VDP_VRAM_SIZE];
-static uint8_t frame[VDP_VISIBLE_FRAME_SIZE];
+static uint8_t frame[VDP_HOME_FRAME_SIZE];
 static int interrupt;
 static unsigned long steps, calls, refused;
 
@@ -72,10 +75,52 @@ static void stop_by_number(const char *name, int number)
     stop(2, name, number ? strerror(number) : "it could not be read or written");
 }
 
+static int ends_in(const char *name, const char *end)
+{
+    return strlen(name) >= strlen(end) && strcmp(name + strlen(name) - strlen(end), end) == 0;
+}
+
 /* Steps to a frame. */
 static unsigned pass_steps(void)
 {
     return table == VDP_CHART_TABLE ? VDP_CHART_PASS_STEPS : VDP_OLD_PASS_STEPS;
+}
+
+/* And to the end of this frame. At home the step to line 0 draws row 0 of the next one, and so is not among them. */
+static unsigned long steps_to(long number)
+{
+    return (unsigned long)number * pass_steps() - (home ? 1 : 0);
+}
+
+static unsigned width(void) { return home ? VDP_HOME_WIDTH : VDP_VISIBLE_WIDTH; }
+static unsigned height(void) { return home ? VDP_HOME_HEIGHT : VDP_VISIBLE_HEIGHT; }
+
+/* The chip's calls, of the machine that is played. */
+
+static void call_new(void)
+{
+    if (home)
+        vdp_home_new_table(state, VDP_HOME_STATE_SIZE, table);
+    else
+        vdp_new_table(state, VDP_STATE_SIZE, table);
+}
+
+static uint32_t call_out(uint8_t port, uint8_t value)
+{
+    return home ? vdp_home_out(state, VDP_HOME_STATE_SIZE, vram, sizeof vram, port, value)
+                : vdp_out(state, VDP_STATE_SIZE, vram, sizeof vram, port, value);
+}
+
+static uint32_t call_input(uint8_t port)
+{
+    return home ? vdp_home_input(state, VDP_HOME_STATE_SIZE, vram, sizeof vram, port)
+                : vdp_input(state, VDP_STATE_SIZE, vram, sizeof vram, port);
+}
+
+static uint32_t call_step(void)
+{
+    return home ? vdp_home_step(state, VDP_HOME_STATE_SIZE, vram, sizeof vram, frame, VDP_HOME_FRAME_SIZE)
+                : vdp_step(state, VDP_STATE_SIZE, vram, sizeof vram, frame, VDP_VISIBLE_FRAME_SIZE, VDP_VISIBLE);
 }
 
 /* Keeps a record that was just written to the recording; ends the recording where there was no room for it. Answers
@@ -93,12 +138,13 @@ static int keep(uint32_t answer)
     return recording_on;
 }
 
-/* The three things that are asked of the chip. Each is recorded, and its answer written as build/bin/trace prints it. */
+/* The three things that are asked of the chip. Each is recorded, and its answer written as build/bin/trace prints it. (A
+ * step of the home machine is recorded as of area 0.) */
 
 static void chip_write(uint8_t port, uint8_t value)
 {
     int kept = recording_on && keep(vdp_record_out(recording, sizeof recording, used, port, value));
-    unsigned refusal = vdp_refusal(vdp_out(state, sizeof state, vram, sizeof vram, port, value));
+    unsigned refusal = vdp_refusal(call_out(port, value));
 
     calls++;
     refused += refusal != VDP_OK;
@@ -109,7 +155,7 @@ static void chip_write(uint8_t port, uint8_t value)
 static uint8_t chip_read(uint8_t port)
 {
     int kept = recording_on && keep(vdp_record_input(recording, sizeof recording, used, port));
-    uint32_t answer = vdp_input(state, sizeof state, vram, sizeof vram, port);
+    uint32_t answer = call_input(port);
 
     calls++;
     refused += vdp_refusal(answer) != VDP_OK;
@@ -123,7 +169,7 @@ static uint8_t chip_read(uint8_t port)
 static void chip_step(void)
 {
     int kept = recording_on && keep(vdp_record_step(recording, sizeof recording, used, VDP_VISIBLE));
-    uint32_t answer = vdp_step(state, sizeof state, vram, sizeof vram, frame, sizeof frame, VDP_VISIBLE);
+    uint32_t answer = call_step();
 
     steps++;
     refused += vdp_refusal(answer) != VDP_OK;
@@ -181,7 +227,7 @@ static Z80EX_BYTE port_read(Z80EX_CONTEXT *cpu, Z80EX_WORD port, void *data)
     case 0x80: return chip_read(VDP_PORT_DATA);
     case 0x81: return chip_read(VDP_PORT_COMMAND);
     case 0xC0: return 0xFF & ~pressed(0);
-    default: return (port & 0xFF) == 0 ? 0xC0 & ~pressed(1) : 0xFF; /* 00 also tells, by bit 6, that the machine is an exported one */
+    default: return !home && (port & 0xFF) == 0 ? 0xC0 & ~pressed(1) : 0xFF; /* 00 also tells, by bit 6, that the machine is an exported one */
     }
 }
 
@@ -206,7 +252,7 @@ static void write_picture(void);
 /* Plays all the frames: a pass of steps each, and before each step a line's cycles. The picture is that of its frame. */
 static void play(void)
 {
-    unsigned long all = (unsigned long)frames * pass_steps();
+    unsigned long all = steps_to(frames);
     long cycles = 0;
     Z80EX_CONTEXT *cpu = z80ex_create(memory_read, NULL, memory_write, NULL, port_read, NULL, port_write, NULL, bus_on_interrupt, NULL);
 
@@ -221,7 +267,7 @@ static void play(void)
             cycles -= taken ? taken : z80ex_step(cpu);
         }
         chip_step();
-        if (steps == (unsigned long)picture_frame * pass_steps())
+        if (steps == steps_to(picture_frame))
             write_picture();
     }
     z80ex_destroy(cpu);
@@ -339,43 +385,43 @@ static void write_part(FILE *file, const char *mark, const uint8_t *bytes, size_
 /* The frame as a PNG: each row in a block of its own, not packed, behind a byte that says it has no filter. */
 static void write_png(FILE *file)
 {
-    enum { LINE = 1 + 3 * VDP_VISIBLE_WIDTH, BLOCK = 5 + LINE };
-    static uint8_t raw[LINE * VDP_VISIBLE_HEIGHT], packed[2 + BLOCK * VDP_VISIBLE_HEIGHT + 4] = {0x78, 0x01};
-    uint8_t head[13] = {0, 0, 0, VDP_VISIBLE_WIDTH, 0, 0, 0, VDP_VISIBLE_HEIGHT, 8, 2};
+    static uint8_t raw[(1 + 3 * VDP_HOME_WIDTH) * VDP_HOME_HEIGHT], packed[2 + (6 + 3 * VDP_HOME_WIDTH) * VDP_HOME_HEIGHT + 4] = {0x78, 0x01};
+    size_t length = 1 + 3 * width(), block_length = 5 + length, packed_length = 2 + block_length * height() + 4;
+    uint8_t head[13] = {0, 0, 0, 0, 0, 0, 0, 0, 8, 2};
 
-    for (unsigned y = 0; y < VDP_VISIBLE_HEIGHT; y++) {
-        uint8_t *line = raw + LINE * y, *block = packed + 2 + BLOCK * y;
+    write_number(head, width());
+    write_number(head + 4, height());
+    for (unsigned y = 0; y < height(); y++) {
+        uint8_t *line = raw + length * y, *block = packed + 2 + block_length * y;
 
-        for (unsigned x = 0; x < VDP_VISIBLE_WIDTH; x++)
-            memcpy(line + 1 + 3 * x, frame + 4 * (VDP_VISIBLE_WIDTH * y + x), 3);
-        block[0] = y == VDP_VISIBLE_HEIGHT - 1; /* the last one */
-        block[1] = LINE % 256, block[2] = LINE / 256;
+        for (unsigned x = 0; x < width(); x++)
+            memcpy(line + 1 + 3 * x, frame + 4 * (width() * y + x), 3);
+        block[0] = y == height() - 1; /* the last one */
+        block[1] = length % 256, block[2] = (uint8_t)(length / 256);
         block[3] = (uint8_t)~block[1], block[4] = (uint8_t)~block[2];
-        memcpy(block + 5, line, LINE);
+        memcpy(block + 5, line, length);
     }
-    write_number(packed + sizeof packed - 4, packed_sum(raw, sizeof raw));
+    write_number(packed + packed_length - 4, packed_sum(raw, length * height()));
     write_bytes(file, picture_name, "\x89PNG\r\n\x1A\n", 8);
     write_part(file, "IHDR", head, sizeof head);
-    write_part(file, "IDAT", packed, sizeof packed);
+    write_part(file, "IDAT", packed, packed_length);
     write_part(file, "IEND", NULL, 0);
 }
 
 /* And as build/bin/snapshot writes it. */
 static void write_ppm(FILE *file)
 {
-    fprintf(file, "P6\n%d %d\n255\n", VDP_VISIBLE_WIDTH, VDP_VISIBLE_HEIGHT);
-    for (unsigned pixel = 0; pixel < VDP_VISIBLE_WIDTH * VDP_VISIBLE_HEIGHT; pixel++)
+    fprintf(file, "P6\n%u %u\n255\n", width(), height());
+    for (unsigned pixel = 0; pixel < width() * height(); pixel++)
         write_bytes(file, picture_name, frame + 4 * pixel, 3);
 }
 
 /* The frame as it is now; which kind of file the name tells. */
 static void write_picture(void)
 {
-    size_t length = picture_name ? strlen(picture_name) : 0;
-
     if (!picture_file)
         return;
-    if (length >= 4 && strcmp(picture_name + length - 4, ".png") == 0)
+    if (ends_in(picture_name, ".png"))
         write_png(picture_file);
     else
         write_ppm(picture_file);
@@ -383,8 +429,10 @@ static void write_picture(void)
 }
 
 static const char usage[] =
-    "usage: play [--frames N] [--table 0|1] [--press WHEN:BUTTON].. [--frame N] [--picture FILE] [--record FILE] [--answers FILE] CARTRIDGE.gg\n"
-    "Plays a handheld's cartridge for some frames, without sound.\n"
+    "usage: play [--home] [--frames N] [--table 0|1] [--press WHEN:BUTTON].. [--frame N] [--picture FILE] [--record FILE] [--answers FILE] CARTRIDGE\n"
+    "Plays a handheld's cartridge, CARTRIDGE.gg, for some frames, without sound; with --home one of the home machine, CARTRIDGE.sms.\n"
+    "  --home          on the home machine, whose picture has 256 x 192 pixels; its recordings are for build/bin/home-trace,\n"
+    "                  build/bin/home-snapshot, and build/bin/desk with --home. It has no button start\n"
     "  --frames N      so many frames, 1 to 1000000; with no number named 60, or as many as --frame asks for\n"
     "  --table 0|1     the line table: 0 has 261 steps to a frame, 1 has 262, and is taken where none is named\n"
     "  --press 120:start     a button is down in frame 120; --press 120-130:right from frame 120 to 130. Buttons: start, up, down,\n"
@@ -455,6 +503,10 @@ static void read_words(int count, char **words)
             int is_frames = strcmp(word, "--frames") == 0, is_table = strcmp(word, "--table") == 0;
             int is_frame = strcmp(word, "--frame") == 0, is_press = strcmp(word, "--press") == 0;
 
+            if (strcmp(word, "--home") == 0) {
+                home = 1;
+                continue;
+            }
             if (!name && !is_frames && !is_table && !is_frame && !is_press)
                 stop(1, word, "no such option; --help tells which there are");
             if (++n == count)
@@ -477,6 +529,13 @@ static void read_words(int count, char **words)
     }
     if (!cartridge_name)
         stop(1, "no cartridge is named", "play CARTRIDGE.gg, and --help tells more");
+    if (!home && ends_in(cartridge_name, ".sms"))
+        stop(1, cartridge_name, "a cartridge of the home machine, by its name: --home plays it");
+    if (home && ends_in(cartridge_name, ".gg"))
+        stop(1, cartridge_name, "a cartridge of the handheld, by its name: it is played without --home");
+    for (int n = 0; home && n < press_count; n++)
+        if (presses[n].button->start_bit)
+            stop(1, "--press", "the home machine has no button start");
     if (picture_frame && !picture_name)
         stop(1, "--frame", "it goes with --picture");
     if (!frames)
@@ -506,7 +565,7 @@ int main(int count, char **words)
     answers = open_to_write(answers_name);
     recording_on = recording_file || answers;
 
-    vdp_new_table(state, sizeof state, table);
+    call_new();
     play();
 
     if (recording_file) {

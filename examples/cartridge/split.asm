@@ -102,13 +102,7 @@ cloud:
         out (data), a
         xor a
         ld (aside), a
-        ld a, 0xe0              ; the display and the frame interrupt on
-        ld c, 1
-        call register
-        ei
-sleep:
-        halt
-        jr sleep
+        include 'sleep.asm'
 
 ;          0     1     2     3     4     5     6     7  8  9  10
 setup:  db 0x14, 0x80, 0xff, 0xff, 0xff, 0xff, 0xfb, 0, 0, 0, 91

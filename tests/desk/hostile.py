@@ -164,7 +164,7 @@ def word():
 
 
 GOOD = ["reg {} = 40", "reg 1 = {}", "colour {} = 0F 00", "colour 3 = {} {}", "palette {} = {}", "vram {} = FF {} times {}", "tile {} = {}", "tile 5 = 00000000 times {}", "tile 5 = q.png {} {}", "map {} {} = {} {}",
-        "map screen {} {} = 3 times {}", "sprite {} = {} {} {}", "sprite {} end", "steps {}", "until {} {}", "passes {}", "area {}", "read {} times {}", "write {} = {} {}", "repeat {}", "end", "include {}", "home", "{}: {} {}",
+        "map screen {} {} = 3 times {}", "sprite {} = {} {} {}", "sprite {} end", "steps {}", "until {} {}", "passes {}", "frames {}", "area {}", "read {} times {}", "write {} = {} {}", "repeat {}", "end", "include {}", "home", "{}: {} {}",
         "pass", "sprite 0 = 0 0 0", "reg 0 = 18", "until interrupt", "until row 3", "write BF = 00"]
 
 

@@ -1,5 +1,5 @@
 #!/usr/bin/env python3
-"""layer_colours.py: the colours by which the desk shows layers: 64 for sprites and three more, no two the same, and the eye tells them apart: by their distance
+"""layer_colours.py: the colours by which the desk shows layers: 64 for sprites and four more, no two the same, and the eye tells them apart: by their distance
 in CIELAB those of any two, still more those of sprites whose numbers are at most six apart; and none is near the grey of a grid."""
 import itertools
 import pathlib
@@ -27,8 +27,8 @@ def distance(one, other):
 
 sprites = [layers.COLOURS[layers.SPRITE + n] for n in range(64)]
 others = [layers.COLOURS[layer] for layer in layers.NAMES] + [tuple(pictures.GRID)]
-if len(layers.COLOURS) != 67 or len(set(layers.COLOURS.values())) != 67:
-    sys.exit("not 67 colours")
+if len(layers.COLOURS) != 68 or len(set(layers.COLOURS.values())) != 68:
+    sys.exit("not 68 colours")
 for (n, one), (m, other) in itertools.combinations(enumerate(sprites), 2):
     if distance(one, other) < (NEAR if m - n <= REACH else ANY):
         sys.exit(f"sprites {n} and {m}: {one} and {other} are {distance(one, other):.0f} apart")

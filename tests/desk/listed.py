@@ -5,6 +5,7 @@ import sys
 
 sys.path.insert(0, str(pathlib.Path(__file__).resolve().parents[2] / "desk"))
 import language  # noqa: E402
+import library  # noqa: E402
 import listing  # noqa: E402
 import records  # noqa: E402
 
@@ -109,7 +110,7 @@ HOME = [
 ]
 for script, wanted in HOME:
     trace = language.made("home\n" + script, "script", ".", 1).trace
-    text, _ = listing.listed(records.Trace(trace, "trace", True), 1, False, True)
+    text, _ = listing.listed(records.Trace(trace, "trace", library.HOME), 1, False)
     if text != "".join(f"{statement:24}  # {words}\n" for statement, words in [("home", "the home machine, 256 x 192"), *wanted]):
         sys.exit(f"{script!r} of the home machine is listed as\n{text}not as\n{wanted}")
     if language.made(text, "listing", ".", 1).trace != trace:

@@ -1,7 +1,7 @@
 #!/usr/bin/env python3
 """places.py: where the desk's words and its statement `sprite` put a sprite is where it is drawn. Of every area, with the early clock and without: for each X byte
-the columns that the library draws, for each Y byte and either height the rows; of the home machine those that home-snapshot draws. And the place of the map
-that each corner of a screen shows is that of its window."""
+the columns that the library draws, for each Y byte and either height the rows; so of the home machine, and once more by what home-snapshot draws. And the place
+of the map that each corner of a screen shows is that of its window."""
 import pathlib
 import sys
 
@@ -29,10 +29,10 @@ def held(what, screen, registers, byte, columns):
 
 
 tried = 0
-for number, area in library.areas().items():
-    screen = machines.handheld().screens[number]
+for chip, number, area in [(chip, number, area) for chip in (library.HANDHELD, library.HOME) for number, area in library.areas(chip).items()]:
+    screen = machines.of(chip).screens[number]
     for clock in (0, 8):
-        device = library.Device()
+        device = library.Device(chip=chip)
         device.state.bytes[library.N["AT_REGISTERS"]] = clock
         device.vram.bytes[PATTERNS : PATTERNS + 64] = b"\xff" * 64
         device.vram.bytes[TABLE + 1] = 0xD0
@@ -41,7 +41,7 @@ for number, area in library.areas().items():
         for byte in range(256):
             device.vram.bytes[TABLE + 128] = byte
             layers = device.row_now(number, row)[1]
-            held(f"area {number}", screen, device.registers, byte, [column for column in range(area.columns) if layers[column] == 64])
+            held(area.named, screen, device.registers, byte, [column for column in range(area.columns) if layers[column] == 64])
             tried += 1
     for tall in (0, 2):
         device.state.bytes[library.N["AT_REGISTERS"]] = 0
@@ -51,19 +51,19 @@ for number, area in library.areas().items():
             device.vram.bytes[TABLE] = byte
             rows = [] if byte == 0xD0 else [row for row in range(area.rows) if 64 in device.row_now(number, row)[1]]
             if byte != 0xD0 and rows != list(screen.rows_of(byte, bool(tall))[1]):
-                wrong(f"area {number}, Y {byte}, {'16' if tall else '8'} high: drawn on rows {rows}")
+                wrong(f"{area.named}, Y {byte}, {'16' if tall else '8'} high: drawn on rows {rows}")
             tried += 1
     # a tile in a corner of the window changes that corner of the screen
     columns, rows = screen.window
     for column, x in ((columns[0], 0), (columns[-1], area.columns - 1)):
         for line, y in ((rows[0], 0), (rows[-1], area.rows - 1)):
-            device = library.Device()
+            device = library.Device(chip=chip)
             device.vram.bytes[TABLE] = 0xD0
             device.vram.bytes[MAP + 2 * (32 * line + column) + 1] = 8  # palette 1
-            device.state.bytes[library.N["AT_PALETTE"] + 32] = 0x0F
-            device.state.bytes[library.N["AT_DIRTY"]] = 1
+            device.state.bytes[chip.offsets["PALETTE"] + 16 * machines.of(chip).palette.bytes] = 0x0F
+            device.state.bytes[chip.offsets["DIRTY"]] = 1
             if device.pixel(number, y, x)[0] != 255:
-                wrong(f"area {number}: column {x}, row {y} does not show the map's column {column}, row {line}")
+                wrong(f"{area.named}: column {x}, row {y} does not show the map's column {column}, row {line}")
             tried += 1
 # The home machine: a sprite in each band of eight rows, its X byte written just before.
 home = machines.home().screens[0]

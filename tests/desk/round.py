@@ -8,6 +8,7 @@ import sys
 
 sys.path.insert(0, str(pathlib.Path(__file__).resolve().parents[2] / "desk"))
 import language  # noqa: E402
+import library  # noqa: E402
 import listing  # noqa: E402
 import records  # noqa: E402
 
@@ -36,10 +37,10 @@ told, home = 0, sys.argv[1:2] == ["--home"]
 names = sys.argv[2 if home else 1 :]
 for name, text in zip(names[::2], names[1::2]):
     trace = pathlib.Path(name).read_bytes()
-    found = records.Trace(trace, name, home)
+    found = records.Trace(trace, name, library.HOME if home else library.HANDHELD)
     for each in (False, True):
-        for table in (1,) if home else (0, 1):
-            script, _ = listing.listed(found, table, each, home)
+        for table in (0, 1):
+            script, _ = listing.listed(found, table, each)
             if language.made(script, name, ".", table).trace != trace:
                 sys.exit(f"{name}: its listing makes another trace")
     lines = [re.fullmatch(r"(.*?) +# (.*)", line).groups() for line in script.splitlines()]

@@ -66,6 +66,10 @@ CASES = [
     ("repeat 2\n  repeat 3\n    steps 1\n  end\n  read 7E\nend # of both", 1, (STEP * 3 + b"PR\x7e") * 2),
     ("change: steps 2\nsteps 1", 1, STEP * 3),
     ("a-1: repeat 2\nb: steps 1\nend", 1, STEP * 2),
+    ("frame", 1, STEP * 261),
+    ("frames 2\nframe", 1, STEP * 785),
+    ("frames 2\nframe", 0, STEP * 782),
+    ("home\nframes 2", 1, STEP * 523),
     ("pass\npasses 2", 1, STEP * 786),
     ("pass\npasses 2", 0, STEP * 783),
     ("read 7E\nread BF times 2", 1, b"PR\x7ePR\xbfPR\xbf"),
@@ -89,7 +93,7 @@ for script, without, wanted in (
     ("a: steps 1\nb: steps 2\nsteps 4", ["a", "b"], STEP * 4),
     ("a: steps 0\nsteps 4", ["a"], STEP * 4),
 ):
-    made = language.made(script, "script", "", 1, True, without).trace
+    made = language.made(script, "script", "", 1, None, without).trace
     if made != wanted:
         sys.exit(f"{script!r} without {without} makes {made.hex(' ')}, not {wanted.hex(' ')}")
 # an area is one that the library takes, and no other

@@ -102,6 +102,8 @@ CASES = [
     ("include\n", (1, 8, "the line ends too early: a script is missing")),
     ("until line 256\n", (1, 12, "`256`: the line is a number from 0 to 255")),
     ("pass 2\n", (1, 6, "`2`: nothing more is taken here")),
+    ("frame 2\n", (1, 7, "`2`: nothing more is taken here")),
+    ("frames 0\n", (1, 8, "`0`: how many frames is a number from 1 to 10,000")),
     ("passes 0\n", (1, 8, "`0`: how many passes is a number from 1 to 10,000")),
     ("read 17E\n", (1, 6, "`17E`: the port is hexadecimal, 00 to FF")),
     ("write BF\n", (1, 9, "the line ends too early: `=` is missing")),

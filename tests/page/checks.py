@@ -3,6 +3,7 @@
 import base64
 import json
 import pathlib
+import random
 import re
 import sys
 import time
@@ -542,8 +543,7 @@ def settings(page):
                                      ("theme", "", "document.documentElement.dataset.theme ?? 'none'", "none")):
         page.ask("(id, value) => { const s = document.getElementById(id); s.value = value; s.dispatchEvent(new Event('change')); }", name, value)
         page.wait(f"({ask}) === {json.dumps(wanted)}")
-    homes = page.run("desk.library.calls.vdp_home_step !== undefined")
-    assert page.run("document.getElementById('machine').disabled") != homes and page.run("document.getElementById('machine-note').hidden") == homes
+    assert page.run("[...document.getElementById('machine').options].map((option) => option.value)") == ["handheld", "home machine"]
     page.key("Escape", 27)
     assert not page.run("document.getElementById('settings').open")
     node = page.call("DOM.getDocument")["root"]["nodeId"]
@@ -779,33 +779,186 @@ def caught(page):
     return "4 of them"
 
 
+HOME = native.library.HOME
+
+
+def homes():
+    """Names and bytes of traces for the home machine: of every script of docs, of tests/desk/home-corners.desk, and random ones."""
+    paths = native.scripts(True) + [native.ROOT / "tests" / "desk" / "home-corners.desk"] + sorted((FOLDER / "home").glob("*.trace"))
+    return [(path, native.trace(path)) for path in paths]
+
+
+def chosen(page, name):
+    """The page stands open on this machine."""
+    page.ask("(name) => { const s = document.getElementById('machine'); s.value = name; s.dispatchEvent(new Event('change')); }", name)
+    page.wait(f"desk.app.film.machine.name === {json.dumps(name)}")
+
+
 @check
 def home(page):
-    """the home machine, where the library has calls for it: pictures, layers, list and words"""
+    """the home machine: every frame of every script and of random traces has the native library's pixels and layers, by either line table, and the last one is that of home-snapshot"""
     page.open(PAGE)
-    if not page.run("desk.library.calls.vdp_home_step !== undefined"):
-        said = page.run("document.getElementById('machine-note').textContent")
-        assert "no calls for the home machine" in said and page.run("document.getElementById('machine').disabled")
-        return f"the switch is off, and says: {said}"
-    traces = [native.trace(path) for path in native.scripts(True)] + [path.read_bytes() for path in sorted((FOLDER / "home").glob("*.trace"))]
-    page.ask("(name) => { const s = document.getElementById('machine'); s.value = name; s.dispatchEvent(new Event('change')); }", "home machine")
-    page.wait("desk.app.film.machine.name === 'home machine'")
-    for data in traces:
-        opened(page, data, "home")
-        page.run("desk.app.view(document.getElementById('tab-look'))")
-        last = page.ask(SHOWN)["frames"][-1]
-        assert base64.b64decode(last[0]) == native.programs.picture("home-snapshot", data).data, "another picture"
+    chosen(page, "home machine")
+    assert page.run("[document.getElementById('machine').disabled, document.getElementById('area').disabled].join()") == "false,true"
+    count, layers = 0, set()
+    for path, data in homes():
+        opened(page, data, path.name)
+        for table in (0, 1):
+            changed(page, "table", str(table))
+            seen, wanted = native.frames(data, table, None, HOME)
+            wrong = same_frames(page, data, seen, wanted)
+            assert not wrong, f"{path.name}, table {table}: {wrong}"
+            count += len(wanted)
+        assert wanted[-1][0] == native.programs.picture("home-snapshot", data).data, f"{path.name}: home-snapshot draws another picture"
+        layers |= set(wanted[-1][1])
+    assert layers >= {0, 1, 2, 64, 65}, layers
+    return f"{len(homes())} of them, {count} frames"
+
+
+@check
+def home_words(page):
+    """the home machine: lists, interrupts, pixels and sprites are told as the desk tells them with --home, and no row disagrees with the library"""
+    page.open(PAGE)
+    chosen(page, "home machine")
+    rows = places = lines = 0
+    pick = random.Random(1)
+    for path, data in homes():
+        made = FOLDER / "home.trace"
+        made.write_bytes(data)
+        opened(page, data, path.name)
         here = page.run("desk.app.lister.lines.map((line) => line.statement.padEnd(24) + '  # ' + line.words + '\\n').join('')")
-        assert here == native.listing.listed(native.records.Trace(data, "trace", True), 1, False, True)[0], "another list"
-        wrong = page.run("Array.from({ length: 192 }, (_, row) => desk.app.look.toldRow(row).told.wrong).filter((words) => words)")
-        assert not wrong, wrong[0]
-    page.ask("(question) => { desk.app.whatif.set(question); desk.app.whatif.update(); }", {"line": 90, "frame": 1, "seen": 1, "kind": "colour", "index": 0, "value": [0x3F]})
-    assert page.run("document.getElementById('why').textContent").startswith("The step that set the counter to 90 has drawn row 90 already"), "why"
+        there, _ = native.listing.listed(native.records.Trace(data, "trace", HOME), 1)
+        assert here == there, f"{path.name}: another list"
+        lines += there.count("\n")
+        here = page.run("desk.interruptFrames(desk.app.film).map(({ name, lines }) => [name, lines.map(({ line }) => line)])")
+        said = [f"{name}: " + (f"{'line' if len(found) == 1 else 'lines'} {native.difference.runs(found)}" if found else "none") for name, found in here]
+        assert said == native.desk("interrupts", made, "--home").rstrip("\n").split("\n"), (path.name, said)
+        wrong = page.run("(() => { const { look } = desk.app; look.toFrame(look.frames.length); look.update(); return Array.from({ length: 192 }, (_, row) => look.toldRow(row).told.wrong).filter((words) => words); })()")
+        assert not wrong, f"{path.name}: {wrong[0]}"
+        rows += 192
+        # of a script with no steps the page stands at its beginning, the desk at its end
+        for row, column in [(46, 3), (63, 3), (65, 0), (0, 8), (191, 255)] + [(pick.randrange(192), pick.randrange(256)) for _ in range(4)] if b"LS\0" in data else []:
+            here = page.ask("""(row, column) => {
+              const { look } = desk.app, { told, when } = look.toldRow(row);
+              told.samePixel(look.inspector.device, column);
+              return [told.wrong, desk.pixelText(told, column, when), desk.spritesText(told, when)];
+            }""", row, column)
+            there = ["", native.desk("pixel", made, row, column, "--home").rstrip("\n"), native.desk("sprites", made, row, "--home").rstrip("\n")]
+            assert here == there, f"{path.name}, row {row}, column {column}:\n" + "\n".join(f"{a}\n-- and not\n{b}" for a, b in zip(here, there) if a != b)
+            places += 1
+    return f"{lines} lines, {rows} rows, {places} places"
+
+
+@check
+def home_questions(page):
+    """the home machine: what if: the sentence, and the trace with the change in it, are those of `desk differ --home`"""
+    page.open(PAGE)
+    chosen(page, "home machine")
+    path, made, old = native.ROOT / "docs" / "scripts" / "home-bar.desk", FOLDER / "home-changed.trace", FOLDER / "home-old.trace"
+    data = native.trace(path)
+    old.write_bytes(data)
+    opened(page, data, path.name)
+    assert page.run("desk.app.whatif.question.value.length") == 1, "a colour of the home machine has one byte"
+    whys = {(2, 90): "The step that set the counter to 90 has drawn row 90 already, and that row keeps what it has. Row 91,", (2, 0): "The step that set the counter to 0 has drawn row 0 already"}
+    count = 0
+    for frame, line, kind, index, value in [(2, line, "colour", 0, [0x3F]) for line in (0, 1, 90, 189, 190)] + [(1, 90, "colour", 0, [0x3F]), (2, 90, "register", 0, [0x60]), (2, 90, "register", 7, [0x07]), (2, 90, "register", 8, [0x31]),
+                                            (1, 90, "register", 9, [0x31]), (2, 90, "memory", 0x3F80, [0x40]), (1, 190, "colour", 23, [0x30]), (1, 191, "colour", 0, [0x3F])]:
+        asked = {"line": line, "frame": frame, "seen": 2, "kind": kind, "index": index, "value": value}
+        told = page.ask("""(question) => {
+          const { whatif } = desk.app;
+          whatif.set(question);
+          whatif.update();
+          return { text: whatif.text(), head: document.getElementById("head").textContent, why: document.getElementById("why").textContent, trace: whatif.answer && btoa(String.fromCharCode(...whatif.newTrace())) };
+        }""", asked)
+        at = native.insertion(data, frame, line, HOME)
+        made.write_bytes(data[:at] + native.change(kind, index, value) + data[at:])
+        assert told["trace"] and base64.b64decode(told["trace"]) == made.read_bytes(), f"{asked}: another trace: {told}"
+        said = re.sub(r"^frame \d+: ", "", native.desk("differ", old, made, "--home", "--frame", 2).rstrip("\n"))
+        assert told["text"] == said, f"{asked}: the page says\n{told['text']}\nand the desk\n{said}"
+        assert "DISAGREE" not in told["why"] and told["why"].startswith(whys.get((frame, line), "")), told
+        if (frame, line, kind) == (2, 90, "colour"):
+            assert told["head"] == "Rows 91 to 191 change in frame 2.", told
+        if (kind, index) == ("register", 7):
+            assert "No rule reads" not in told["why"], told
+        count += 1
+    return f"{count} places"
+
+
+@check
+def home_panels(page):
+    """the home machine: its panels, its legend, its settings, a page with its script in it; and a script for the other machine is told"""
     path = FOLDER / "home-given.html"
-    native.desk("page", native.scripts(True)[0], "-o", path)
+    native.desk("page", native.ROOT / "docs" / "scripts" / "home-fill.desk", "-o", path)
     page.open(path)
-    assert page.run("desk.app.film.machine.name") == "home machine"
-    return f"{len(traces)} traces"
+    text = lambda name: page.run(f"document.getElementById({json.dumps(name)}).textContent")  # noqa: E731
+    problem = lambda: page.run("document.getElementById('problem').hidden ? '' : document.getElementById('problem-text').textContent")  # noqa: E731
+    assert page.run("[desk.app.film.machine.name, document.getElementById('machine').value, document.getElementById('file-name').textContent].join()") == "home machine,home machine,home-fill.desk"
+    assert "lines 0 to 191 draw rows 0 to 191" in text("line-band") and problem() == "", problem()
+    page.click("#tab-look")
+    typed(page, "look-frame", "2")
+    assert page.run("[document.getElementById('screen').width, document.getElementById('screen').height].join()") == "256,192"
+    focus(page, "layers")
+    page.key("End", 35)
+    settled(page)
+    legend = page.run("[...document.querySelectorAll('#legend span')].map((e) => e.textContent)")
+    assert legend == ["background", "the fill of columns 0 to 7", "sprite 0", "sprite 2", "sprite 3"], legend
+    shown = page.run("[...document.getElementById('screen').getContext('2d').getImageData(3, 63, 1, 1).data]")
+    assert shown == [0, 0, 0x88, 255], shown
+    page.key("Home", 36)
+    page.run("desk.app.look.at({ row: 63, column: 3, pinned: true })")
+    for panel, words in (("Pixel", ("Row63", "Column3", "2: the fill of columns 0 to 7", "then the fill was laid over it", "In the palette15", "vdp_home_pixel say the same")),
+                         ("Registers", ("fill on, lock of rows 0 to 15 off", "the fill has colour 16")), ("Sprites", ("6 under the fill", "2 sprites on the row")),
+                         ("Writes", ("the fill has colour 16", "lines 0 to 191 draw rows 0 to 191")), ("Script", ("include home-scene.desk",))):
+        page.run(f"desk.app.look.panels.choose(document.getElementById('panel-{panel}'))")
+        settled(page)
+        for said in words:
+            assert said in text("panel"), (panel, said, text("panel"))
+    page.click("#panel-Palette")
+    page.click("[data-colour='23']")
+    assert "Bytes0F" in text("colour-facts") and "red 255, green 255, blue 0" in text("colour-facts"), text("colour-facts")
+    page.click("#panel-Tiles")
+    settled(page)
+    sheet = page.run("(() => { const c = document.querySelector('#panel canvas').getContext('2d'); return [...c.getImageData(8, 0, 1, 1).data, ...c.getImageData(2, 128, 1, 1).data]; })()")
+    assert sheet == [170, 85, 0, 255, 255, 255, 0, 255], sheet
+    # the same bytes on the other machine, and back
+    page.run("document.getElementById('settings').open = true")
+    chosen(page, "handheld")
+    assert problem() == "home-fill.desk is a script for the home machine. Here its trace runs on the other one, where its bytes mean something else.", problem()
+    chosen(page, "home machine")
+    assert problem() == "", problem()
+    page.open(PAGE)
+    chosen(page, "home machine")
+    assert problem().startswith("split-old.desk is a script for the handheld."), problem()
+    areas = (native.ROOT / "tests" / "traces" / "areas.trace").read_bytes()
+    opened(page, areas, "areas.trace")
+    assert problem().startswith(f"areas.trace: byte 3, record 2: {native.records.whats_wrong(areas, 3, HOME)}."), problem()
+    # nothing goes past the edge
+    for width in (400, 1280):
+        page.size(width, 900, False, width < 600)
+        page.open(path)
+        for view in ("tab-whatif", "tab-look"):
+            page.run(f"desk.app.view(document.getElementById('{view}'))")
+            settled(page)
+            wide = page.run("document.scrollingElement.scrollWidth")
+            assert wide <= width, f"{view}: {wide} pixels wide at {width}"
+    page.size(1280, 900)
+    return "shown"
+
+
+@check
+def home_caught(page):
+    """the home machine: slips in a copy of the page are caught: reasons that are not the library's are told as such"""
+    data = native.trace(native.ROOT / "tests" / "desk" / "home-corners.desk")
+    slips = 0
+    for old, new in (("registers[7] & 15", "registers[7] & 7"), ("row < 16 ? 0", "row < 8 ? 0"), ("x >= 192 ? row", "x >= 184 ? row"), ("edged(byte - early, 256)", "edged(byte - early - 8, 256)"),
+                     ("this.layers.fill(LAYER_FILLED, 0, 8)", "this.layers.fill(0, 0, 8)")):
+        page.open(damaged(old, new))
+        chosen(page, "home machine")
+        opened(page, data)
+        wrong = page.run("(() => { const { look } = desk.app; look.toFrame(2); look.update(); return Array.from({ length: 192 }, (_, row) => look.toldRow(row).told.wrong).filter((words) => words); })()")
+        assert wrong and wrong[0].startswith("THE PAGE'S REASONS DISAGREE WITH THE LIBRARY") and "the home machine, row" in wrong[0], (new, wrong[:1])
+        slips += 1
+    return f"{slips} of them"
 
 
 def main():

@@ -43,7 +43,7 @@ def trace(path):
 
 def scripts(home):
     """The scripts of docs/scripts for either machine."""
-    return [path for path in sorted((ROOT / "docs" / "scripts").glob("*.desk")) if language.script(str(path), 1).home == home]
+    return [path for path in sorted((ROOT / "docs" / "scripts").glob("*.desk")) if language.script(str(path), 1).machine.home == home]
 
 
 @functools.lru_cache(maxsize=None)
@@ -60,20 +60,20 @@ def as_area(data, area):
     return made
 
 
-def frames(data, table=1, area=None):
+def frames(data, table=1, area=None, chip=library.HANDHELD):
     """The frames of a trace: the area that is looked at, and of each frame red, green and blue of its pixels, and its layers."""
-    run = play.Run(records.Trace(data, "trace"), table, play.ALL)
+    run = play.Run(records.Trace(data, "trace", chip), table, play.ALL)
     seen = run.area(area)
     kept = run.frames(seen)
     return seen, [(commands.plain(frame, False).data, frame.layers) for _, frame in sorted(kept.items())]
 
 
-def insertion(data, frame, line):
+def insertion(data, frame, line, chip=library.HANDHELD):
     """The offset of the step that leaves this line in this frame's pass, by a device of our own beside the records; None where the counter never reads so."""
-    device, area = library.Device(1), library.areas()[0]
+    device, area = library.Device(1, chip), library.areas(chip)[0]
     row, layers = area.row(), area.layers()
     at, number, met = 0, 1, frame == 1 and line == 0
-    for record in records.Trace(data, "trace"):
+    for record in records.Trace(data, "trace", chip):
         if record.kind == records.STEP:
             if met:
                 return at
@@ -90,8 +90,8 @@ def insertion(data, frame, line):
 
 
 def change(kind, index, value):
-    """The records of a change."""
+    """The records of a change; a colour has as many bytes as its value."""
     if kind == "register":
         return records.write(COMMAND, value[0], 0x80 + index)
-    address = (2 * index, 0xC0) if kind == "colour" else (index % 256, 0x40 + index // 256)
+    address = (len(value) * index, 0xC0) if kind == "colour" else (index % 256, 0x40 + index // 256)
     return records.write(COMMAND, *address) + records.write(DATA, *value)
