@@ -1,7 +1,9 @@
 #!/usr/bin/env bash
 # layout.sh: what no proof says of the sources: their layout, that every proof says what it shows and every definition file what it assumes, that the rules which are cited are those
 # of docs/RULES.md and no others, that every public function has its theorem of one outcome or stands among the exceptions, that the theorem on refusal 7 speaks of every call there is,
-# that docs/CONTRACTS.md tells of every edit which must fail, and that each of them was tried, and refused for a fact.
+# that docs/CONTRACTS.md tells of every edit which must fail, and that each of them was tried, and refused for a fact. And of the pages: that the map's picture,
+# the names in the map and in the proof's page, the lines to read and the table of edits are those of the tree, that every link leads to a file, that README
+# is short and CHANGELOG.md begins with the number of the face.
 . "$(dirname "$0")/begin.sh"
 
 rt fmt --check
@@ -27,7 +29,7 @@ bare=$(grep -L '^-- .*Assumes nothing' $(find crates -path '*/specs/*.antt' ! -n
 tell "every definition file says what it assumes" $?
 
 # A rule begins a line of docs/RULES.md with its number. Where no definition renders it, `(in FILE)` behind the number names who answers for it.
-texts='README.md Makefile crates docs include examples peers player desk page oracle bench tests tools'
+texts='README.md CHANGELOG.md Makefile crates docs include examples peers player desk page oracle bench tests tools'
 rules=$(sed -nE 's/^\*\*(R[0-9]+\.[0-9]+)\*\*.*/\1/p' docs/RULES.md)
 twice=$(printf '%s\n' "$rules" | sort | uniq -d)
 [ -z "$twice" ] || printf 'used twice: %s\n' $twice
@@ -108,6 +110,32 @@ done | sort -u)
 [ "$told" = "$there" ] || diff <(printf '%s\n' "$told") <(printf '%s\n' "$there")
 [ -n "$there" ] && [ "$told" = "$there" ]
 tell "docs/CONTRACTS.md tells of every edit that must fail, and of no other" $?
+
+# The pages that scripts make or hold, each with a line of what is wrong.
+if command -v python3 >/dev/null; then
+    python3 tools/edits.py --check
+    tell "every edit that must fail says its slip and the fact that then fails, and docs/CONTRACTS.md has these lines" $?
+    python3 tools/rooms.py --check
+    tell "docs/rooms.svg is what crates.txt gives, docs/ARCHITECTURE.md has every crate in its storey, and its functions and definitions are there" $?
+    python3 tools/proof.py --check
+    tell "docs/PROOF.md counts the lines that there are, and its theorems and statements stand in the files that it names" $?
+else
+    skip "docs/CONTRACTS.md's edits, docs/rooms.svg, docs/ARCHITECTURE.md, docs/PROOF.md" 'no python3 here'
+fi
+dead=$(for page in README.md CHANGELOG.md docs/*.md docs/landings/*.md player/README.md oracle/README.md examples/cartridge/README.md; do
+    grep -oE '\]\([^)]+\)' "$page" | sed -E 's/^\]\(//; s/\)$//; s/#.*//' | grep -vE '^(https?:|$)' | sort -u | while read -r to; do
+        [ -e "$(dirname "$page")/$to" ] || printf '%s: no %s\n' "$page" "$to"
+    done
+done)
+[ -z "$dead" ] || printf '%s\n' "$dead"
+[ -z "$dead" ]
+tell "every link of the pages leads to a file" $?
+[ "$(wc -l <README.md)" -le 100 ]
+tell "README has at most 100 lines" $?
+# What has come with no change of the face stands above its number, under "Since".
+newest=$(grep -m 1 -oE '^## [0-9]+\.[0-9]+\.[0-9]+$' CHANGELOG.md)
+[ "$newest" = "## $(sed -nE 's/^#define VDP_VERSION_[A-Z]+ +([0-9]+)$/\1/p' include/vdp.h | paste -sd .)" ]
+tell "CHANGELOG.md begins with the number of the face" $?
 
 # Every edit was tried, and is refused for a fact: one that only makes a proof unfit for the code shows nothing of the contract.
 # (The suite `proofs` leaves a log for each.)

@@ -1,0 +1,69 @@
+#!/usr/bin/env python3
+"""proof.py [--check]: counts the lines in docs/PROOF.md's table of what to read, and the theorems of one outcome, and writes the numbers. With --check nothing
+is written: the exit status is 1 where a number is another, where a file of specs/ stands in no row or in two, or where a name that stands before a file is
+not in it. Lines are those of specs/ without blanks, imports and comments."""
+import pathlib
+import re
+import sys
+
+ROOT = pathlib.Path(__file__).resolve().parents[1]
+PAGE = ROOT / "docs/PROOF.md"
+
+
+def count(files):
+    text = "\n".join(file.read_text(encoding="utf-8") for file in files)
+    return sum(not re.match(r" *($|--|(pub )?use )", line) for line in text.split("\n"))
+
+
+def read(cell):
+    """The files that a row of the table names: of each crate all of its specs/, or those behind the colon."""
+    files = []
+    for crate, names in re.findall(r"\[(\w+)\]\(\.\./crates/\1/specs\)(?:: (\w+(?:, \w+)*))?", cell):
+        folder = ROOT / "crates" / crate / "specs"
+        files += [folder / f"{name}.antt" for name in names.split(", ")] if names else sorted(folder.glob("*.antt"))
+    return files
+
+
+def lost(text):
+    """The names before a file of proofs or definitions, in a table, that it has not."""
+    missing = []
+    for line in text.splitlines():
+        for names, path in re.findall(r"((?:`[^`]+`(?:,? and the like|,? and with true edges|, )?\s*)+): (crates/\S+?\.antt)", line) if line.startswith("|") else ():
+            file = ROOT / path
+            have = file.read_text(encoding="utf-8") if file.exists() else ""
+            form = r"(?m)^ *(abbrev |unfoldable )?(pub )?(record |data )?{}( |$)"
+            missing += [f"{path} has no {name}" for name in re.findall("`([^`]+)`", names) if not re.search(form.format(re.escape(name)), have)]
+    return missing
+
+
+before = PAGE.read_text(encoding="utf-8")
+after, seen, total = [], [], 0
+for line in before.splitlines(keepends=True):
+    cells = line.split("|")
+    if len(cells) == 7 and re.fullmatch(r" \**[0-9,]+\** ", cells[3]):
+        files = read(cells[2])
+        seen += files
+        if files:
+            number = count(files)
+            total += number
+            cells[3] = f" {number:,} "
+        else:
+            cells[3] = f" **{total:,}** "
+        line = "|".join(cells)
+    after.append(line)
+once = sum(len(re.findall(r"(?m)^pub [\w-]+-once :", file.read_text(encoding="utf-8"))) for file in ROOT.glob("crates/demands/proofs/Outcome*.antt"))
+after = re.sub(r"\d+ theorems `…-once`", f"{once} theorems `…-once`", "".join(after))
+if sys.argv[1:] == ["--check"]:
+    wrong = lost(before)
+    if after != before:
+        wrong.append("its numbers are not those of the tree: python3 tools/proof.py writes them")
+    wrong += [f"{file.relative_to(ROOT)} stands in two rows" for file in sorted(set(seen)) if seen.count(file) > 1]
+    wrong += [f"{file.relative_to(ROOT)} stands in no row" for file in sorted(ROOT.glob("crates/*/specs/*.antt")) if file not in seen]
+    wrong += [] if re.search("`…-once`", before) and seen else ["no table of what to read"]
+    for each in wrong:
+        print(f"docs/PROOF.md: {each}")
+    sys.exit(1 if wrong else 0)
+elif sys.argv[1:]:
+    sys.exit(__doc__.split(":")[0])
+PAGE.write_text(after, encoding="utf-8")
+print(f"docs/PROOF.md: {total:,} lines in the table, {once} theorems of one outcome")
