@@ -2,6 +2,7 @@
 -- Assumes nothing.
 use Prim.Native.Nat.{ℕ, _+_, _*_, _/_, _%_, _≤_, _<_}
 use mathlib.Core.Path.{_≡_}
+use mathlib.Core.Logic.{_⊎_}
 use mathlib.Core.List.{List, _∷_, _++_}
 use mathlib.Core.Bool.{true, false, _||_}
 use lib.ListN.{length, take, drop, set}
@@ -15,6 +16,10 @@ use Rattle.front.specs.Front.{front, changed}
 use Rattle.inplace.specs.declared.Sent.{Sent}
 use Rattle.inplace.specs.declared.Got.{Got}
 use Rattle.inplace.specs.Fields.{flagOf, flagFrom, chosenOf, chosenFrom, latchFlag, latchByte, latchFrom, latchFits}
+
+-- the bytes of a palette: the home machine's, or the handheld's
+abbrev pub PaletteSize : ℕ → Type 0
+PaletteSize n = (n ≡ 32) ⊎ (n ≡ 64)
 
 -- the bytes that a block has to have for it
 abbrev pub frontEnd : ℕ

@@ -1,14 +1,14 @@
 // The ports in place: the front of a device where it stands in a state block, bytes 2 to 13 and 17 to 22, which are the same in either machine's block.
 // A call reads and stores the bytes that it needs. Of the palette it knows the size; the byte for it is stored by the machine whose block it is.
 ghost use mathlib.Core.Path.{_≡_};
-ghost use Prim.Native.Nat.{_+_, _*_, _≤_, _<_};
+ghost use Prim.Native.Nat.{_+_, _*_, _%_, _≤_, _<_};
 ghost use lib.ListN.{length, set};
 ghost use Rattle.laws.specs.Lists.{at};
 ghost use Rattle.laws.specs.Sizes.{vramSize};
 ghost use Rattle.front.specs.Front.{withCommand, choosing, withReg, withBuffer, commandWrite, dataWrite, dataRead, statusRead};
 ghost use Rattle.front.specs.Ports.{frontWrite, frontRead};
 ghost use Rattle.inplace.specs.Fields.{flagOf, chosenOf, chosenFrom, latchFlag, latchByte, latchFrom};
-ghost use Rattle.inplace.specs.InPlace.{frontEnd, addressIn, frontIn, frontStored, FrontFormed, latchStored, addressStored, colourStored, answered, refused, SentInPlace, GotInPlace};
+ghost use Rattle.inplace.specs.InPlace.{PaletteSize, frontEnd, addressIn, frontIn, frontStored, FrontFormed, latchStored, addressStored, colourStored, answered, refused, SentInPlace, GotInPlace};
 use front::HCOUNTER_READ;
 use front::Latch;
 use front::VCOUNTER_READ;
@@ -216,10 +216,22 @@ fn store_register(block: &mut [u8], n: usize, val: u8)
 
 // ---- the ports
 
+// The address that a command's first byte names in a palette of this many bytes. Not by `% palette`: where a processor has no division, a caller of the
+// library would have to lend one.
+fn palette_address(byte: u8, palette: u16) -> u16
+    requires { ⌜ PaletteSize palette ⌝ }
+    ensures { λ r. ⌜ r ≡ byte % palette ⌝ }
+{
+    if palette == 32 {
+        return (byte % 32) as u16;
+    }
+    (byte % 64) as u16
+}
+
 // A command byte: the first of two waits in the latch (R3.4), the second acts with it (R3.5).
 fn write_cmd(block: &mut [u8], vram: &[u8], palette: u16, val: u8) -> Sent
     requires { ⌜ FrontFormed (now block) ⌝ }
-    requires { ⌜ (length (now vram) ≡ vramSize) × (0 < palette) ⌝ }
+    requires { ⌜ (length (now vram) ≡ vramSize) × PaletteSize palette ⌝ }
     ensures { λ r. ⌜ SentInPlace (now (block .entry)) (commandWrite palette (frontIn (now (block .entry))) (now (vram .entry)) val) r (now (block .exit)) ⌝ }
 {
     let latch = command_in(block);
@@ -249,7 +261,7 @@ fn write_cmd(block: &mut [u8], vram: &[u8], palette: u16, val: u8) -> Sent
             answered(Refusal::Accepted)
         }
         _ => {
-            store_choice(block, WriteDest::Cram, (data as u16) % palette);
+            store_choice(block, WriteDest::Cram, palette_address(data, palette));
             answered(Refusal::Accepted)
         }
     }
@@ -332,7 +344,7 @@ fn read_status(block: &mut [u8]) -> Got
 // A port write on a machine with this many bytes of palette, tested in the order of R2.4.
 pub fn write(block: &mut [u8], vram: &mut [u8], palette: u16, port: u16, val: u8) -> Sent
     requires { ⌜ FrontFormed (now block) ⌝ }
-    requires { ⌜ 0 < palette ⌝ }
+    requires { ⌜ PaletteSize palette ⌝ }
     ensures { λ r. ⌜ SentInPlace (now (block .entry)) (frontWrite palette (frontIn (now (block .entry))) (now (vram .entry)) port val .answer) r (now (block .exit)) ⌝ }
     ensures { λ r. ⌜ now (vram .exit) ≡ frontWrite palette (frontIn (now (block .entry))) (now (vram .entry)) port val .vram ⌝ }
 {

@@ -1,6 +1,8 @@
 -- `block_ports::out` meets its contract: a port write on the device of a well-formed block.
 use borrow.Author.Needs.{needs}
 use native.Mathlib.Omega.{arith}
+use mathlib.Core.Path.{refl}
+use mathlib.Core.Logic.{inr}
 use lib.ListN.{length}
 use Rattle.block.proofs.Whole.{long}
 use Rattle.block_ports.proofs.Front.{formed}
@@ -12,7 +14,7 @@ write-requires : tie.Need-write-requires
 write-requires c κs =
     let at-slice-known = c .before .before .before in
     let at-start = at-slice-known .before in
-    (formed (at-start .args .block .now) (at-start .pre) (λ i. omega (arith, at-slice-known .slice-known .given i)), omega arith)
+    (formed (at-start .args .block .now) (at-start .pre) (λ i. omega (arith, at-slice-known .slice-known .given i)), inr refl)
 
 write-palette-requires : tie.Need-write-palette-requires
 write-palette-requires c κs =

@@ -1,6 +1,8 @@
 -- `home_block::out` meets its contract: a port write on the device of a well-formed block.
 use borrow.Author.Needs.{needs}
 use native.Mathlib.Omega.{arith}
+use mathlib.Core.Path.{refl}
+use mathlib.Core.Logic.{inl}
 use Rattle.home_block.proofs.Whole.{said}
 use Rattle.home_block.proofs.Ports.{formed, left, left-sized, left-in, aimed, by-palette, by-front}
 use Rattle.home_block.proofs.out.Statement.{statement}
@@ -10,7 +12,7 @@ write-requires : tie.Need-write-requires
 write-requires c κs =
     let at-slice-known = c .before .before .before in
     let at-start = at-slice-known .before in
-    (formed (at-start .args .block .now) (at-start .pre) (λ i. omega (arith, at-slice-known .slice-known .given i)), omega arith)
+    (formed (at-start .args .block .now) (at-start .pre) (λ i. omega (arith, at-slice-known .slice-known .given i)), inl refl)
 
 write-palette-requires : tie.Need-write-palette-requires
 write-palette-requires c κs =

@@ -121,15 +121,12 @@ store-register-requires c κs =
 answered-requires-5 : tie.Need-answered-requires-5
 answered-requires-5 c κs = search needs
 
-cast-store-choice : tie.Need-cast-store-choice
-cast-store-choice c = search needs
-
-rem-store-choice : tie.Need-rem-store-choice
-rem-store-choice c = search needs
+palette-address-requires : tie.Need-palette-address-requires
+palette-address-requires c κs = search needs
 
 store-choice-requires-3 : tie.Need-store-choice-requires-3
 store-choice-requires-3 c κs =
-    let at-store-command2 = c .before .before .before .before in
+    let at-store-command2 = c .before .before .before .before .before in
     let at-start = at-store-command2 .before .before .before .before .before .before .before .before .before in
     still-formed (at-start .args .block .now) (emptied (frontIn (at-start .args .block .now)))
     (eleven (at-start .args .block .now) ((at-start .pre .0) .long)) (at-store-command2 .store-command2 .ensures) (at-start .pre .0)
@@ -194,13 +191,15 @@ same-length-6 c = search needs
 returns-6 : tie.Need-returns-6
 returns-6 c =
     let at-store-choice3 = c .before .before .before in
-    let at-match2 = at-store-choice3 .before .before in
+    let at-palette-address = at-store-choice3 .before in
+    let at-match2 = at-palette-address .before .before in
     let at-store-command2 = at-match2 .before .before .before in
     let at-latch = at-store-command2 .before .before .before in
     let at-command-in = at-latch .before .before in
     let at-start = at-command-in .before .before .before .before in
     let none = at-match2 .match2 .rest in sent-by (simp (
       sym (at-command-in .command-in .ensures) ∙ at-latch .latch .given .1,
+      at-palette-address .palette-address .ensures,
       ne-eqb _ _ (none .0 .0 .1),
       ne-eqb _ _ (none .0 .1),
       ne-eqb _ _
@@ -237,8 +236,7 @@ write-cmd-spec =
     returns-2
     store-register-requires
     answered-requires-5
-    cast-store-choice
-    rem-store-choice
+    palette-address-requires
     store-choice-requires-3
     answered-requires-6
     same-length-3
