@@ -64,7 +64,7 @@ for lib in crates/*/src/lib.rt; do
         grep -q "^Exceptions: .*\`$crate::$f\`" docs/CONTRACTS.md && continue
         name=$(sed -nE "s/^use Rattle\.$crate\.proofs\.([A-Za-z]+\.)?$f( as ([a-z_-]+))?\$/\3/p" crates/demands/proofs/Outcome*.antt)
         grep -qE "^use Rattle\.$crate\.proofs\.([A-Za-z]+\.)?$f( |\$)" crates/demands/proofs/Outcome*.antt &&
-            grep -q " ${name:-$f}\.Reads\.Learnt" crates/demands/proofs/Outcome*.antt || bare="$bare $crate::$f"
+            grep -qE " ${name:-$f}\.(Reads\.Learnt|clauses )" crates/demands/proofs/Outcome*.antt || bare="$bare $crate::$f"
     done
 done
 [ -z "$bare" ] || printf 'no theorem of one outcome:%s\n' "$bare"

@@ -19,3 +19,4 @@ pub mod Pixel
 pub mod Edges
 pub mod Outcome
 pub mod OutcomeHome
+pub mod OutcomeReader

@@ -5,7 +5,10 @@ use mathlib.Core.Bool.{Bool}
 use mathlib.Core.List.{List}
 use Prim.Native.Nat.{ℕ}
 use contract.Lifetimes.{Lfts}
-use denote.Triple.Clauses.{Lasts, atExit}
+use contract.Monad.{fact}
+use denote.Triple.Entry.{Args, Res}
+use denote.Triple.Clauses.{Ended, Clauses, Lasts, AtExit, atExit}
+use borrow.Fn.World.{World}
 use borrow.Fn.Kind.{PK, RK}
 use borrow.Fn.Kinds.{In, Out, Dens, resT, endedOf}
 use Rattle.laws.specs.Lists.{at}
@@ -30,6 +33,15 @@ module _ (n : ℕ) (ps : List (PK n)) (r : RK n) where
       (z z′ : resT r κs .Denot) (w w′ : Lasts (endedOf n ps r) κs a) →
       learnt κs a z (atExit (endedOf n ps r) κs a w) → learnt κs a z′ (atExit (endedOf n ps r) κs a w′) →
       (see κs z ≡ see κs z′) × (w ≡ w′)
+
+-- The same where the toolchain reads no `learnt` off the clauses, as of a function over a struct that holds a reference: in every model m of the logic
+-- the clauses, as the toolchain has them, say the fact `learnt` and nothing else, and two outcomes of which it is so are the same.
+pub record OneOutcomeSaid (T : Ended) (said : (m : World) → Clauses (m .𝓤) T) : Type 2 where
+  pub learnt : (κs : Lfts (T .signature .lifetimes)) → Args (T .signature) κs → Res (T .signature) κs → AtExit T κs → Type 0
+  pub is-said : (m : World) (κs : Lfts (T .signature .lifetimes)) (a : Args (T .signature) κs) (g : said m κs a .ghost)
+      (z : Res (T .signature) κs) (s : AtExit T κs) → said m κs a .ensures g z s ≡ fact (m .𝓤) (learnt κs a z s)
+  pub once : (κs : Lfts (T .signature .lifetimes)) (a : Args (T .signature) κs) (z z′ : Res (T .signature) κs) (w w′ : Lasts T κs a) →
+      learnt κs a z (atExit T κs a w) → learnt κs a z′ (atExit T κs a w′) → (z ≡ z′) × (w ≡ w′)
 
 -- What the line of sprites is lent: a row that is painted in the colours, layers that are all background's, and a mask that is a mask's bytes.
 pub record PaintedRow (row layers colours : List ℕ) (width : ℕ) (prio : List ℕ) : Type 0 where
