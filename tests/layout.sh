@@ -71,6 +71,13 @@ done
 [ -z "$bare" ]
 tell "every public function has its theorem of one outcome, or is an exception of docs/CONTRACTS.md" $?
 
+# Of each row of a table of functions the column "Rules out" has two wrong answers or more, with a semicolon between them.
+few=$(awk -F ' [|] ' '/^[|] Function/ { for (k = 1; k <= NF; k++) if ($k == "Rules out") column = k; next }
+    !/^[|]/ { column = 0 } column && !/^[|]---/ && $column !~ /;/ { print FILENAME ": " $1 }' docs/CONTRACTS.md)
+[ -z "$few" ] || printf '%s\n' "$few"
+grep -q '^| Function .*Rules out' docs/CONTRACTS.md && [ -z "$few" ]
+tell "docs/CONTRACTS.md has two wrong answers for each function that it tells of" $?
+
 # The calls that refusal 7 is shown never to come from: the constructors of `Call`, `FaceCall` and `HomeCall`, each with the name of its function.
 # constructors FILE TYPE: those of a data type, as the code writes them. named FILE WORDS: the names behind `-- WORDS: `, up to the full stop.
 constructors() { awk -v type="$2" '/^[^ ]/ { on = $0 ~ "^pub data " type " " } on && /^  [a-z]/ { print $1 }' "$1" | tr - _; }
