@@ -32,7 +32,7 @@
  *     it, also in the next pass, until the status is read (VDP_PORT_COMMAND), which clears its bit 7. While register 1
  *     bit 5 is 0 it is not told, but the status keeps its bit: set later, the next step tells it.
  *
- * Stack: no call recurses, and none needs more than VDP_STACK_NEED bytes.
+ * Stack: no call recurses. That none needs more than VDP_STACK_NEED bytes is measured (see there), and not proved.
  *
  * Linking: the library calls memcpy and memset, and nothing else. A C library has them; on a bare machine, which has none, the
  * archives for it (make native TARGET=aarch64-none and the like) bring their own.
@@ -179,8 +179,8 @@ extern "C" {
 #define VDP_AT_TABLE           219 /* the line table; the second version alone has it */
 
 /* Makes the block a fresh device that goes by this table: VDP_OLD_TABLE into VDP_STATE_SIZE or VDP_OLD_STATE_SIZE bytes, VDP_CHART_TABLE into
- * VDP_STATE_SIZE. Refusal: 10 for anything else (what the block held does not matter). No other call changes a block's version or its table. Video memory
- * is not asked for, and stays as it is. */
+ * VDP_STATE_SIZE. Refusal: 10 for anything else (what the block held does not matter). No call but this and vdp_new changes the version or the table of a
+ * well-formed block. Video memory is not asked for, and stays as it is. */
 uint32_t vdp_new_table(uint8_t *state, size_t state_len, uint8_t table);
 
 /* The same with no table named: VDP_CHART_TABLE, and so VDP_STATE_SIZE bytes; 10 for any other length. */
@@ -237,7 +237,8 @@ uint32_t vdp_read_tile(const uint8_t *vram, size_t vram_len, uint16_t tile, uint
 /* Mends a damaged block of VDP_STATE_SIZE or VDP_OLD_STATE_SIZE bytes: the mark by its length; a table, flag or chosen memory out of range becomes 0;
  * a byte under an empty latch 0; an address outside its memory is reduced modulo its size; and colours that are claimed clean and do not match the palette
  * make it dirty. The changed offsets go to the start of the list in rising order, a byte each, and their number to bits 8 to 15 of the answer; the list's
- * other bytes stay, and it may be longer than VDP_LIST_SIZE. Every call accepts the result. Refusals, in this order: 10 (another length), 17. */
+ * other bytes stay, and it may be longer than VDP_LIST_SIZE. The result is well formed, and after any calls on it none answers 7. Refusals, in this order:
+ * 10 (another length), 17. */
 uint32_t vdp_repair(uint8_t *block, size_t block_len, uint8_t *list, size_t list_len);
 
 /* Record what is asked of a device, so that the trace programs can run it again. A recording is the first `used` bytes of a buffer; the caller keeps that
@@ -272,7 +273,7 @@ uint32_t vdp_record_next(const uint8_t *recording, size_t recording_len, size_t 
 #define VDP_HOME_AT_COLOURS         58 /* 128 bytes, 32 cached colours of red, green, blue, 255; all zero until the first row is drawn */
 
 /* Makes the block a fresh home machine that goes by this table. Refusal: 10, for another length than VDP_HOME_STATE_SIZE or a table above 1 (what the block held does
- * not matter). No other call changes its table. Video memory is not asked for, and stays as it is. */
+ * not matter). No call but this and vdp_home_new changes its table. Video memory is not asked for, and stays as it is. */
 uint32_t vdp_home_new_table(uint8_t *state, size_t state_len, uint8_t table);
 
 /* The same with no table named: VDP_CHART_TABLE. */

@@ -1,7 +1,7 @@
 #!/usr/bin/env python3
 """proof.py [--check]: counts the lines in docs/PROOF.md's table of what to read, and the theorems of one outcome, and writes the numbers. With --check nothing
-is written: the exit status is 1 where a number is another, where a file of specs/ stands in no row or in two, or where a name that stands before a file is
-not in it. Lines are those of specs/ without blanks, imports and comments."""
+is written: the exit status is 1 where a number is another, where a file of specs/ stands in no row or in two, or where a name that stands before a file, there
+or in docs/RULES.md, is not in it. Lines are those of specs/ without blanks, imports and comments."""
 import pathlib
 import re
 import sys
@@ -24,16 +24,18 @@ def read(cell):
     return files
 
 
-def lost(text):
-    """The names before a file of proofs or definitions, in a table, that it has not."""
+def lost(page, form):
+    """The names before a file, where a page has them in this form, that the file has not."""
     missing = []
-    for line in text.splitlines():
-        for names, path in re.findall(r"((?:`[^`]+`(?:,? and the like|,? and with true edges|, )?\s*)+): (crates/\S+?\.antt)", line) if line.startswith("|") else ():
-            file = ROOT / path
-            have = file.read_text(encoding="utf-8") if file.exists() else ""
-            form = r"(?m)^ *(abbrev |unfoldable )?(pub )?(record |data )?{}( |$)"
-            missing += [f"{path} has no {name}" for name in re.findall("`([^`]+)`", names) if not re.search(form.format(re.escape(name)), have)]
+    for names, path in re.findall(form, page.read_text(encoding="utf-8"), re.M):
+        file = ROOT / path
+        have = file.read_text(encoding="utf-8") if file.exists() else ""
+        there = r"(?m)^ *(abbrev |unfoldable )?(pub )?(record |data |enum )?{}( |$)"
+        missing += [f"{page.relative_to(ROOT)}: {path} has no {name}" for name in re.findall("`([^`]+)`", names) if not re.search(there.format(re.escape(name)), have)]
     return missing
+
+
+NAMES = r"((?:`[^`]+`(?:,? and the like|,? and the others|,? and with true edges| to | \([^)]*\)|, )*\s*)+)"
 
 
 before = PAGE.read_text(encoding="utf-8")
@@ -54,14 +56,14 @@ for line in before.splitlines(keepends=True):
 once = sum(len(re.findall(r"(?m)^pub [\w-]+-once :", file.read_text(encoding="utf-8"))) for file in ROOT.glob("crates/demands/proofs/Outcome*.antt"))
 after = re.sub(r"\d+ theorems `…-once`", f"{once} theorems `…-once`", "".join(after))
 if sys.argv[1:] == ["--check"]:
-    wrong = lost(before)
+    wrong = lost(PAGE, NAMES + r": (crates/\S+?\.antt)") + lost(ROOT / "docs/RULES.md", NAMES + r"(crates/\S+?\.(?:antt|rt))")
     if after != before:
-        wrong.append("its numbers are not those of the tree: python3 tools/proof.py writes them")
-    wrong += [f"{file.relative_to(ROOT)} stands in two rows" for file in sorted(set(seen)) if seen.count(file) > 1]
-    wrong += [f"{file.relative_to(ROOT)} stands in no row" for file in sorted(ROOT.glob("crates/*/specs/*.antt")) if file not in seen]
-    wrong += [] if re.search("`…-once`", before) and seen else ["no table of what to read"]
+        wrong.append("docs/PROOF.md: its numbers are not those of the tree: python3 tools/proof.py writes them")
+    wrong += [f"docs/PROOF.md: {file.relative_to(ROOT)} stands in two rows" for file in sorted(set(seen)) if seen.count(file) > 1]
+    wrong += [f"docs/PROOF.md: {file.relative_to(ROOT)} stands in no row" for file in sorted(ROOT.glob("crates/*/specs/*.antt")) if file not in seen]
+    wrong += [] if re.search("`…-once`", before) and seen else ["docs/PROOF.md: no table of what to read"]
     for each in wrong:
-        print(f"docs/PROOF.md: {each}")
+        print(each)
     sys.exit(1 if wrong else 0)
 elif sys.argv[1:]:
     sys.exit(__doc__.split(":")[0])

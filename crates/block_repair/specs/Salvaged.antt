@@ -23,7 +23,7 @@ among k [] = false
 among k (x ∷ l) = eqb x k || among k l
 
 pub record Salvaged (b : List ℕ) : Type 0 where
-  -- every call accepts the result, and it has nothing wrong
+  -- the result has nothing wrong: no call finds it malformed, its address lies in its memory, and clean colours are the palette's
   pub sound : nothingWrong (mended b) ≡ true
   -- repairing twice changes nothing more
   pub twice : mended (mended b) ≡ mended b
