@@ -4,16 +4,18 @@
 # Crate by crate, each after those that it depends on: `rt check CRATE` of a library, `rt dev` with nothing kept of a program, which is its proof and
 # not its compiling nor its run. A crate whose files and dependencies are as in a tree before is not proved again: its seconds are kept, and the sum over
 # a tree's crates is what its check from nothing takes. Trees go in the order of the history, in one worktree, so that most is kept from one to the next.
+# Of a crate that was proved more than once with the same files, only what it depends on being another, the least counts: so a busy hour does not look like
+# a slow landing. A later tree can lower a sum: at the end --kept, which proves nothing and prints the figures that are all there, has them as they stand.
 # It prints a table in Markdown, a row as soon as it has its figures. A tree that is not proved by itself is told as such, with the first crate that fails.
 # Worktree and figures stay in $LANDING_TIMES (else landing-times in the temporary folder): a run that was stopped goes on where it was. All of them on
-# one machine: a folder of figures from another is not to be mixed in. --kept proves nothing, and prints the figures that are all there.
+# one machine: a folder of figures from another is not to be mixed in.
 set -u
 cd "$(dirname "$0")/.." || exit
 kept=
 [ "${1:-}" != --kept ] || { kept=yes && shift; }
 room=${LANDING_TIMES:-${TMPDIR:-/tmp}/landing-times}
 tree=$room/tree
-mkdir -p "$room/seconds" "$room/at"
+mkdir -p "$room/seconds" "$room/least" "$room/at"
 kit=$(rt version)
 
 # row CRATE: what it depends on, in the tree at hand.
@@ -29,32 +31,45 @@ ordered() {
         END { for (k = 1; k <= n; k++) visit(list[k]) }' <<<"$list"
 }
 
-# time_crate CRATE KEY: proves it, keeps its seconds under the key, and of a library that what was built is this one's.
+# lower FILE SECONDS: puts them there, unless it has less.
+lower() { [ -e "$1" ] && awk -v new="$2" '{ exit $1 <= new ? 0 : 1 }' "$1" || echo "$2" >"$1"; }
+
+# time_crate CRATE KEY FILES: proves it, keeps its seconds under the key and under its files, and of a library that what was built is this one's.
 time_crate() {
     local TIMEFORMAT='%U %S' took status words
     if [ -e "$tree/crates/$1/src/main.rt" ]; then rm -rf "$tree/target/inc/$1" && words="dev $1"; else words="check $1"; fi
+    rm -f "$tree/target/stamp/$1"
     # shellcheck disable=SC2086
     took=$({ time (cd "$tree" && RT_JOBS=1 rt $words >"$room/out" 2>&1); } 2>&1)
     status=$?
     rm -rf "$tree/target/inc"
-    # What was proved before, and is only built again for another tree, keeps its first figure.
-    if [ $status -eq 1 ]; then echo no >"$room/seconds/$2"; elif [ $status -ne 0 ]; then cat "$room/out" >&2 && exit 2; fi
-    [ -e "$room/seconds/$2" ] || awk '{ printf "%.2f\n", $1 + $2 }' <<<"$took" >"$room/seconds/$2"
+    case $status in
+    0)
+        took=$(awk '{ printf "%.2f", $1 + $2 }' <<<"$took")
+        lower "$room/seconds/$2" "$took"
+        lower "$room/least/$3" "$took"
+        ;;
+    1) took=no && echo no >"$room/seconds/$2" ;;
+    *) cat "$room/out" >&2 && exit 2 ;;
+    esac
     echo "$2" >"$room/at/$1"
-    echo "$(date -u +%H:%M:%S) $commit $1 $(cat "$room/seconds/$2")" >>"$room/log"
+    echo "$(date -u +%H:%M:%S) $commit $1 $took" >>"$room/log"
 }
 
 # times COMMIT: its check from nothing, a number or why there is none.
 times() {
     local commit=$1 crate dep sum=0 one list crates
-    declare -A keys=()
+    declare -A keys=() files=()
     list=$(git show "$commit:crates.txt") || exit 2
     list=$(sed 's/ *#.*//; /^ *$/d' <<<"$list")
     crates=$(ordered)
     for crate in $crates; do
-        keys[$crate]=$({
+        files[$crate]=$({
             echo "$kit $(uname -m) $crate: $(row "$crate")"
             git ls-tree "$commit" "crates/$crate/src" "crates/$crate/specs" "crates/$crate/proofs"
+        } | sha256sum | cut -c1-32)
+        keys[$crate]=$({
+            echo "${files[$crate]}"
             for dep in $(row "$crate"); do echo "${keys[$dep]:-kit}"; done
         } | sha256sum | cut -c1-32)
     done
@@ -67,10 +82,10 @@ times() {
         if [ -n "$kept" ]; then
             [ -e "$one" ] || { echo –; return; }
         elif [ ! -e "$one" ] || { [ ! -e "$tree/crates/$crate/src/main.rt" ] && [ "$(cat "$room/at/$crate" 2>/dev/null)" != "${keys[$crate]}" ]; }; then
-            time_crate "$crate" "${keys[$crate]}"
+            time_crate "$crate" "${keys[$crate]}" "${files[$crate]}"
         fi
         [ "$(cat "$one")" != no ] || { echo "not proved by itself: $crate"; return; }
-        sum="$sum + $(cat "$one")"
+        sum="$sum + $(cat "$room/least/${files[$crate]}")"
     done
     awk "BEGIN { printf \"%d\", $sum + 0.5 }"
 }
