@@ -1,26 +1,28 @@
 -- One pixel in the C face: the colour that a block gives to a number, and when the call is refused.
 -- Assumes nothing.
 use mathlib.Core.Path.{_≡_, sym, ap, _∙_}
+use mathlib.Core.Logic.{_≢_}
 use mathlib.Core.List.{List}
 use Prim.Native.Nat.{ℕ, _+_, _*_, _<_}
 use native.Mathlib.Omega.{arith}
 use lib.Dec.{leb}
-use lib.ListN.{take, drop}
+use lib.ListN.{length, take, drop}
 use lib.Seq.{getD-take, getD-drop}
-use borrow.Author.Tests.{eq-eqb, ne-eqb}
+use borrow.Author.Tests.{eq-eqb, ne-eqb, eqb-false}
 use Rattle.laws.specs.Lists.{at}
+use Rattle.laws.specs.Sizes.{vramSize}
 use Rattle.laws.proofs.Tables.{getD-table}
 use Rattle.laws.proofs.Tests.{split}
 use Rattle.colour.specs.Colour.{colour, coloursOf}
 use Rattle.picture.specs.Area.{areaFrom}
-use Rattle.refusal.specs.Refusals.{refusalNumber, first}
+use Rattle.refusal.specs.Refusals.{refusalNumber, first, whole}
 use Rattle.block_parts.specs.Parts.{colourAt}
 use Rattle.block_parts.proofs.Copies.{one-of}
 use Rattle.block.specs.Block.{wellFormed, stateOf}
 use Rattle.pixel.specs.Pixel.{pixelLines}
 use Rattle.step.specs.Step.{coloursNow}
 use Rattle.step.specs.Pixel.{pixelOf}
-use Rattle.step.proofs.Pixels.{pixel-exact}
+use Rattle.step.proofs.Pixels.{pixel-exact, pixel-refused}
 use Rattle.face.specs.Refused.{refusalIn, stepCallLines}
 use Rattle.face.specs.Pixel.{pixelCall}
 use Rattle.word.proofs.Words.{pixel-byte}
@@ -42,7 +44,7 @@ module _ (b : List ℕ) (n : ℕ) (h : n < 32) where
   unfolding stateOf
   colour-clean e = rw (ne-eqb (at b 26) 1 e) (sym (one-of 91 b n h))
 
--- R16.3: refused by the first line of its table that holds, and then the word is the refusal alone
+-- R16.3: refused by the first line of its table that holds; R16.6: and then its word is the refusal alone, with no pixel and four zero bytes
 module _ (b m : List ℕ) (n y x : ℕ) where
   pub pixel-call-exact : refusalIn (pixelCall b m n y x) ≡ refusalNumber (first (stepCallLines b n (pixelLines m)))
   unfolding pixelCall
@@ -57,3 +59,19 @@ module _ (b m : List ℕ) (n y x : ℕ) where
       ∙ ap refusalNumber (pixel-exact (areaFrom n) m (stateOf b) y x)))
       (λ l. simp (e, l)))
       (λ e. simp e)
+
+  pub pixel-call-alone : refusalIn (pixelCall b m n y x) ≢ 0 → pixelCall b m n y x < 256
+  unfolding pixelCall
+  pixel-call-alone =
+      split (wellFormed b)
+      (λ e.
+      split (leb n 2)
+      (λ l.
+      split (whole m)
+      (λ f.
+      let p = pixelOf (areaFrom n) m (stateOf b) y x in
+      simp (e, l)
+      (λ h. absurd (h (pixel-byte (p .refusal) (p .there) (p .colour) ∙ ap refusalNumber (pixel-exact (areaFrom n) m (stateOf b) y x) ∙ rw f))))
+      (λ f. simp (e, l) (λ h. rw (pixel-refused (areaFrom n) m (stateOf b) y x (eqb-false (length m) vramSize f)) (omega arith))))
+      (λ l. simp (e, l) (λ h. omega arith)))
+      (λ e. simp e (λ h. omega arith))

@@ -9,16 +9,18 @@ use lib.Dec.{leb, eqb}
 use lib.ListN.{length}
 use Rattle.laws.specs.Lists.{at}
 use Rattle.picture.specs.declared.Screen.the-variants.{Home}
+use Rattle.picture.specs.Screen.{columns}
 use Rattle.raster.specs.Raster.{lineTableFrom}
 use Rattle.refusal.specs.declared.Refusal.{Refusal}
 use Rattle.refusal.specs.declared.Refusal.the-variants.{Accepted, BlockMalformed}
-use Rattle.refusal.specs.Refusals.{refusalNumber, Line}
+use Rattle.refusal.specs.Refusals.{refusalNumber, Line, under}
 use Rattle.inplace.specs.declared.Got.{Got}
 use Rattle.points.specs.declared.Points.{Points}
 use Rattle.points.specs.declared.DrawnRow.{DrawnRow}
 use Rattle.points.specs.declared.DrawnRow.the-variants.{NoRow, Drawn}
 use Rattle.points.specs.Points.{Reading, rowLines, frameLines, pointsWith}
 use Rattle.points.specs.Bytes.{rowFilled, frameFilled, RowPointsLeave, FramePointsLeave, LayerPointsLeave, RowLayerPointsLeave, FrameLayerPointsLeave}
+use Rattle.points.proofs.Steps.{under-also}
 use Rattle.dump.specs.Sheet.{SheetLeaves}
 use Rattle.word.specs.Word.{pointsWord}
 use Rattle.word.specs.Called.{Called, Leaves}
@@ -27,7 +29,7 @@ use Rattle.home.specs.declared.HomeState.{HomeState}
 use Rattle.home.specs.declared.HomeStepped.{HomeStepped}
 use Rattle.home.specs.Home.{made}
 use Rattle.home.specs.Ports.{portRead}
-use Rattle.home.specs.Step.{coloursNow, readingOf, cleaned, joined, stepWith, rowAfter, frameAfter}
+use Rattle.home.specs.Step.{coloursNow, readingOf, cleaned, joined, refusedStep, stepped, stepWith, rowAfter, frameAfter}
 use Rattle.home.proofs.Laws.{step-either, stepped-table}
 use Rattle.home.proofs.Steps.{joined-with}
 use Rattle.home_block.specs.HomeBlock.{blockSize, blockOf, stateOf, wellFormed, Sized}
@@ -165,6 +167,25 @@ module _ (b m x : List ℕ) where
           → LayerFrameLeaves b m x layers r b′ x′ layers′
       layer-frame-kept layers l = layer-kept (frameLines Home m (length x)) (λ h. frameFilled Home m (readingOf h) x) layers
           (record { points = record { answer = l .points .answer; bytes = l .points .bytes ∙ rw g }; owners = l .owners })
+
+-- R15.4: with room for its layers, a step with them answers, and leaves of block and pixels, what the step without does
+module _ (b m x layers : List ℕ) (room : columns Home ≤ length layers) where
+  aside : (lines : List Line) (filled : HomeState → List ℕ)
+      → layerCall lines filled b m x layers ≡ onBlock b x (λ h. steppedTo (stepWith lines m h) (under lines (λ r. x) (filled h)))
+  unfolding layerCall stepWith
+  aside lines filled =
+      let w = columns Home in
+      let n = length layers in
+      λ j. onBlock b x
+      (λ h. steppedTo (under-also w n lines (λ r. refusedStep r h) (stepped m h) room j) (under-also w n lines (λ r. x) (filled h) room j))
+
+  pub row-aside : layerCall (rowLines Home m (length x)) (λ h. rowFilled Home m (readingOf h) x) b m x layers ≡ rowStepCall b m x
+  unfolding rowStepCall rowAfter
+  row-aside = aside (rowLines Home m (length x)) (λ h. rowFilled Home m (readingOf h) x)
+
+  pub frame-aside : layerCall (frameLines Home m (length x)) (λ h. frameFilled Home m (readingOf h) x) b m x layers ≡ stepCall b m x
+  unfolding stepCall frameAfter
+  frame-aside = aside (frameLines Home m (length x)) (λ h. frameFilled Home m (readingOf h) x)
 
 -- a step's colours keep the sizes, and the table
 pub cleaned-sized : (r : DrawnRow) (h : HomeState) (colours : List ℕ) → Sized h → Sized (cleaned r h colours)

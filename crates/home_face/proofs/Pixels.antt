@@ -1,16 +1,19 @@
 -- One pixel on the home machine's block: the colour that the block gives to a number, and when the call is refused.
 -- Assumes nothing.
 use mathlib.Core.Path.{_≡_, sym, ap, _∙_}
+use mathlib.Core.Logic.{_≢_}
 use mathlib.Core.List.{List}
 use Prim.Native.Nat.{ℕ, _+_, _*_, _<_}
-use lib.ListN.{take, drop}
+use native.Mathlib.Omega.{arith}
+use lib.ListN.{length, take, drop}
 use lib.Seq.{getD-take, getD-drop}
-use borrow.Author.Tests.{eq-eqb, ne-eqb}
+use borrow.Author.Tests.{eq-eqb, ne-eqb, eqb-false}
 use Rattle.laws.specs.Lists.{at}
+use Rattle.laws.specs.Sizes.{vramSize}
 use Rattle.laws.proofs.Tables.{getD-table}
 use Rattle.laws.proofs.Tests.{split}
 use Rattle.colour.specs.Home.{homeColour, homeColoursOf}
-use Rattle.refusal.specs.Refusals.{refusalNumber, first}
+use Rattle.refusal.specs.Refusals.{refusalNumber, first, whole}
 use Rattle.pixel.specs.Pixel.{pixelLines}
 use Rattle.block_parts.specs.Parts.{colourAt}
 use Rattle.block_parts.proofs.Copies.{one-of}
@@ -18,7 +21,7 @@ use Rattle.word.specs.Word.{refusalIn}
 use Rattle.word.proofs.Words.{pixel-byte}
 use Rattle.home.specs.Step.{coloursNow}
 use Rattle.home.specs.Pixel.{pixelOf}
-use Rattle.home.proofs.Pixels.{pixel-exact}
+use Rattle.home.proofs.Pixels.{pixel-exact, pixel-refused}
 use Rattle.home_block.specs.HomeBlock.{stateOf, wellFormed}
 use Rattle.home_face.specs.Pixel.{pixelCall}
 use Rattle.home_face.specs.Refused.{callLines}
@@ -34,7 +37,7 @@ module _ (b : List ℕ) (n : ℕ) (h : n < 32) where
   unfolding stateOf
   colour-clean e = rw (ne-eqb (at b 24) 1 e) (sym (one-of 58 b n h))
 
--- R16.3: refused by the first line of its table that holds, and then the word is the refusal alone
+-- R16.3: refused by the first line of its table that holds
 pub pixel-call-exact : (b m : List ℕ) (y x : ℕ) → refusalIn (pixelCall b m y x) ≡ refusalNumber (first (callLines b (pixelLines m)))
 unfolding pixelCall
 pixel-call-exact b m y x =
@@ -43,3 +46,16 @@ pixel-call-exact b m y x =
     let p = pixelOf m (stateOf b) y x in
     simp e (pixel-byte (p .refusal) (p .there) (p .colour) ∙ ap refusalNumber (pixel-exact m (stateOf b) y x)))
     (λ e. simp e)
+
+-- R16.6: and then its word is the refusal alone, with no pixel and four zero bytes
+pub pixel-call-alone : (b m : List ℕ) (y x : ℕ) → refusalIn (pixelCall b m y x) ≢ 0 → pixelCall b m y x < 256
+unfolding pixelCall
+pixel-call-alone b m y x =
+    split (wellFormed b)
+    (λ e.
+    split (whole m)
+    (λ f.
+    let p = pixelOf m (stateOf b) y x in
+    simp e (λ h. absurd (h (pixel-byte (p .refusal) (p .there) (p .colour) ∙ ap refusalNumber (pixel-exact m (stateOf b) y x) ∙ rw f))))
+    (λ f. simp e (λ h. rw (pixel-refused m (stateOf b) y x (eqb-false (length m) vramSize f)) (omega arith))))
+    (λ e. simp e (λ h. omega arith))
