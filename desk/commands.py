@@ -128,7 +128,8 @@ def make(options):
         steps = sum(record.kind == records.STEP for record in found)
         say(f"{shown(options.output)}: {many(len(trace), 'byte')}, {many(found.count, 'record')}, {many(steps, 'step')} among them")
     if len(trace) > records.LIMIT:
-        note(f"the trace has {len(trace):,} bytes. The programs trace, snapshot and layers take at most {records.LIMIT:,}; the desk, which goes by the library, has no limit")
+        takers = "home-trace and home-snapshot" if made.machine.home else "trace, snapshot and layers"
+        note(f"the trace has {len(trace):,} bytes. The programs {takers} take at most {records.LIMIT:,}; the desk, which goes by the library, has no limit")
 
 
 def list_trace(options):

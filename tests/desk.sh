@@ -227,7 +227,7 @@ run show tests/traces/areas.trace --area 1 -o "$work/effective.png"
 tell 'steps of the effective area are shown where they are asked for' $?
 { echo 'vram 0 = FF times 16384'; echo 'passes 40'; } >"$work/long.desk"
 run make "$work/long.desk" -o "$work/long.trace"
-[ "$status" -eq 0 ] && grep -q '^desk: note: the trace has 96,984 bytes\. The programs .* at most 65,535; the desk, .* has no limit$' "$work/err"
+[ "$status" -eq 0 ] && grep -q '^desk: note: the trace has 96,984 bytes\. The programs trace, snapshot and layers take at most 65,535; the desk, .* has no limit$' "$work/err"
 tell 'a trace that is too long for the programs is made, and the desk says so' $?
 says 'which --check tells too' 1 'desk: the trace has 96,984 bytes, and `snapshot` takes at most 65,535' show "$work/long.trace" --check -o "$work/none"
 run show "$work/long.trace" --progress -o "$work/long.png"
@@ -417,7 +417,9 @@ tell 'show --home: nothing drawn' $?
 run show "$work/home-long.desk" --home --frame 40 -o "$work/long.png"
 [ "$status" -eq 0 ] && [ "$(cat "$work/out")" = "$work/long.png: frame 40 of 40, 256 x 192, on the home machine" ] && python3 tests/desk/at.py "$work/long.png" 0,0=255,170,0 255,191=255,170,0
 tell 'show --home: a trace that is too long for the program is shown' $?
-"$desk" make "$work/home-long.desk" -o "$work/home-long.trace" 2>/dev/null >&2
+run make "$work/home-long.desk" -o "$work/home-long.trace"
+[ "$status" -eq 0 ] && grep -q '^desk: note: .* The programs home-trace and home-snapshot take at most 65,535; the desk, .* has no limit$' "$work/err"
+tell 'make: it is made, and which programs do not take it is told' $?
 says 'show --home --check: which is told' 1 "desk: the trace has $(wc -c <"$work/home-long.trace" | sed 's/...$/,&/') bytes, and \`home-snapshot\` takes at most 65,535" show "$work/home-long.trace" --home --check -o "$work/none"
 # Either line table.
 printf 'home\nreg 1 = 40\nframe\n' >"$work/frame.desk"
