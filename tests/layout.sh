@@ -125,7 +125,7 @@ if command -v python3 >/dev/null; then
     python3 tools/rooms.py --check
     tell "docs/rooms.svg is what crates.txt gives, docs/ARCHITECTURE.md has every crate in its storey, and its functions and definitions are there" $?
     python3 tools/proof.py --check
-    tell "docs/PROOF.md counts the lines that there are, and its theorems and statements, and the definitions of docs/RULES.md and the pages beside it, stand in the files that are named" $?
+    tell "docs/PROOF.md counts the lines that there are, and each definition and theorem that a page has before a file stands in it" $?
 else
     skip "docs/CONTRACTS.md's edits, docs/rooms.svg, docs/ARCHITECTURE.md, docs/PROOF.md" 'no python3 here'
 fi

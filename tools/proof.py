@@ -1,15 +1,13 @@
 #!/usr/bin/env python3
 """proof.py [--check]: counts the lines in docs/PROOF.md's table of what to read, and the theorems of one outcome, and writes the numbers. With --check nothing
 is written: the exit status is 1 where a number is another, where a file of specs/ stands in no row or in two, or where a name that stands before a file, there
-or in docs/RULES.md and the pages beside it, is not in it. Lines are those of specs/ without blanks, imports and comments."""
+or on another page of docs/, is not in it. Lines are those of specs/ without blanks, imports and comments."""
 import pathlib
 import re
 import sys
 
 ROOT = pathlib.Path(__file__).resolve().parents[1]
 PAGE = ROOT / "docs/PROOF.md"
-# Pages, beside docs/RULES.md, that name a definition or a theorem before its file in the text: `name`, crates/...
-CITING = [ROOT / f"docs/{name}.md" for name in ("CONTRACTS", "DECISIONS", "DIFFERENCES")]
 
 
 def count(files):
@@ -27,7 +25,7 @@ def read(cell):
 
 
 # A name that a file declares, or hands on.
-DECLARED = r"(?m)^ *(abbrev |unfoldable )?(pub )?(record |data |enum )?{0}( |$)|^pub use .*[{{ ]{0}[,}}]"
+DECLARED = r"(?m)^ *(abbrev |unfoldable )?(pub )?(record |data |enum |fn )?{0}( |$|\()|^pub use .*[{{ ]{0}[,}}]"
 
 
 def lost(page, form):
@@ -61,9 +59,9 @@ for line in before.splitlines(keepends=True):
 once = sum(len(re.findall(r"(?m)^pub [\w-]+-once :", file.read_text(encoding="utf-8"))) for file in ROOT.glob("crates/demands/proofs/Outcome*.antt"))
 after = re.sub(r"\d+ theorems `…-once`", f"{once} theorems `…-once`", "".join(after))
 if sys.argv[1:] == ["--check"]:
-    wrong = lost(PAGE, NAMES + r": (crates/\S+?\.antt)") + lost(ROOT / "docs/RULES.md", NAMES + r"(crates/\S+?\.(?:antt|rt))")
-    for page in CITING:
-        wrong += lost(page, r"((?:`[^`\n]+`(?: and the others)?, )+)(crates/\S+?\.antt)")
+    wrong = lost(PAGE, NAMES + r": (crates/\S+?\.antt)")
+    for page in sorted(PAGE.parent.glob("*.md")):
+        wrong += lost(page, NAMES + r"(crates/\S+?\.(?:antt|rt))")
     if after != before:
         wrong.append("docs/PROOF.md: its numbers are not those of the tree: python3 tools/proof.py writes them")
     wrong += [f"docs/PROOF.md: {file.relative_to(ROOT)} stands in two rows" for file in sorted(set(seen)) if seen.count(file) > 1]
