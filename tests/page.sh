@@ -9,7 +9,7 @@ without() {
 }
 command -v python3 >/dev/null || without 'no python3 here'
 said=$(sh tools/setup.sh page 2>&1) || without "$(tail -n 1 <<<"$said")"
-needs desk page
+needs build page
 work=$PWD/$work
 
 tsc -p page >"$work/types"
