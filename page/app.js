@@ -191,7 +191,7 @@ class App {
   }
 
   /**
-   * Runs a trace. Where it is stopped, what was open stays.
+   * Runs a trace. Where it is stopped, or nothing of it can be read, what was open stays.
    * @param {Uint8Array} data
    * @param {string} name
    * @param {string} script
@@ -204,7 +204,12 @@ class App {
     const area = this.machine.areas && /^\d$/.test(chosen) ? Number(chosen) : null;
     const film = await this.busy(`Running ${name}`, (turns) => this.filmed(trace, this.machine, table, area, turns));
     if (!film) return this.settingsAgain();
-    const wrong = trace.wrong && `${name}: ${trace.wrong}.` + (trace.count ? " What stands before it is shown." : "");
+    const wrong = trace.wrong && `${name}: ${trace.wrong}.` + (trace.count ? " What stands before it is shown." : this.film ? " What was open stays." : "");
+    if (wrong && !trace.count && this.film) {
+      film.close();
+      this.problem(wrong);
+      return this.settingsAgain();
+    }
     this.problem(wrong || (made && made !== film.machine.name ? filled(SAYS.otherMachine, { name, machine: made }) : ""));
     const before = this.film;
     this.film = film;
@@ -213,7 +218,7 @@ class App {
     this.areas(film, chosen);
     const screen = this.screen(film, chosen);
     any("file-name").textContent = name;
-    any("file-size").textContent = `${many(trace.count, "record")}, ${many(trace.steps, "step")}`;
+    any("file-size").textContent = `${many(trace.count, "record")}, ${many(trace.steps, "step")}` + (film.machine === this.machines[0] ? "" : `, ${film.machine.name}`);
     document.title = `${name} · The desk`;
     this.lister = null;
     this.oldAgain();
@@ -223,7 +228,7 @@ class App {
     await this.list(film, script);
   }
 
-  /** A run was stopped: the settings are those of what stays open. Where another run has begun, they are its own. */
+  /** What was open stays: the settings are its own. Where another run has begun, they are that one's. */
   settingsAgain() {
     const { film } = this;
     if (!film || this.running) return;

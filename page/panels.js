@@ -225,7 +225,7 @@ export class Panels {
         const cells = [entry.place, entry.sprite, entry.y, entry.x, entry.tile, entry.columns, ...(entry.counts ?? [])].map(String);
         const made = rowOf(cells);
         if (!entry.counts) made.append(make("td", { colspan: "4", class: "words" }, entry.note));
-        else if (entry.note) made.lastElementChild?.append(` ${entry.note}`);
+        else if (entry.note) made.children[5].append(" ", make("span", { class: "words" }, entry.note));
         table.append(made);
       }
       parts.push(make("div", { class: "scrolls" }, table));

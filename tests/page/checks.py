@@ -551,15 +551,22 @@ def settings(page):
     page.call("DOM.setFileInputFiles", nodeId=field, files=[str(native.ROOT / "tests/traces/sprites.trace")])
     page.wait("document.getElementById('file-name').textContent === 'sprites.trace'")
     cases = {b"PR~XX\0\0LS\0": "byte 3, record 2: no record begins with the bytes 58 58", b"LS\0LS\xffLS\0": "byte 3, record 2: a step of area 255, and there is no such area",
-             b"PR~PW\xbf": "byte 3, record 2: the record is cut: the trace ends in it", b"P": "byte 0, record 1: the record is cut: the trace ends in it", b"": ""}
+             b"PR~PW\xbf": "byte 3, record 2: the record is cut: the trace ends in it", b"": "", b"P": "byte 0, record 1: the record is cut: the trace ends in it",
+             b"\x89PNG\r\n": "byte 0, record 1: no record begins with the bytes 89 50"}
+    shown = ""
     for number, (data, wanted) in enumerate(cases.items()):
         path = FOLDER / f"dropped-{number}.trace"
         path.write_bytes(data)
         for kind in ("dragEnter", "dragOver", "drop"):
             page.call("Input.dispatchDragEvent", type=kind, x=200, y=200, data={"items": [], "files": [str(path)], "dragOperationsMask": 1})
-        page.wait(f"document.getElementById('file-name').textContent === {json.dumps(path.name)}")
+        # of one that begins with what is no record nothing is shown, and what was open stays
+        kept = wanted.startswith("byte 0,")
+        shown = shown if kept else path.name
+        page.wait(f"document.getElementById('problem-text').textContent.startsWith({json.dumps(path.name)})" if kept else f"document.getElementById('file-name').textContent === {json.dumps(path.name)}")
+        assert page.run("document.getElementById('file-name').textContent") == shown
         said = page.run("document.getElementById('problem').hidden ? '' : document.getElementById('problem-text').textContent")
         assert (said.startswith(f"{path.name}: {wanted}") if wanted else said == ""), (data, said)
+        assert not wanted or said.endswith(" What was open stays." if kept else " What stands before it is shown."), said
         if wanted:
             error = native.records.whats_wrong(data, int(re.search(r"byte (\d+)", wanted).group(1)))
             assert wanted.endswith(error), error
