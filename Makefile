@@ -50,7 +50,7 @@ build/modules/face.ll build/libvdp.a &: $(shell sh tools/sources.sh face) build/
 	@cp target/staticlib/libface.a build/libvdp.a
 
 build/toolchain: FORCE | setup
-	@rt version | cmp -s - $@ || rt version > $@
+	@[ "$$(rt version)" = "$$(cat $@ 2> /dev/null)" ] || rt version > $@
 
 native: $(if $(TARGET),build/cross/$(TARGET)/libvdp.a,$(NATIVE)) ## the library for this machine, build/native/libvdp.a and libvdp.so; TARGET= for another: aarch64, x86_64, riscv64 or armv7, as it is for Linux, with -none for bare metal
 
