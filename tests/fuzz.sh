@@ -13,14 +13,22 @@ tell "the same on the library as it is shipped" $?
 diff <(sed -nE 's/^uint(32|64)_t (vdp_[a-z_]+)\(.*/\2/p' include/vdp.h | sort) <(build/fuzz --calls | sort)
 tell "it makes every call of the header" $?
 
-# caught NAME FUNCTION EDIT LINE: a copy of the library with this edit (sed) of a function is stopped at, with such a line.
+# caught NAME FUNCTION EDIT LINE: a copy of the library with this edit (sed) of a function is stopped at, whatever the seed, and by one of a few with such a line
+# (what stores behind a buffer meets the page there only where the buffer stands against that one, and not against the page before it).
 caught() {
-    local changed
+    local changed seed
     sed -E "/^define .*@\"$2\"\\(/,/^}/$3" build/native/vdp.ll >$out/slip.ll
     changed=$(diff build/native/vdp.ll $out/slip.ll | grep -c '^>')
-    sh tools/native-module.sh $out/slip.ll $out/slip.o && cc $flags tests/fuzz.c $out/slip.o -o $out/slip && ! $out/slip 100000 1 >$out/said &&
-        [ "$changed" -gt 0 ] && grep -qE "$4" $out/said
-    status=$?
+    status=1
+    if sh tools/native-module.sh $out/slip.ll $out/slip.o && cc $flags tests/fuzz.c $out/slip.o -o $out/slip && [ "$changed" -gt 0 ]; then
+        for seed in 1 2 3 4 5 6 7 8; do
+            ! $out/slip 100000 $seed >$out/said || break
+            if grep -qE "$4" $out/said; then
+                status=0
+                break
+            fi
+        done
+    fi
     [ $status -eq 0 ] || { echo "$changed lines changed"; cat $out/said; }
     tell "caught: $1" $status
 }
