@@ -11,6 +11,7 @@
 #define _DEFAULT_SOURCE
 #include "vdp.h"
 
+#include <errno.h>
 #include <signal.h>
 #include <stdio.h>
 #include <stdlib.h>
@@ -828,20 +829,29 @@ static const struct {
     {"vdp_home_dump_tileset", do_home_dump},
 };
 
+/* Tells whether a word is a number, of digits alone, and hands it out. */
+static int is_number(const char *word, unsigned long *value)
+{
+    char *end;
+    errno = 0;
+    *value = strtoul(word, &end, 10);
+    return word[0] >= '0' && word[0] <= '9' && *end == 0 && errno == 0;
+}
+
 int main(int argc, char **argv)
 {
     struct sigaction action;
+    unsigned long most, from;
     if (argc == 2 && strcmp(argv[1], "--calls") == 0) {
         for (unsigned k = 0; k < sizeof calls / sizeof calls[0]; k++)
             puts(calls[k].names);
         return 0;
     }
-    if (argc != 3) {
-        fprintf(stderr, "usage: fuzz CALLS SEED | fuzz --calls\n");
+    if (argc != 3 || !is_number(argv[1], &most) || !is_number(argv[2], &from)) {
+        fprintf(stderr, "usage: fuzz CALLS SEED | fuzz --calls; CALLS and SEED are numbers from 0 on\n");
         return 2;
     }
-    unsigned long most = strtoul(argv[1], NULL, 10);
-    seed = strtoul(argv[2], NULL, 10);
+    seed = from;
     memset(&action, 0, sizeof action);
     action.sa_sigaction = touched;
     action.sa_flags = SA_SIGINFO;

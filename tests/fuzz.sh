@@ -13,6 +13,13 @@ tell "the same on the library as it is shipped" $?
 diff <(sed -nE 's/^uint(32|64)_t (vdp_[a-z_]+)\(.*/\2/p' include/vdp.h | sort) <(build/fuzz --calls | sort)
 tell "it makes every call of the header" $?
 
+status=0
+for words in '-5 1' 'abc 1' '10 x' '99999999999999999999999 1' "'' 1" '10 1 1' 10; do
+    said=$(eval timeout 10 build/fuzz $words 2>&1)
+    [ $? -eq 2 ] && [[ $said == 'usage: fuzz CALLS SEED | '* ]] || status=1
+done
+tell "what is no number is told" $status
+
 # caught NAME FUNCTION EDIT LINE: a copy of the library with this edit (sed) of a function is stopped at, whatever the seed, and by one of a few with such a line
 # (what stores behind a buffer meets the page there only where the buffer stands against that one, and not against the page before it).
 caught() {
