@@ -2,6 +2,8 @@
 # calm.sh: what `make` says while it proves, and how it is ended: a line for each crate, a line every few seconds, errors that name their log; Ctrl-C, a closed
 # terminal and kill end all that was started, and the next run goes on from there. In a copy of the project, with a stand-in for rt that starts its provers
 # in the background, as rt does, and takes the time that it is told.
+# Where it is started with signals ignored (by nohup, or in the background of a script), they are set back first: bash cannot, and nothing could be ended by them.
+[ -n "${SIGNALS:-}" ] || SIGNALS=back exec env --default-signal=INT,TERM,HUP bash "$0" "$@"
 . "$(dirname "$0")/begin.sh"
 work=$(mktemp -d)
 trap 'rm -rf "$work"' EXIT
