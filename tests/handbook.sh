@@ -43,9 +43,9 @@ theorems=$(for file in crates/demands*/proofs/*.antt; do awk '/^ / { sub(/^ +/, 
 proved() { grep -qE "^pub $1 : .*→ $2 " <<<"$theorems"; }
 
 # The theorems by which 7 is struck.
-for both in 'never-seven NeverSeven' 'face-never-seven FaceNeverSeven' 'never-seven-home NeverSeven'; do
+for both in 'never-seven NeverSeven' 'face-never-seven FaceNeverSeven' 'never-seven-home NeverSeven' 'face-never-seven-home FaceNeverSeven'; do
     read -r theorem statement <<<"$both"
-    grep -q "\`$theorem\`" $book && proved "$theorem" "$statement" && grep -q "^pub record $statement " crates/demands*/specs/Seven.antt
+    grep -q "\`$theorem\`" $book && proved "$theorem" "$statement" && grep -q "^ *pub record $statement " crates/demands*/specs/Seven.antt
     tell "$theorem is proved by that name" $?
 done
 
