@@ -63,12 +63,12 @@ later() {
 made "make from nothing" "check check staticlib " all
 grep -q '^end 8$' "$work/said"
 tell "it shows the trace program at work" $?
-# Each of the lines to try, as it would be pasted; those that install or take half an hour are there, and no more.
+# Each of the lines to try, as it would be pasted; those that install, make the page (the suite of that name does) or take half an hour are there, and no more.
 status=0 lines=0
 while read -r line; do
     lines=$((lines + 1))
     case $line in
-    'make install PREFIX="$HOME/.local"' | 'make test') ;;
+    'make page' | 'make install PREFIX="$HOME/.local"' | 'make test') ;;
     build/bin/snapshot\ *) (cd "$copy" && eval "${line/snapshot/snapshot-261}") >"$work/tried" 2>&1 || { cat "$work/tried"; status=1; } ;;
     *) (cd "$copy" && eval "$line") >"$work/tried" 2>&1 || { cat "$work/tried"; status=1; } ;;
     esac

@@ -13,6 +13,7 @@ echo "Try:"
 sed 's/^/  /' <<'END_OF_LINES'
 build/bin/snapshot tests/traces/split90.trace > build/split90.ppm
 build/bin/desk differ docs/scripts/split-old.desk docs/scripts/split-new.desk -o build/differ.png
+make page
 cc -Iinclude examples/frame.c build/native/libvdp.a -o build/frame && build/frame
 make install PREFIX="$HOME/.local"
 make test
