@@ -14,12 +14,12 @@ NATIVE := build/native/libvdp.a build/native/libvdp.so
 # What compiles a module for a machine.
 COMPILE := tools/native-module.sh tools/target.sh tools/toolchain.sh
 
-.PHONY: all build desk native install cartridge peers test compare homecalls memcheck damaged bench bus fuzz gears setup setup-rust setup-bus setup-c setup-cartridge prove clean help FORCE
+.PHONY: all build together desk native install cartridge peers test compare homecalls memcheck damaged bench bus fuzz gears setup setup-rust setup-bus setup-c setup-cartridge prove clean help FORCE
 
 all: build ## build the programs in build/bin and the libraries for this machine and for x86-64, and show what to try
 	@sh tools/built.sh
 
-build: $(BINS) build/libvdp.a $(NATIVE) build/bin/desk ## prove and build them, and no more
+build: together $(BINS) build/libvdp.a $(NATIVE) build/bin/desk ## prove and build them, and no more
 
 desk: $(NATIVE) build/bin/desk ## the authors' desk, build/bin/desk, with the library that it goes by (docs/DESK.md)
 	@echo "build/bin/desk is the authors' desk, over build/native/libvdp.so: docs/DESK.md tells of it, and build/bin/desk --help"
@@ -48,6 +48,10 @@ $(foreach name,$(PROGRAMS),$(eval $(call program,$(name))))
 build/modules/face.ll build/libvdp.a &: $(shell sh tools/sources.sh face) build/toolchain tools/modules.sh | setup
 	@$(PROVE) library face
 	@cp target/staticlib/libface.a build/libvdp.a
+
+# From nothing the library is proved beside the programs; later each by itself, where it has changed.
+together: build/toolchain | setup
+	@[ -e build/modules/programs ] || [ -e build/modules/face.ll ] || { $(PROVE) both face $(PROGRAMS) && cp target/staticlib/libface.a build/libvdp.a && touch build/modules/programs; }
 
 build/toolchain: FORCE | setup
 	@[ "$$(rt version)" = "$$(cat $@ 2> /dev/null)" ] || rt version > $@

@@ -60,7 +60,7 @@ later() {
     sleep 0.05
     touch "$copy/$1"
 }
-made "make from nothing" "check check staticlib " all
+made "make from nothing: the library beside the programs" "check staticlib check " all
 grep -q '^end 8$' "$work/said"
 tell "it shows the trace program at work" $?
 # Each of the lines to try, as it would be pasted; those that install, make the page (the suite of that name does) or take half an hour are there, and no more.
@@ -102,7 +102,7 @@ made "after a change of the header: the libraries for this machine" "" build
 later tools/program.c
 made "after a change of what programs are linked with" "" build
 made "make -j4" "" -j4 all
-made "make -j4 clean all" "check check staticlib " -j4 clean all
+made "make -j4 clean all" "check staticlib check " -j4 clean all
 
 # refused NAME LINE WORDS..: these words fail with this line, and before rt is called; make itself may add a line.
 refused() {

@@ -68,10 +68,9 @@ fi
 rm -rf build/bin build/libvdp.a build/native build/modules build/cross build/toolchain build/oracle $logs
 mkdir -p $logs
 
-# rt starts as many proofs as it may and waits for all of them before it starts more: with more than there are processors, these stay busy.
 printf '\n== proofs\n'
 began=$(date +%s)
-RT_JOBS=${RT_JOBS:-$((2 * processors))} rt ci 2>&1 </dev/null | tee $logs/proofs.log
+RT_JOBS=${RT_JOBS:-$(sh tools/jobs.sh)} rt ci 2>&1 </dev/null | tee $logs/proofs.log
 echo "${PIPESTATUS[0]} $(($(date +%s) - began))" >$logs/proofs.end
 count proofs
 

@@ -1,10 +1,11 @@
 #!/usr/bin/env bash
-# prove.sh programs CRATE.. | library CRATE | all: proves these crates and what they depend on, and keeps the LLVM modules of the programs or the library
-# (tools/modules.sh); `all` proves every crate and keeps none. One line for each crate as it is proved, "tile proved, 9 of 31", a line at least every QUIET
-# seconds, 15 if that is not set, and all else in a log, which an error names. Ends all that it has started where it is ended; what was proved until then is
-# not proved again. OF may name the crates that the count is of, where more are proved than these.
+# prove.sh programs CRATE.. | library CRATE | both LIBRARY PROGRAM.. | all: proves these crates and what they depend on, and keeps the LLVM modules of the
+# programs or the library (tools/modules.sh); `both` proves a library beside the programs, `all` every crate, and keeps none. One line for each crate as it is
+# proved, "tile proved, 9 of 31", a line at least every QUIET seconds, 15 if that is not set, and all else in a log, which an error names. Ends all that it
+# has started where it is ended; what was proved until then is not proved again. OF may name the crates that the count is of, where more are proved than these.
 set -u
 cd "$(dirname "$0")/.."
+export RT_JOBS=${RT_JOBS:-$(sh tools/jobs.sh)}
 what=${1-}
 [ $# -eq 0 ] || shift
 mkdir -p build/log
@@ -12,9 +13,9 @@ log=build/log/$what.log
 : >"$log"
 
 case $what in
-programs | library) ;;
+programs | library | both) ;;
 all) set -- $(sh tools/crates.sh) ;;
-*) echo "usage: prove.sh programs CRATE.. | library CRATE | all" >&2; exit 2 ;;
+*) echo "usage: prove.sh programs CRATE.. | library CRATE | both LIBRARY PROGRAM.. | all" >&2; exit 2 ;;
 esac
 plan=$(sh tools/crates.sh "$@")
 # Those that are proved already, and are none of these, count from the start; a library of OF once it has its module.
@@ -111,6 +112,12 @@ library)
     deps=$(sh tools/crates.sh "$@" | grep -vx "$1")
     through "rt" rt check $deps
     through "$1, the library itself" bash tools/modules.sh staticlib "$1"
+    counted=$((counted + 1))
+    line "$1 proved, $counted of $of"
+    ;;
+both)
+    through "rt" rt check $(sh tools/crates.sh "$@" | grep -vxF "$(printf '%s\n' "$@")")
+    through "$1, the library itself" bash tools/beside.sh "$@"
     counted=$((counted + 1))
     line "$1 proved, $counted of $of"
     ;;
