@@ -35,7 +35,7 @@ use Rattle.points.specs.Bytes.{layersBy, rowFilled, frameFilled, comingLayers, 
 use Rattle.step.specs.Frame.{rowAfter, frameAfter}
 use Rattle.step.specs.Layers.{layersAfter}
 use Rattle.points.proofs.Laws.{row-refusing, frame-refusing}
-use Rattle.points.proofs.Steps.{under-also, not-last}
+use Rattle.points.proofs.Order.{under-also, not-last}
 use Rattle.demands.specs.Layers.{standsAt, laidOn, columnAt, codeIn, heldAt, NoneDrawn, LastDrawn, some, OneOf, Tells, Owned, OwnedOf, Aside}
 use Rattle.demands.specs.Handheld.{handheld}
 use Rattle.demands.specs.Home.{home}

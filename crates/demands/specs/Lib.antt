@@ -11,8 +11,6 @@ pub mod Shows
 pub mod Author
 pub mod Layers
 pub mod Outcome
-pub mod Examples
-pub mod Further
 pub mod Chart
 pub mod Pixel
 pub mod Edges

@@ -13,7 +13,7 @@ use Rattle.refusal.specs.Refusals.{refusalNumber, Line}
 use Rattle.points.specs.Points.{frameLines}
 use Rattle.points.specs.Bytes.{frameFilled}
 use Rattle.points.proofs.Laws.{frame-refusing}
-use Rattle.points.proofs.Steps.{under-also}
+use Rattle.points.proofs.Order.{under-also}
 use Rattle.word.specs.Word.{refusalIn}
 use Rattle.home.specs.declared.HomeState.{HomeState}
 use Rattle.home.specs.declared.HomeStepped.{HomeStepped}

@@ -27,7 +27,7 @@ use Rattle.points.specs.declared.DrawnRow.the-variants.{NoRow, Drawn}
 use Rattle.points.specs.Points.{pointsOf, rowLines, frameLines}
 use Rattle.points.specs.Bytes.{rowFilled, frameFilled}
 use Rattle.points.proofs.Laws.{row-refusing, frame-refusing}
-use Rattle.points.proofs.Steps.{under-also}
+use Rattle.points.proofs.Order.{under-also}
 use Rattle.word.specs.Word.{refusalIn}
 use Rattle.word.specs.Called.{Called}
 use Rattle.word.proofs.Words.{answer-byte}

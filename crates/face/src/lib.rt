@@ -119,7 +119,7 @@ pub extern "C" fn vdp_step(state: &mut [u8], vram: &[u8], frame: &mut [u8], area
         return word::number(Refusal::UnknownArea);
     }
     let colours = colours_of(state);
-    let points = points::frame_points(
+    let points = points_run::frame_points(
         block::registers(state),
         block::raster_in(state),
         state[2],
@@ -144,7 +144,7 @@ pub extern "C" fn vdp_row_step(state: &mut [u8], vram: &[u8], row: &mut [u8], ar
         return word::number(Refusal::UnknownArea);
     }
     let colours = colours_of(state);
-    let points = points::row_points(
+    let points = points_run::row_points(
         block::registers(state),
         block::raster_in(state),
         state[2],
@@ -175,7 +175,7 @@ pub extern "C" fn vdp_layer_step(
         return word::number(Refusal::UnknownArea);
     }
     let colours = colours_of(state);
-    let points = points::layer_frame_points(
+    let points = points_run::layer_frame_points(
         block::registers(state),
         block::raster_in(state),
         state[2],
@@ -207,7 +207,7 @@ pub extern "C" fn vdp_layer_row_step(
         return word::number(Refusal::UnknownArea);
     }
     let colours = colours_of(state);
-    let points = points::layer_row_points(
+    let points = points_run::layer_row_points(
         block::registers(state),
         block::raster_in(state),
         state[2],

@@ -226,7 +226,15 @@ pub fn row_step(home: HomeState, vram: &[u8], row: &mut [u8]) -> HomeStepped
     let reg = front.reg;
     let raster = home.raster;
     let colours = colours_of(home, home.cram_dirty);
-    let points = points::row_points(reg, raster, front.status, &colours, vram, row, Screen::Home);
+    let points = points_run::row_points(
+        reg,
+        raster,
+        front.status,
+        &colours,
+        vram,
+        row,
+        Screen::Home,
+    );
     join(home, points, colours)
 }
 
@@ -238,7 +246,7 @@ pub fn frame_step(home: HomeState, vram: &[u8], frame: &mut [u8]) -> HomeStepped
     let reg = front.reg;
     let raster = home.raster;
     let colours = colours_of(home, home.cram_dirty);
-    let points = points::frame_points(
+    let points = points_run::frame_points(
         reg,
         raster,
         front.status,

@@ -101,7 +101,7 @@ pub fn step(state: &mut [u8], vram: &[u8], frame: &mut [u8]) -> u32
         return word::number(Refusal::BlockMalformed);
     }
     let colours = colours_of(state);
-    let points = points::frame_points(
+    let points = points_run::frame_points(
         home_block::registers(state),
         home_block::raster_in(state),
         state[2],
@@ -122,7 +122,7 @@ pub fn row_step(state: &mut [u8], vram: &[u8], row: &mut [u8]) -> u32
         return word::number(Refusal::BlockMalformed);
     }
     let colours = colours_of(state);
-    let points = points::row_points(
+    let points = points_run::row_points(
         home_block::registers(state),
         home_block::raster_in(state),
         state[2],
@@ -143,7 +143,7 @@ pub fn layer_step(state: &mut [u8], vram: &[u8], frame: &mut [u8], layers: &mut 
         return word::number(Refusal::BlockMalformed);
     }
     let colours = colours_of(state);
-    let points = points::layer_frame_points(
+    let points = points_run::layer_frame_points(
         home_block::registers(state),
         home_block::raster_in(state),
         state[2],
@@ -165,7 +165,7 @@ pub fn layer_row_step(state: &mut [u8], vram: &[u8], row: &mut [u8], layers: &mu
         return word::number(Refusal::BlockMalformed);
     }
     let colours = colours_of(state);
-    let points = points::layer_row_points(
+    let points = points_run::layer_row_points(
         home_block::registers(state),
         home_block::raster_in(state),
         state[2],

@@ -2,4 +2,4 @@
 pub mod Rows
 pub mod Views
 pub mod Laws
-pub mod Steps
+pub mod Order

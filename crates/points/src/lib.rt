@@ -1,16 +1,14 @@
-// The five points of a step by what they read and leave of a machine, into a row buffer or into a frame of which one row is lent; and the view of a frame's row.
+// The five points of a step, each by itself: the row of a line, the screen's end, the interrupt; the sizes of rows and frames and the refusals by them; how a frame is lent, row by row, and the view of a row.
 ghost use mathlib.Core.Path.{_≡_};
 ghost use mathlib.Core.Bool.{false, cond};
-ghost use Prim.Native.Nat.{_≤_, _<_};
+ghost use Prim.Native.Nat.{_<_};
 ghost use lib.Dec.{ltb};
 ghost use lib.ListN.{length};
-ghost use Rattle.laws.specs.Sizes.{vramSize};
 ghost use Rattle.picture.specs.declared.Screen.the-variants.{VisibleOnly};
-ghost use Rattle.picture.specs.Screen.{columns, rows, rowSize, frameSize, pictureOf};
-ghost use Rattle.picture.specs.Layers.{layersOf};
+ghost use Rattle.picture.specs.Screen.{columns, rows, rowSize, frameSize};
 ghost use Rattle.points.specs.declared.DrawnRow.the-variants.{NoRow, Drawn};
-ghost use Rattle.points.specs.Points.{interruptNumber, reportNumber, reading, rowOn, RowIn, bitsOf, endedBy, reportBy, interruptBy, refusedPoints, rowLines};
-ghost use Rattle.points.specs.Bytes.{rowWith, layersBy, startOf, layersUnder, RowPointsLeave, FramePointsLeave, RowLayerPointsLeave, FrameLayerPointsLeave};
+ghost use Rattle.points.specs.Points.{interruptNumber, reportNumber, rowOn, endedBy, reportBy, interruptBy, refusedPoints};
+ghost use Rattle.points.specs.Bytes.{startOf};
 ghost use Rattle.points.specs.Lend.{LentOut};
 ghost use Rattle.points.specs.View.{screenRow};
 use picture::Screen;
@@ -103,7 +101,7 @@ fn top_row(line: u8, rows: u8) -> DrawnRow
     DrawnRow::Drawn(line)
 }
 
-fn row_on(screen: Screen, line: u8) -> DrawnRow
+pub fn row_on(screen: Screen, line: u8) -> DrawnRow
     ensures { λ r. ⌜ r ≡ rowOn screen line ⌝ }
 {
     match screen {
@@ -114,30 +112,8 @@ fn row_on(screen: Screen, line: u8) -> DrawnRow
     }
 }
 
-// The row drawn into the buffer, and its layers told where they are asked for; answers the status bits that it sets.
-fn draw(
-    reg: [u8; 11],
-    scroll: u8,
-    colours: &[u32; 32],
-    vram: &[u8],
-    row: &mut [u8],
-    layers: &mut [u8],
-    screen: Screen,
-    drawn: DrawnRow,
-) -> u8
-    requires { ⌜ (length (now vram) ≡ vramSize) × (rowSize screen ≤ length (now row)) × RowIn screen drawn ⌝ }
-    ensures { λ r. ⌜ r ≡ bitsOf drawn (pictureOf screen reg scroll (now (vram .entry))) ⌝ }
-    ensures { λ r. ⌜ now (row .exit) ≡ rowWith drawn screen (now (colours .entry)) (pictureOf screen reg scroll (now (vram .entry))) (now (row .entry)) ⌝ }
-    ensures { λ r. ⌜ now (layers .exit) ≡ layersBy drawn screen (layersOf screen reg scroll (now (vram .entry))) (now (layers .entry)) ⌝ }
-{
-    let DrawnRow::Drawn(line) = drawn else {
-        return 0;
-    };
-    row::render_line(row, layers, vram, colours, screen, reg, scroll, line)
-}
-
 // R4.3: the screen ends at line C1.
-fn ended(status: u8, line: u8) -> u8
+pub fn ended(status: u8, line: u8) -> u8
     ensures { λ r. ⌜ r ≡ endedBy line status ⌝ }
 {
     if line == SCREEN_END {
@@ -147,7 +123,7 @@ fn ended(status: u8, line: u8) -> u8
     }
 }
 
-fn report_of(reg: [u8; 11], line: u8) -> DisplayRefresh
+pub fn report_of(reg: [u8; 11], line: u8) -> DisplayRefresh
     ensures { λ r. ⌜ r ≡ reportBy reg line ⌝ }
 {
     if line != SCREEN_END {
@@ -160,7 +136,7 @@ fn report_of(reg: [u8; 11], line: u8) -> DisplayRefresh
 }
 
 // R4.4: the end of the screen or the line count asks for an interrupt.
-fn interrupt_of(reg: [u8; 11], status: u8, raster: Raster) -> VdpInt
+pub fn interrupt_of(reg: [u8; 11], status: u8, raster: Raster) -> VdpInt
     ensures { λ r. ⌜ r ≡ interruptBy reg status raster ⌝ }
 {
     let line_interrupt = raster.line_interrupt_is_up(reg);
@@ -171,7 +147,7 @@ fn interrupt_of(reg: [u8; 11], status: u8, raster: Raster) -> VdpInt
 }
 
 // R2.3: a refused step tells and changes nothing.
-fn refused(refusal: Refusal, status: u8, raster: Raster) -> Points
+pub fn refused(refusal: Refusal, status: u8, raster: Raster) -> Points
     ensures { λ r. ⌜ r ≡ refusedPoints refusal status raster ⌝ }
 {
     Points {
@@ -185,7 +161,7 @@ fn refused(refusal: Refusal, status: u8, raster: Raster) -> Points
 }
 
 // How many columns a row has and how many rows a frame, the bytes of a row and of a frame, and where a row's part of a frame starts (with no row, the first row's).
-fn column_count(screen: Screen) -> usize
+pub fn column_count(screen: Screen) -> usize
     ensures { λ r. ⌜ r ≡ columns screen ⌝ }
 {
     match screen {
@@ -207,7 +183,7 @@ fn row_count(screen: Screen) -> usize
     }
 }
 
-fn row_size(screen: Screen) -> usize
+pub fn row_size(screen: Screen) -> usize
     ensures { λ r. ⌜ r ≡ rowSize screen ⌝ }
 {
     match screen {
@@ -238,101 +214,12 @@ fn start_of(screen: Screen, row: DrawnRow) -> usize
     }
 }
 
-// Points 1 to 5 of a step of a machine with these registers, raster, status and colours. The row goes to the first bytes of the row buffer, and its
-// layers to the first bytes of `layers`; a layer buffer with fewer bytes than the row has columns asks for none.
-fn row_points_into(
-    reg: [u8; 11],
-    raster: Raster,
-    status: u8,
-    colours: &[u32; 32],
-    vram: &[u8],
-    row: &mut [u8],
-    layers: &mut [u8],
-    screen: Screen,
-) -> Points
-    ensures { λ r. ⌜ RowPointsLeave screen (now (vram .entry)) (reading reg raster status (now (colours .entry))) (now (row .entry)) r (now (row .exit)) ⌝ }
-    ensures { λ r. ⌜ now (layers .exit) ≡ layersUnder (rowLines screen (now (vram .entry)) (length (now (row .entry)))) screen (now (vram .entry)) (reading reg raster status (now (colours .entry))) (now (layers .entry)) ⌝ }
-{
-    if vram.len() != VRAM_SIZE {
-        return refused(Refusal::VramLength, status, raster);
-    }
-    let need = row_size(screen);
-    if row.len() < need {
-        return refused(Refusal::PixelLength, status, raster);
-    }
-    let up = raster.advance(reg);
-    let line = up.v_counter;
-    let drawn = row_on(screen, line);
-    let bits = draw(
-        reg,
-        up.vertical_scroll,
-        colours,
-        vram,
-        row,
-        layers,
-        screen,
-        drawn,
-    );
-    let last = ended(status | bits, line);
-    Points {
-        refusal: Refusal::Accepted,
-        interrupt: interrupt_of(reg, last, up),
-        report: report_of(reg, line),
-        row: drawn,
-        status: last,
-        raster: up.line_interrupt_update(reg),
-    }
-}
-
-// The points of a step whose row goes to the row buffer.
-pub fn row_points(
-    reg: [u8; 11],
-    raster: Raster,
-    status: u8,
-    colours: &[u32; 32],
-    vram: &[u8],
-    row: &mut [u8],
-    screen: Screen,
-) -> Points
-    ensures { λ r. ⌜ RowPointsLeave screen (now (vram .entry)) (reading reg raster status (now (colours .entry))) (now (row .entry)) r (now (row .exit)) ⌝ }
-{
-    let mut none = [0u8; 0];
-    row_points_into(reg, raster, status, colours, vram, row, &mut none, screen)
-}
-
-// The same, with the row's layers.
-pub fn layer_row_points(
-    reg: [u8; 11],
-    raster: Raster,
-    status: u8,
-    colours: &[u32; 32],
-    vram: &[u8],
-    row: &mut [u8],
-    layers: &mut [u8],
-    screen: Screen,
-) -> Points
-    ensures { λ r. ⌜ RowLayerPointsLeave screen (now (vram .entry)) (reading reg raster status (now (colours .entry))) (now (row .entry)) (now (layers .entry)) r (now (row .exit)) (now (layers .exit)) ⌝ }
-{
-    if vram.len() != VRAM_SIZE {
-        return refused(Refusal::VramLength, status, raster);
-    }
-    let need = row_size(screen);
-    if row.len() < need {
-        return refused(Refusal::PixelLength, status, raster);
-    }
-    let least = column_count(screen);
-    if layers.len() < least {
-        return refused(Refusal::LayerLength, status, raster);
-    }
-    row_points_into(reg, raster, status, colours, vram, row, layers, screen)
-}
-
 // How a frame is lent to a step: not at all, by this refusal; or the row's part of it, and with no row to draw the first row's, which stays as it is.
-struct Lent {
-    good: bool,
-    refusal: Refusal,
-    start: usize,
-    end: usize,
+pub struct Lent {
+    pub good: bool,
+    pub refusal: Refusal,
+    pub start: usize,
+    pub end: usize,
 }
 
 fn not_lent(refusal: Refusal) -> Lent
@@ -346,7 +233,7 @@ fn not_lent(refusal: Refusal) -> Lent
     }
 }
 
-fn lend(reg: [u8; 11], raster: Raster, vram: &[u8], frame: &[u8], screen: Screen) -> Lent
+pub fn lend(reg: [u8; 11], raster: Raster, vram: &[u8], frame: &[u8], screen: Screen) -> Lent
     ensures { λ r. ⌜ LentOut screen reg raster (now (vram .entry)) (length (now (frame .entry))) r ⌝ }
 {
     if vram.len() != VRAM_SIZE {
@@ -368,74 +255,6 @@ fn lend(reg: [u8; 11], raster: Raster, vram: &[u8], frame: &[u8], screen: Screen
         start: start,
         end: start + row_size(screen),
     }
-}
-
-// The points on a frame.
-pub fn frame_points(
-    reg: [u8; 11],
-    raster: Raster,
-    status: u8,
-    colours: &[u32; 32],
-    vram: &[u8],
-    frame: &mut [u8],
-    screen: Screen,
-) -> Points
-    ensures { λ r. ⌜ FramePointsLeave screen (now (vram .entry)) (reading reg raster status (now (colours .entry))) (now (frame .entry)) r (now (frame .exit)) ⌝ }
-{
-    let part = lend(reg, raster, vram, frame, screen);
-    let refusal = part.refusal;
-    let a = part.start;
-    let e = part.end;
-    if !part.good {
-        return refused(refusal, status, raster);
-    }
-    let mut none = [0u8; 0];
-    row_points_into(
-        reg,
-        raster,
-        status,
-        colours,
-        vram,
-        &mut frame[a..e],
-        &mut none,
-        screen,
-    )
-}
-
-// The same, with the row's layers.
-pub fn layer_frame_points(
-    reg: [u8; 11],
-    raster: Raster,
-    status: u8,
-    colours: &[u32; 32],
-    vram: &[u8],
-    frame: &mut [u8],
-    layers: &mut [u8],
-    screen: Screen,
-) -> Points
-    ensures { λ r. ⌜ FrameLayerPointsLeave screen (now (vram .entry)) (reading reg raster status (now (colours .entry))) (now (frame .entry)) (now (layers .entry)) r (now (frame .exit)) (now (layers .exit)) ⌝ }
-{
-    let part = lend(reg, raster, vram, frame, screen);
-    let refusal = part.refusal;
-    let a = part.start;
-    let e = part.end;
-    if !part.good {
-        return refused(refusal, status, raster);
-    }
-    let least = column_count(screen);
-    if layers.len() < least {
-        return refused(Refusal::LayerLength, status, raster);
-    }
-    row_points_into(
-        reg,
-        raster,
-        status,
-        colours,
-        vram,
-        &mut frame[a..e],
-        layers,
-        screen,
-    )
 }
 
 // A row of a frame, as a part of the caller's own frame; the empty part where it does not fit.

@@ -18,7 +18,7 @@ use Rattle.points.specs.Bytes.{rowFilled, RowPointsLeave, FramePointsLeave, als
 use Rattle.step.specs.Step.{coloursNow, readingOf, joined, stepped, refusedStep, stepWith, rowStep}
 use Rattle.step.specs.Layers.{layersAfter, RowLayersLeave, FrameLayersLeave}
 use Rattle.step.specs.Frame.{rowAfter, frameAfter, RowStepLeaves, FrameStepLeaves}
-use Rattle.points.proofs.Steps.{under-also}
+use Rattle.points.proofs.Order.{under-also}
 
 -- ---- the device's step is `joined` of its points, refused or not
 pub joined-with : (ls : List Line) (a : RenderArea) (vram : List ℕ) (d : VdpState) → joined d (pointsWith ls (screenOf a) vram (readingOf d)) ≡

@@ -77,7 +77,7 @@ pub fn row_step(vdp: VdpState, vram: &[u8], row: &mut [u8], area: RenderArea) ->
     let reg = vdp.reg;
     let raster = vdp.raster;
     let colours = colours_of(vdp, vdp.cram_dirty);
-    let points = points::row_points(
+    let points = points_run::row_points(
         reg,
         raster,
         vdp.status,
@@ -96,7 +96,7 @@ pub fn frame_step(vdp: VdpState, vram: &[u8], frame: &mut [u8], area: RenderArea
     let reg = vdp.reg;
     let raster = vdp.raster;
     let colours = colours_of(vdp, vdp.cram_dirty);
-    let points = points::frame_points(
+    let points = points_run::frame_points(
         reg,
         raster,
         vdp.status,
@@ -121,7 +121,7 @@ pub fn layer_row_step(
     let reg = vdp.reg;
     let raster = vdp.raster;
     let colours = colours_of(vdp, vdp.cram_dirty);
-    let points = points::layer_row_points(
+    let points = points_run::layer_row_points(
         reg,
         raster,
         vdp.status,
@@ -146,7 +146,7 @@ pub fn layer_frame_step(
     let reg = vdp.reg;
     let raster = vdp.raster;
     let colours = colours_of(vdp, vdp.cram_dirty);
-    let points = points::layer_frame_points(
+    let points = points_run::layer_frame_points(
         reg,
         raster,
         vdp.status,

@@ -1,7 +1,7 @@
 -- `points::lend` meets its contract: which part of a frame is lent, or by what refusal none is.
 use borrow.Author.Needs.{needs}
 use native.Mathlib.Omega.{arith}
-use mathlib.Core.Path.{ap, _∙_}
+use mathlib.Core.Path.{refl, ap, _∙_}
 use mathlib.Core.List.{[]}
 use lib.ListN.{length}
 use Rattle.laws.proofs.Tests.{clash}
@@ -10,7 +10,7 @@ use Rattle.picture.specs.Screen.{frameSize}
 use Rattle.points.specs.Points.{rowOn, exactly}
 use Rattle.points.specs.Bytes.{startOf}
 use Rattle.points.proofs.Rows.{row-in, part-end, frame-small}
-use Rattle.points.proofs.Steps.{first-8, first-size, short-frame, long-frame, not-lent-is}
+use Rattle.points.proofs.Order.{first-8, first-size, short-frame, long-frame, not-lent-is}
 use Rattle.points.proofs.lend.Statement.{statement}
 use Rattle.points.proofs.lend.Tie as tie
 
@@ -91,6 +91,8 @@ returns-4 c =
     let p = part-end area _ (row-in area _ r) in
     record {
       refused = λ z. clash z;
+      none = λ z. clash z;
+      accepted = λ z. refl;
       memory = λ z. at-if1 .if1 .left;
       exact = λ z. omega (arith, at-frame-size .frame-size .ensures, at-if2 .if2 .left, at-if3 .if3 .left);
       place = λ z. e ∙ ap (startOf area) (r ∙ ap (λ (x : Raster). rowOn area (x .«v_counter»)) (at-advance .advance .ensures));

@@ -1,12 +1,12 @@
--- `points::frame_points` meets its contract: the points on a frame.
+-- `points_run::frame_points` meets its contract: the points on a frame.
 use borrow.Author.Needs.{needs}
 use native.Mathlib.Omega.{arith}
 use mathlib.Core.List.{[]}
 use borrow.Author.Tests.{not-true, not-false}
 use Rattle.points.specs.Points.{reading}
-use Rattle.points.proofs.Steps.{frame-refuses, frame-accepts}
-use Rattle.points.proofs.frame_points.Statement.{statement}
-use Rattle.points.proofs.frame_points.Tie as tie
+use Rattle.points_run.proofs.Steps.{frame-refuses, frame-accepts}
+use Rattle.points_run.proofs.frame_points.Statement.{statement}
+use Rattle.points_run.proofs.frame_points.Tie as tie
 
 lend-requires : tie.Need-lend-requires
 lend-requires c κs = search needs

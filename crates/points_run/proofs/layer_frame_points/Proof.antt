@@ -1,11 +1,11 @@
--- `points::layer_frame_points` meets its contract: the points of a step on a frame, with the layers of its row.
+-- `points_run::layer_frame_points` meets its contract: the points of a step on a frame, with the layers of its row.
 use borrow.Author.Needs.{needs}
 use native.Mathlib.Omega.{arith}
 use borrow.Author.Tests.{not-true, not-false}
 use Rattle.points.specs.Points.{reading}
-use Rattle.points.proofs.Steps.{frame-layers-refuse, frame-layers-refuse-16, frame-accepts, with-room}
-use Rattle.points.proofs.layer_frame_points.Statement.{statement}
-use Rattle.points.proofs.layer_frame_points.Tie as tie
+use Rattle.points_run.proofs.Steps.{frame-layers-refuse, frame-layers-refuse-16, frame-accepts, with-room}
+use Rattle.points_run.proofs.layer_frame_points.Statement.{statement}
+use Rattle.points_run.proofs.layer_frame_points.Tie as tie
 
 lend-requires : tie.Need-lend-requires
 lend-requires c κs = search needs

@@ -1,10 +1,10 @@
--- `points::draw` meets its contract: the row drawn into the buffer, and its layers told where they are asked for.
+-- `points_run::draw` meets its contract: the row drawn into the buffer, and its layers told where they are asked for.
 use borrow.Author.Needs.{needs}
-use Rattle.points.proofs.Steps.{drawn-none, drawn-one}
+use Rattle.points_run.proofs.Steps.{drawn-none, drawn-one}
 use Rattle.picture.specs.Screen.{pictureOf}
 use Rattle.picture.specs.Layers.{layersOf}
-use Rattle.points.proofs.draw.Statement.{statement}
-use Rattle.points.proofs.draw.Tie as tie
+use Rattle.points_run.proofs.draw.Statement.{statement}
+use Rattle.points_run.proofs.draw.Tie as tie
 
 enum-known-drawn : tie.Need-enum-known-drawn
 enum-known-drawn c = search needs

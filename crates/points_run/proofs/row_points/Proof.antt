@@ -1,7 +1,7 @@
--- `points::row_points` meets its contract: the points of a step whose row goes to the row buffer.
+-- `points_run::row_points` meets its contract: the points of a step whose row goes to the row buffer.
 use borrow.Author.Needs.{needs}
-use Rattle.points.proofs.row_points.Statement.{statement}
-use Rattle.points.proofs.row_points.Tie as tie
+use Rattle.points_run.proofs.row_points.Statement.{statement}
+use Rattle.points_run.proofs.row_points.Tie as tie
 
 slice-aggregate-row-points-into : tie.Need-slice-aggregate-row-points-into
 slice-aggregate-row-points-into c = search needs

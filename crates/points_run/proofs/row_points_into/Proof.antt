@@ -1,11 +1,11 @@
--- `points::row_points_into` meets its contract: points 1 to 5 of a step of a machine with these registers, raster, status and colours.
+-- `points_run::row_points_into` meets its contract: points 1 to 5 of a step of a machine with these registers, raster, status and colours.
 use borrow.Author.Needs.{needs}
 use native.Mathlib.Omega.{arith}
-use Rattle.points.proofs.Steps.{row-refuses-8, row-refuses-9, row-accepts}
+use Rattle.points_run.proofs.Steps.{row-refuses-8, row-refuses-9, row-accepts}
 use Rattle.points.specs.Points.{reading}
 use Rattle.points.proofs.Rows.{row-in}
-use Rattle.points.proofs.row_points_into.Statement.{statement}
-use Rattle.points.proofs.row_points_into.Tie as tie
+use Rattle.points_run.proofs.row_points_into.Statement.{statement}
+use Rattle.points_run.proofs.row_points_into.Tie as tie
 
 refused-requires : tie.Need-refused-requires
 refused-requires c κs = search needs

@@ -1,16 +1,13 @@
 -- The five points of a step, on a row buffer and on a frame by the part that is lent.
 -- Assumes nothing.
 use mathlib.Core.Path.{_≡_, refl, sym, ap, _∙_}
-use mathlib.Core.Bool.{false, cond}
 use mathlib.Core.Logic.{_≢_}
-use mathlib.Core.List.{List, [], _∷_, _++_, append-nil}
+use mathlib.Core.List.{List, [], _++_, append-nil}
 use Prim.Native.Nat.{ℕ, _+_, _-_, _*_, _<_, _≤_}
 use native.Mathlib.Nat.{mul-comm}
 use native.Mathlib.Omega.{arith}
-use borrow.Author.Tests.{eq-eqb, ne-eqb, le-ltb, lt-ltb}
 use borrow.Rule.Slice.PartMut.{midOf, postOf, putMid, put-same, mid-len, post-is}
 use lib.Bits.{bitOr}
-use lib.Dec.{ltb}
 use lib.ListN.{length, drop, drop-of-length-le}
 use Rattle.laws.specs.Lists.{at, withRow}
 use Rattle.picture.specs.declared.Screen.{Screen}
@@ -20,23 +17,21 @@ use Rattle.picture.specs.Layers.{layersOf, layersIn}
 use Rattle.raster.specs.declared.Raster.{Raster}
 use Rattle.raster.specs.Raster.{advanced, counted}
 use Rattle.refusal.specs.declared.Refusal.{Refusal}
-use Rattle.refusal.specs.declared.Refusal.the-variants.{Accepted, VramLength, PixelLength, FrameTooLong, LayerLength}
-use Rattle.refusal.specs.Refusals.{refusalNumber, Line, line, first, under}
-use Rattle.laws.proofs.Tests.{split, clash}
+use Rattle.refusal.specs.declared.Refusal.the-variants.{Accepted, VramLength, PixelLength, LayerLength}
+use Rattle.refusal.specs.Refusals.{refusalNumber, Line, first}
 use Rattle.refusal.proofs.Tables.{Passed, refuses, under-passed, under-refused}
 use Rattle.points.specs.declared.VdpInt.{VdpInt}
 use Rattle.points.specs.declared.DisplayRefresh.{DisplayRefresh}
 use Rattle.points.specs.declared.DrawnRow.{DrawnRow}
 use Rattle.points.specs.declared.DrawnRow.the-variants.{NoRow, Drawn}
 use Rattle.points.specs.declared.Points.{Points}
-use Rattle.points.specs.declared.Lent.{Lent}
 use Rattle.points.specs.Points.{Reading, rowOn, RowIn, comingRow, comingPicture, bitsOf, endedBy, reportBy, interruptBy, pointsOf}
-use Rattle.points.specs.Points.{refusedPoints, atLeast, exactly, stepLines, rowLines, frameLines, pointsWith}
+use Rattle.points.specs.Points.{refusedPoints, atLeast, exactly, rowLines, frameLines, pointsWith}
 use Rattle.points.specs.Bytes.{rowWith, frameWith, startOf, layersBy, layersFilled, layersUnder, PointsLeave, RowPointsLeave}
 use Rattle.points.specs.Bytes.{FramePointsLeave, alsoLayers, LayerPointsLeave, RowLayerPointsLeave, FrameLayerPointsLeave}
-use Rattle.points.specs.Lend.{LentOut}
 use Rattle.points.proofs.Rows.{row-in, part-end}
 use Rattle.points.proofs.Laws.{row-passes, frame-passes}
+use Rattle.points.proofs.Order.{first-8, first-size, short-row, long-row, exact-frame, not-last, layerLine, short-layers, under-also}
 
 -- ---- drawing: the row's bytes, the status bits that it sets, and its layers
 module _ (a : Screen) (colours : List ℕ) (picture : ℕ → Row) (layer : ℕ → ℕ → ℕ) (b layers : List ℕ) {row : DrawnRow} where
@@ -51,48 +46,6 @@ module _ (a : Screen) (colours : List ℕ) (picture : ℕ → Row) (layer : ℕ 
       → (bits ≡ bitsOf row picture) × ((b′ ≡ rowWith row a colours picture b) × (layers′ ≡ layersBy row a layer layers))
   unfolding bitsOf rowWith layersBy
   drawn-one y e eb es eo = (es ∙ rw e, (eb ∙ rw e, eo ∙ rw e))
-
--- the first line that holds: 8, and then 9, and then 12, and then one of `more`
-module _ (vram : List ℕ) (sizes : List Line) where
-  pub first-8 : length vram ≢ 16384 → first (stepLines vram sizes) ≡ VramLength
-  first-8 h = rw (ne-eqb (length vram) 16384 h)
-
-  pub first-size : length vram ≡ 16384 → first (stepLines vram sizes) ≡ first sizes
-  first-size mem = rw (eq-eqb (length vram) 16384 mem)
-
-module _ (need size : ℕ) (more : List Line) where
-  short-row : size < need → first (atLeast need size ++ more) ≡ PixelLength
-  short-row h = rw (lt-ltb size need h)
-
-  long-row : need ≤ size → first (atLeast need size ++ more) ≡ first more
-  long-row h = rw (le-ltb size need h)
-
-  pub short-frame : size < need → first (exactly need size ++ more) ≡ PixelLength
-  short-frame h = rw (lt-ltb size need h)
-
-  pub long-frame : need < size → first (exactly need size ++ more) ≡ FrameTooLong
-  long-frame h = let k : need ≤ size = omega arith in rw (le-ltb size need k, lt-ltb need size h)
-
-  exact-frame : need ≤ size → size ≤ need → first (exactly need size ++ more) ≡ first more
-  exact-frame h k = rw (le-ltb size need h, le-ltb need size k)
-
--- where another line holds, 16 is not the first
-pub not-last : (least size : ℕ) (ls : List Line) → first ls ≢ Accepted → first (alsoLayers least size ls) ≡ first ls
-not-last least size [] n = absurd (n refl)
-not-last least size (l ∷ ls) n = split (l .holds) (λ t. rw t) (λ t. rw t (not-last least size ls (rw t at n)))
-
--- 16, the last
-abbrev layerLine : ℕ → ℕ → List Line
-layerLine least size = line (ltb size least) LayerLength ∷ []
-
-short-layers : (least size : ℕ) → size < least → first (layerLine least size) ≡ LayerLength
-short-layers least size h = rw (lt-ltb size least h)
-
--- with room for its layers, a step is as it is without
-pub under-also : {A : Type 0} (least size : ℕ) (ls : List Line) (refuse : Refusal → A) (call : A) → least ≤ size → under (alsoLayers least size ls)
-    refuse call ≡ under ls refuse call
-under-also least size [] refuse call h = rw (le-ltb size least h)
-under-also least size (l ∷ ls) refuse call h = ap (λ (x : _). cond (l .holds) (refuse (l .refusal)) x) (under-also least size ls refuse call h)
 
 -- ---- the points
 module _ (a : Screen) (vram : List ℕ) (k : Reading) where
@@ -229,21 +182,6 @@ module _ (a : Screen) (vram : List ℕ) (k : Reading) where
         (first-size vram (exactly (frameSize a) (length f) ++ room) mem ∙ exact-frame (frameSize a) (length f) room (omega arith) (omega arith) ∙
         short-layers (columns a) (length layers) s)
         (λ z. omega arith) e
-
--- ---- a frame that is not lent
-pub not-lent-is :
-    {a : Screen} {reg : List ℕ} {raster : Raster} {vram : List ℕ} {size : ℕ} {q : Refusal} {r : Lent} → first (frameLines a vram size) ≡ q →
-    refusalNumber q ≢ 0
-    → (r .good ≡ false) × (r .refusal ≡ q) × (r .start ≡ 0) × (r .end ≡ 0) → LentOut a reg raster vram size r
-not-lent-is {a} {q = q} {r = r} e n f =
-    record {
-      refused = λ z. (e ∙ sym (f .1), λ z. n (ap refusalNumber (sym (f .1)) ∙ z));
-      memory = λ z. clash (sym z ∙ f .0);
-      exact = λ z. clash (sym z ∙ f .0);
-      place = λ z. clash (sym z ∙ f .0);
-      part = λ z. clash (sym z ∙ f .0);
-      inside = (omega arith, omega arith);
-    }
 
 -- ---- a frame, by the part of it that is lent
 abbrev pub partOf : Screen → DrawnRow → List ℕ → List ℕ

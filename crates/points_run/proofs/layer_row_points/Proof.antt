@@ -1,10 +1,10 @@
--- `points::layer_row_points` meets its contract: the points of a step on a row buffer, with the layers of its row.
+-- `points_run::layer_row_points` meets its contract: the points of a step on a row buffer, with the layers of its row.
 use borrow.Author.Needs.{needs}
 use native.Mathlib.Omega.{arith}
 use Rattle.points.specs.Points.{reading}
-use Rattle.points.proofs.Steps.{layers-refuse-8, layers-refuse-9, layers-refuse-16, with-room}
-use Rattle.points.proofs.layer_row_points.Statement.{statement}
-use Rattle.points.proofs.layer_row_points.Tie as tie
+use Rattle.points_run.proofs.Steps.{layers-refuse-8, layers-refuse-9, layers-refuse-16, with-room}
+use Rattle.points_run.proofs.layer_row_points.Statement.{statement}
+use Rattle.points_run.proofs.layer_row_points.Tie as tie
 
 refused-requires : tie.Need-refused-requires
 refused-requires c κs = search needs

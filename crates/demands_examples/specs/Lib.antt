@@ -1,0 +1,3 @@
+-- The examples, computed.
+pub mod Examples
+pub mod Further

@@ -1,0 +1,2 @@
+-- The laws of the points as they are run.
+pub mod Steps
