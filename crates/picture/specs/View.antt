@@ -47,16 +47,19 @@ visibleStand e h = record {
   mark = cond (visibleSeen h) h (h + (48 + e - h));
 }
 
--- R5.1: the map scrolled; sprites are on line row + 24
-unfoldable pub visible : (ℕ → ℕ) → ℕ → ℕ → View
-visible g scroll row = record {
+-- R5.1: the map scrolled, and sprites on line row + 24, with these marks of the background and these stands of sprites
+abbrev pub window : (ℕ → ℕ) → (ℕ → Stand) → (ℕ → ℕ) → ℕ → ℕ → View
+window markAt stand g scroll row = record {
   width = 160;
   line = row + 24;
   mapX = λ x. (x + 304 - g 8) % 256;
   mapY = λ x. (row + 24 + scroll) % 224;
-  markAt = cutMark ((304 - g 8) % 256 % 8);
-  stand = visibleStand (early g);
+  markAt = markAt;
+  stand = stand;
 }
+
+unfoldable pub visible : (ℕ → ℕ) → ℕ → ℕ → View
+visible g scroll row = window (cutMark ((304 - g 8) % 256 % 8)) (visibleStand (early g)) g scroll row
 
 -- ---- the true edges
 -- R18.2: a sprite that stands at X - left - e on a row of `width` columns: its pixels left of column 0 and right of the last are not there, and both
@@ -73,14 +76,7 @@ edgeStand left width e h = record {
 
 -- R18.1: the map, the lines and the width are those of the visible area; a mark of the background goes to its own column
 unfoldable pub trueEdges : (ℕ → ℕ) → ℕ → ℕ → View
-trueEdges g scroll row = record {
-  width = 160;
-  line = row + 24;
-  mapX = λ x. (x + 304 - g 8) % 256;
-  mapY = λ x. (row + 24 + scroll) % 224;
-  markAt = λ x. x;
-  stand = edgeStand 48 160 (early g);
-}
+trueEdges g scroll row = window (λ x. x) (edgeStand 48 160 (early g)) g scroll row
 
 -- ---- the effective area
 -- R5.10: where it stands
