@@ -15,20 +15,20 @@ ghost use Rattle.background.specs.Background.{Room, backFront};
 ghost use Rattle.stand.specs.Stand.{standOf, Fits};
 ghost use Rattle.pixel.specs.Column.{Set, Clear, lineAt, frontAt, offOf, aheadOf, backOf, reachOf, marksLeft, colourWith, Tied, Shows};
 ghost use Rattle.pixel.specs.Pixel.{onScreen, noSpot, spotOf};
+use picture::GG_VISIBLE_AREA_START_X;
 use picture::GG_VISIBLE_AREA_START_Y;
+use picture::GG_VISIBLE_MAP_X;
 use picture::GG_VISIBLE_PIXEL_HEIGHT;
 use picture::GG_VISIBLE_PIXEL_WIDTH;
+use picture::HOME_LOCKED_X;
+use picture::HOME_PIXEL_HEIGHT;
+use picture::HOME_PIXEL_WIDTH;
 use picture::SCROLL_PIXEL_HEIGHT;
 use picture::SCROLL_PIXEL_WIDTH;
 use picture::Screen;
 use picture::Stand;
 use refusal::Refusal;
 use small::VRAM_SIZE;
-
-// R20.1, R20.5: the home screen's rows, and the column from which register 0 bit 7 stops its vertical scroll.
-const HOME_PIXEL_HEIGHT: usize = 192;
-
-const HOME_LOCKED_X: usize = 192;
 
 // ---- the background
 
@@ -236,7 +236,7 @@ fn off_of(screen: Screen, e: u8) -> usize
     ensures { λ r. ⌜ r < 256 ⌝ }
 {
     match screen {
-        Screen::VisibleOnly => 48 + small::wide(e),
+        Screen::VisibleOnly => GG_VISIBLE_AREA_START_X + small::wide(e),
         Screen::EffectiveArea => small::wide(e),
         Screen::TrueEdges => 0,
         Screen::Home => 0,
@@ -250,9 +250,9 @@ fn ahead_of(screen: Screen, e: u8) -> usize
     ensures { λ r. ⌜ r < 256 ⌝ }
 {
     match screen {
-        Screen::VisibleOnly => 48 + small::wide(e),
+        Screen::VisibleOnly => GG_VISIBLE_AREA_START_X + small::wide(e),
         Screen::EffectiveArea => small::wide(e),
-        Screen::TrueEdges => 48 + small::wide(e),
+        Screen::TrueEdges => GG_VISIBLE_AREA_START_X + small::wide(e),
         Screen::Home => small::wide(e),
     }
 }
@@ -409,7 +409,7 @@ fn visible_number(
     requires { ⌜ (length (now vram) ≡ vramSize) × (scroll < 256) × (row < rows VisibleOnly) × (col < columns VisibleOnly) × (columns screen ≡ columns VisibleOnly) ⌝ }
     ensures { λ r. ⌜ r ≡ pictureOf screen reg scroll (now (vram .entry)) row .colour col ⌝ }
 {
-    let sx = (304 - small::wide(reg[8])) % 256;
+    let sx = (GG_VISIBLE_MAP_X - small::wide(reg[8])) % SCROLL_PIXEL_WIDTH;
     let y = (row + GG_VISIBLE_AREA_START_Y + scroll) % SCROLL_PIXEL_HEIGHT;
     let b = Scene {
         names: background::names_at(reg),
@@ -527,7 +527,7 @@ fn on_screen(screen: Screen, row: usize, col: usize) -> bool
         Screen::TrueEdges => {
             small::both(row < GG_VISIBLE_PIXEL_HEIGHT, col < GG_VISIBLE_PIXEL_WIDTH)
         }
-        Screen::Home => small::both(row < HOME_PIXEL_HEIGHT, col < SCROLL_PIXEL_WIDTH),
+        Screen::Home => small::both(row < HOME_PIXEL_HEIGHT, col < HOME_PIXEL_WIDTH),
     }
 }
 

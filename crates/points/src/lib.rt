@@ -16,14 +16,14 @@ use raster::Raster;
 use refusal::Refusal;
 use small::VRAM_SIZE;
 
-// The lines between which the screens' rows are drawn, and the line at which the screen ends.
-const GG_VISIBLE_AREA_START_Y: u8 = 24;
+// The lines between which the screens' rows are drawn, as bytes, as the counter is one; and the line at which the screen ends.
+const GG_VISIBLE_AREA_START_Y: u8 = picture::GG_VISIBLE_AREA_START_Y as u8;
 
-const GG_VISIBLE_AREA_END_Y: u8 = 168;
+const GG_VISIBLE_AREA_END_Y: u8 = picture::GG_VISIBLE_AREA_END_Y as u8;
 
-const SCROLL_PIXEL_HEIGHT: u8 = 224;
+const SCROLL_PIXEL_HEIGHT: u8 = picture::SCROLL_PIXEL_HEIGHT as u8;
 
-const HOME_PIXEL_HEIGHT: u8 = 192;
+const HOME_PIXEL_HEIGHT: u8 = picture::HOME_PIXEL_HEIGHT as u8;
 
 const SCREEN_END: u8 = 0xC1;
 
@@ -165,10 +165,10 @@ pub fn column_count(screen: Screen) -> usize
     ensures { λ r. ⌜ r ≡ columns screen ⌝ }
 {
     match screen {
-        Screen::VisibleOnly => 160,
-        Screen::EffectiveArea => 256,
-        Screen::TrueEdges => 160,
-        Screen::Home => 256,
+        Screen::VisibleOnly => picture::GG_VISIBLE_PIXEL_WIDTH,
+        Screen::EffectiveArea => picture::SCROLL_PIXEL_WIDTH,
+        Screen::TrueEdges => picture::GG_VISIBLE_PIXEL_WIDTH,
+        Screen::Home => picture::HOME_PIXEL_WIDTH,
     }
 }
 
@@ -176,10 +176,10 @@ fn row_count(screen: Screen) -> usize
     ensures { λ r. ⌜ r ≡ rows screen ⌝ }
 {
     match screen {
-        Screen::VisibleOnly => 144,
-        Screen::EffectiveArea => 224,
-        Screen::TrueEdges => 144,
-        Screen::Home => 192,
+        Screen::VisibleOnly => picture::GG_VISIBLE_PIXEL_HEIGHT,
+        Screen::EffectiveArea => picture::SCROLL_PIXEL_HEIGHT,
+        Screen::TrueEdges => picture::GG_VISIBLE_PIXEL_HEIGHT,
+        Screen::Home => picture::HOME_PIXEL_HEIGHT,
     }
 }
 
@@ -187,10 +187,10 @@ pub fn row_size(screen: Screen) -> usize
     ensures { λ r. ⌜ r ≡ rowSize screen ⌝ }
 {
     match screen {
-        Screen::VisibleOnly => 640,
-        Screen::EffectiveArea => 1024,
-        Screen::TrueEdges => 640,
-        Screen::Home => 1024,
+        Screen::VisibleOnly => picture::GG_VISIBLE_ROW_SIZE,
+        Screen::EffectiveArea => picture::SCROLL_ROW_SIZE,
+        Screen::TrueEdges => picture::GG_VISIBLE_ROW_SIZE,
+        Screen::Home => picture::HOME_ROW_SIZE,
     }
 }
 
@@ -198,10 +198,10 @@ fn frame_size(screen: Screen) -> usize
     ensures { λ r. ⌜ r ≡ frameSize screen ⌝ }
 {
     match screen {
-        Screen::VisibleOnly => 92160,
-        Screen::EffectiveArea => 229376,
-        Screen::TrueEdges => 92160,
-        Screen::Home => 196608,
+        Screen::VisibleOnly => picture::GG_VISIBLE_FRAME_SIZE,
+        Screen::EffectiveArea => picture::SCROLL_FRAME_SIZE,
+        Screen::TrueEdges => picture::GG_VISIBLE_FRAME_SIZE,
+        Screen::Home => picture::HOME_FRAME_SIZE,
     }
 }
 

@@ -17,14 +17,13 @@ ghost use Rattle.background.specs.Background.{Room, backColour, shade, prioTo};
 ghost use Rattle.row.specs.Row.{Drawn};
 use bitmap::Bitmap;
 use picture::GG_VISIBLE_AREA_START_Y;
+use picture::GG_VISIBLE_MAP_X;
 use picture::GG_VISIBLE_PIXEL_WIDTH;
+use picture::HOME_LOCKED_X;
 use picture::SCROLL_PIXEL_HEIGHT;
 use picture::SCROLL_PIXEL_WIDTH;
 use picture::Screen;
 use sprites::Line;
-
-// R20.5: the column from which register 0 bit 7 stops the vertical scroll.
-const HOME_LOCKED_X: usize = 192;
 
 // R15.1: the layer of a column that the fill covers.
 const LAYER_FILLED: u8 = 2;
@@ -72,7 +71,7 @@ fn render_line_visible(
     ensures { λ r. ⌜ now (layers .exit) ≡ layersIn (now (layers .entry)) (columns screen) (layersOf screen reg scroll (now (vram .entry)) line) ⌝ }
 {
     clear(layers, GG_VISIBLE_PIXEL_WIDTH);
-    let sx = (304 - small::wide(reg[8])) % 256;
+    let sx = (GG_VISIBLE_MAP_X - small::wide(reg[8])) % SCROLL_PIXEL_WIDTH;
     let y = (line + GG_VISIBLE_AREA_START_Y + scroll) % SCROLL_PIXEL_HEIGHT;
     let cut = background::cut_of(screen, (sx % 8) as u8);
     let prio = background::render_background_line(

@@ -7,6 +7,15 @@ ghost use Rattle.stand.specs.Stand.{standOf, Fits};
 use picture::Screen;
 use picture::Stand;
 
+// The visible area's edges and its width as bytes, as X is one; and the last X at which a sprite lies left of it.
+const START_X: u8 = picture::GG_VISIBLE_AREA_START_X as u8;
+
+const END_X: u8 = picture::GG_VISIBLE_AREA_END_X as u8;
+
+const WIDTH: u8 = picture::GG_VISIBLE_PIXEL_WIDTH as u8;
+
+const BEFORE_X: u8 = START_X - 8;
+
 // The difference, 0 where it would be below.
 fn minus(a: u8, b: u8) -> u8
     ensures { λ r. ⌜ r ≡ a - b ⌝ }
@@ -19,17 +28,17 @@ fn visible_end(x: u8) -> usize
     ensures { λ r. ⌜ r ≡ visibleEnd x ⌝ }
     ensures { λ r. ⌜ r ≤ 8 ⌝ }
 {
-    if 160 < x {
+    if WIDTH < x {
         return 8;
     }
-    small::smaller(small::wide(160 - x), 8)
+    small::smaller(small::wide(WIDTH - x), 8)
 }
 
 // Whether a sprite with X byte h is seen in the visible area.
 fn visible_seen(h: u8) -> bool
     ensures { λ r. ⌜ r ≡ visibleSeen h ⌝ }
 {
-    if 40 < h { h < 208 } else { false }
+    if BEFORE_X < h { h < END_X } else { false }
 }
 
 // Where its column 0 is marked: at X, and of an unseen one at X + start.
@@ -51,8 +60,8 @@ fn sprite_line_settings_visible(e: u8, h: u8) -> Stand
     ensures { λ r. ⌜ Fits r ⌝ }
 {
     let seen = visible_seen(h);
-    let x = minus(minus(h, 48), e);
-    let start = minus(48 + e, h);
+    let x = minus(minus(h, START_X), e);
+    let start = minus(START_X + e, h);
     let end = visible_end(x);
     let mark = mark_place(seen, h, start);
     let prio = std::num::wrapping_sub_u8(x, start);
@@ -124,7 +133,9 @@ pub fn settings(screen: Screen, e: u8, h: u8) -> Stand
     match screen {
         Screen::VisibleOnly => sprite_line_settings_visible(e, h),
         Screen::EffectiveArea => sprite_line_settings_effective(e, h),
-        Screen::TrueEdges => sprite_line_settings_true(48, 160, e, h),
-        Screen::Home => sprite_line_settings_true(0, 256, e, h),
+        Screen::TrueEdges => {
+            sprite_line_settings_true(START_X, picture::GG_VISIBLE_PIXEL_WIDTH, e, h)
+        }
+        Screen::Home => sprite_line_settings_true(0, picture::HOME_PIXEL_WIDTH, e, h),
     }
 }

@@ -11,6 +11,7 @@ ghost use Rattle.trace_run.specs.Device.{handheld, home, withVdp, withHo
 ghost use Rattle.trace_run.specs.Run.{held, on, stepAnswer, rowTurn, intoFrame, layerColour, layersPainted, layersInto, turnFor, hasArea, recordOn, turnOf, TurnLeaves};
 use home::HomeState;
 use home::HomeStepped;
+use picture::GG_VISIBLE_PIXEL_WIDTH;
 use picture::RenderArea;
 use points::DrawnRow;
 use step::Stepped;
@@ -327,16 +328,16 @@ fn layer_colour(layer: u8) -> u32
 }
 
 // The layers of a row as colours, into its place in the frame.
-fn paint_layers(frame: &mut [u8], drawn: DrawnRow, layers: &[u8; 160])
+fn paint_layers(frame: &mut [u8], drawn: DrawnRow, layers: &[u8; GG_VISIBLE_PIXEL_WIDTH])
     requires { ⌜ (frameSize VisibleOnly ≤ length (now frame)) × RowIn (screenOf VisibleOnly) drawn ⌝ }
     ensures { λ _. ⌜ now (frame .exit) ≡ layersPainted drawn (λ y. at (now (layers .entry))) (now (frame .entry)) ⌝ }
 {
     let DrawnRow::Drawn(y) = drawn else {
         return;
     };
-    let first = small::wide(y) * 160;
+    let first = small::wide(y) * GG_VISIBLE_PIXEL_WIDTH;
     let mut x: usize = 0;
-    while x < 160 {
+    while x < GG_VISIBLE_PIXEL_WIDTH {
         tile::pixel_set_full(frame, first + x, layer_colour(layers[x]));
         x += 1;
     }
@@ -352,7 +353,7 @@ fn layer_turn(run: Run, vram: &[u8], row: &mut [u8], frame: &mut [u8], area: Ren
     match machine {
         Machine::Handheld => {
             let vdp = device.vdp;
-            let mut layers = [0u8; 160];
+            let mut layers = [0u8; GG_VISIBLE_PIXEL_WIDTH];
             let stepped = layer_row_step(vdp, vram, row, &mut layers, area);
             let drawn = stepped.row;
             paint_layers(frame, drawn, &layers);
