@@ -5,6 +5,9 @@ ghost use Rattle.laws.specs.Lists.{at};
 ghost use lib.ListN.{length};
 ghost use Rattle.block_parts.specs.Parts.{rasterStored, cacheStored};
 ghost use Rattle.block.specs.Block.{oldSize, markOf, fits, freshIn, stateOf, wellFormed};
+use inplace::MARK;
+use inplace::MARK_FIRST;
+use inplace::MARK_SECOND;
 use raster::LineTable;
 use raster::Raster;
 
@@ -14,11 +17,11 @@ pub const OLD_SIZE: usize = 219;
 pub const BLOCK_SIZE: usize = 220;
 
 // The places that are its own: the byte that waits for the palette and its flag, the scroll, the dirty flag, the palette, the cache, the table.
-pub const PALETTE_LATCH: usize = 23;
+pub const PALETTE_LATCHED: usize = 23;
 
-const PALETTE_BYTE: usize = 24;
+pub const PALETTE_BYTE: usize = 24;
 
-const SCROLL: usize = 25;
+const VERTICAL_SCROLL: usize = 25;
 
 pub const DIRTY: usize = 26;
 
@@ -26,7 +29,7 @@ pub const PALETTE: usize = 27;
 
 pub const CACHE: usize = 91;
 
-const TABLE: usize = 219;
+pub const TABLE: usize = 219;
 
 // The second byte of the mark, by the length.
 pub fn mark_of(len: usize) -> u8
@@ -66,9 +69,9 @@ pub fn well_formed(block: &[u8]) -> bool
     if BLOCK_SIZE < block.len() {
         return false;
     }
-    let marked = (block[0] == 0x56) & (block[1] == mark_of(block.len()));
-    let flags = (block[PALETTE_LATCH] <= 1) & (block[DIRTY] <= 1) & (table_byte(block) <= 1);
-    let palette = (block[PALETTE_LATCH] != 0) | (block[PALETTE_BYTE] == 0);
+    let marked = (block[MARK] == MARK_FIRST) & (block[MARK_SECOND] == mark_of(block.len()));
+    let flags = (block[PALETTE_LATCHED] <= 1) & (block[DIRTY] <= 1) & (table_byte(block) <= 1);
+    let palette = (block[PALETTE_LATCHED] != 0) | (block[PALETTE_BYTE] == 0);
     marked & block_parts::fields_fit(block) & flags & palette
 }
 
@@ -101,7 +104,11 @@ pub fn raster_in(block: &[u8]) -> Raster
     requires { ⌜ oldSize ≤ length (now block) ⌝ }
     ensures { λ r. ⌜ r ≡ stateOf (now (block .entry)) .raster ⌝ }
 {
-    block_parts::raster_in(block, SCROLL, raster::table_from(table_byte(block)))
+    block_parts::raster_in(
+        block,
+        VERTICAL_SCROLL,
+        raster::table_from(table_byte(block)),
+    )
 }
 
 // The palette, and the cached colours.
@@ -126,7 +133,7 @@ pub fn store_raster(block: &mut [u8], status: u8, raster: Raster)
     requires { ⌜ oldSize ≤ length (now block) ⌝ }
     ensures { λ _. ⌜ now (block .exit) ≡ rasterStored 25 status raster (now (block .entry)) ⌝ }
 {
-    block_parts::store_raster(block, SCROLL, status, raster);
+    block_parts::store_raster(block, VERTICAL_SCROLL, status, raster);
 }
 
 // Colours into a block, which are not dirty then.

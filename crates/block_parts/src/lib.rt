@@ -6,8 +6,32 @@ ghost use lib.ListN.{length, drop, replicate};
 ghost use lib.Seq.{paste};
 ghost use Rattle.inplace.specs.InPlace.{frontEnd};
 ghost use Rattle.block_parts.specs.Parts.{registersIn, rasterIn, colourBytes, colourAt, coloursFrom, fieldsFit, rasterStored, cacheStored, stamped};
+use inplace::CHOSEN;
+use inplace::COMMAND_BYTE;
+use inplace::COMMAND_LATCHED;
+use inplace::COUNTER;
+use inplace::JUMPED;
+use inplace::LINE_COUNT;
+use inplace::MARK;
+use inplace::MARK_FIRST;
+use inplace::MARK_SECOND;
+use inplace::REGISTERS;
+use inplace::STATUS;
 use raster::LineTable;
 use raster::Raster;
+
+// The registers that a fresh device has other than 0.
+const REGISTER_2: usize = REGISTERS + 2;
+
+const REGISTER_3: usize = REGISTERS + 3;
+
+const REGISTER_4: usize = REGISTERS + 4;
+
+const REGISTER_5: usize = REGISTERS + 5;
+
+const REGISTER_6: usize = REGISTERS + 6;
+
+const REGISTER_10: usize = REGISTERS + 10;
 
 // ---- bytes
 
@@ -40,14 +64,14 @@ pub fn stamp(block: &mut [u8], mark: u8, dirty: usize)
     ensures { λ _. ⌜ now (block .exit) ≡ stamped (length (now (block .entry))) mark dirty ⌝ }
 {
     clear(block);
-    block[0] = 0x56;
-    block[1] = mark;
-    block[5] = 0xFF;
-    block[6] = 0xFF;
-    block[7] = 0xFF;
-    block[8] = 0xFF;
-    block[9] = 0xFF;
-    block[13] = 1;
+    block[MARK] = MARK_FIRST;
+    block[MARK_SECOND] = mark;
+    block[REGISTER_2] = 0xFF;
+    block[REGISTER_3] = 0xFF;
+    block[REGISTER_4] = 0xFF;
+    block[REGISTER_5] = 0xFF;
+    block[REGISTER_6] = 0xFF;
+    block[REGISTER_10] = 1;
     block[dirty] = 1;
 }
 
@@ -119,8 +143,8 @@ pub fn fields_fit(block: &[u8]) -> bool
     requires { ⌜ frontEnd ≤ length (now block) ⌝ }
     ensures { λ r. ⌜ r ≡ fieldsFit (now (block .entry)) ⌝ }
 {
-    let command = (block[21] != 0) | (block[22] == 0);
-    (block[15] <= 1) & (block[20] <= 2) & (block[21] <= 1) & command
+    let command = (block[COMMAND_LATCHED] != 0) | (block[COMMAND_BYTE] == 0);
+    (block[JUMPED] <= 1) & (block[CHOSEN] <= 2) & (block[COMMAND_LATCHED] <= 1) & command
 }
 
 // The registers.
@@ -129,7 +153,7 @@ pub fn registers(block: &[u8]) -> [u8; 11]
     ensures { λ r. ⌜ r ≡ registersIn (now (block .entry)) ⌝ }
 {
     let mut reg = [0u8; 11];
-    copy(&mut reg, 0, block, 3, 11);
+    copy(&mut reg, 0, block, REGISTERS, 11);
     reg
 }
 
@@ -139,9 +163,9 @@ pub fn raster_in(block: &[u8], scroll: usize, table: LineTable) -> Raster
     ensures { λ r. ⌜ r ≡ rasterIn scroll table (now (block .entry)) ⌝ }
 {
     Raster {
-        v_counter: block[14],
-        v_counter_jumped: block[15] == 1,
-        line_interrupt_counter: block[16],
+        v_counter: block[COUNTER],
+        v_counter_jumped: block[JUMPED] == 1,
+        line_interrupt_counter: block[LINE_COUNT],
         vertical_scroll: block[scroll],
         table: table,
     }
@@ -152,9 +176,9 @@ pub fn store_raster(block: &mut [u8], scroll: usize, status: u8, raster: Raster)
     requires { ⌜ (frontEnd ≤ length (now block)) × (scroll < length (now block)) ⌝ }
     ensures { λ _. ⌜ now (block .exit) ≡ rasterStored scroll status raster (now (block .entry)) ⌝ }
 {
-    block[2] = status;
-    block[14] = raster.v_counter;
-    block[15] = inplace::flag_of(raster.v_counter_jumped);
-    block[16] = raster.line_interrupt_counter;
+    block[STATUS] = status;
+    block[COUNTER] = raster.v_counter;
+    block[JUMPED] = inplace::flag_of(raster.v_counter_jumped);
+    block[LINE_COUNT] = raster.line_interrupt_counter;
     block[scroll] = raster.vertical_scroll;
 }

@@ -11,7 +11,7 @@ ghost use Rattle.block.specs.Block.{oldSize, blockOf, wellFormed, Sized};
 ghost use Rattle.block_ports.specs.InPlace.{PaletteInPlace, OutInPlace, InputInPlace};
 use block::DIRTY;
 use block::PALETTE;
-use block::PALETTE_LATCH;
+use block::PALETTE_LATCHED;
 use front::Latch;
 use inplace::Got;
 use refusal::Refusal;
@@ -25,11 +25,11 @@ fn write_palette(block: &mut [u8], val: u8) -> Refusal
     let addr = inplace::address_in(block);
     let next = (addr + 1) % CRAM_SIZE;
     if addr % 2 == 0 {
-        inplace::store_latch(block, PALETTE_LATCH, Latch::Held(val));
+        inplace::store_latch(block, PALETTE_LATCHED, Latch::Held(val));
         inplace::store_address(block, next);
         return Refusal::Accepted;
     }
-    let latch = inplace::latch_in(block, PALETTE_LATCH);
+    let latch = inplace::latch_in(block, PALETTE_LATCHED);
     let Latch::Held(low) = latch else {
         return Refusal::NoPaletteByte;
     };

@@ -9,7 +9,20 @@ ghost use Rattle.inplace.specs.Fields.{chosenFrom};
 ghost use Rattle.block.specs.Block.{oldSize, blockSize, markOf};
 ghost use Rattle.block_repair.specs.Repair.{within, held, choice, address, matching, dirty, mendedAt, RepairLeaves};
 use block::BLOCK_SIZE;
+use block::DIRTY;
 use block::OLD_SIZE;
+use block::PALETTE_BYTE;
+use block::PALETTE_LATCHED;
+use block::TABLE;
+use inplace::ADDRESS;
+use inplace::ADDRESS_HIGH;
+use inplace::CHOSEN;
+use inplace::COMMAND_BYTE;
+use inplace::COMMAND_LATCHED;
+use inplace::JUMPED;
+use inplace::MARK;
+use inplace::MARK_FIRST;
+use inplace::MARK_SECOND;
 use refusal::Refusal;
 use small::VRAM_ADDRESSES;
 use vdp::CRAM_SIZE;
@@ -58,7 +71,7 @@ fn address_of(old: &[u8]) -> u16
     requires { ⌜ oldSize ≤ length (now old) ⌝ }
     ensures { λ r. ⌜ r ≡ address (now (old .entry)) ⌝ }
 {
-    word(old[17], old[18]) % memory_size(in_range(2, old[20]))
+    word(old[ADDRESS], old[ADDRESS_HIGH]) % memory_size(in_range(2, old[CHOSEN]))
 }
 
 // Whether the cached colours are the palette's.
@@ -83,7 +96,7 @@ fn dirty_of(old: &[u8]) -> u8
     requires { ⌜ oldSize ≤ length (now old) ⌝ }
     ensures { λ r. ⌜ r ≡ dirty (now (old .entry)) ⌝ }
 {
-    let flag = in_range(1, old[26]);
+    let flag = in_range(1, old[DIRTY]);
     if flag != 0 {
         return flag;
     }
@@ -96,18 +109,18 @@ fn mended_byte(old: &[u8], k: usize) -> u8
     ensures { λ r. ⌜ r ≡ mendedAt (now (old .entry)) k ⌝ }
 {
     match k {
-        0 => 0x56,
-        1 => block::mark_of(old.len()),
-        15 => in_range(1, old[15]),
-        17 => (address_of(old) % 256) as u8,
-        18 => (address_of(old) / 256) as u8,
-        20 => in_range(2, old[20]),
-        21 => in_range(1, old[21]),
-        22 => latched(in_range(1, old[21]), old[22]),
-        23 => in_range(1, old[23]),
-        24 => latched(in_range(1, old[23]), old[24]),
-        26 => dirty_of(old),
-        219 => in_range(1, old[219]),
+        MARK => MARK_FIRST,
+        MARK_SECOND => block::mark_of(old.len()),
+        JUMPED => in_range(1, old[JUMPED]),
+        ADDRESS => (address_of(old) % 256) as u8,
+        ADDRESS_HIGH => (address_of(old) / 256) as u8,
+        CHOSEN => in_range(2, old[CHOSEN]),
+        COMMAND_LATCHED => in_range(1, old[COMMAND_LATCHED]),
+        COMMAND_BYTE => latched(in_range(1, old[COMMAND_LATCHED]), old[COMMAND_BYTE]),
+        PALETTE_LATCHED => in_range(1, old[PALETTE_LATCHED]),
+        PALETTE_BYTE => latched(in_range(1, old[PALETTE_LATCHED]), old[PALETTE_BYTE]),
+        DIRTY => dirty_of(old),
+        TABLE => in_range(1, old[TABLE]),
         _ => old[k],
     }
 }

@@ -122,7 +122,7 @@ pub extern "C" fn vdp_step(state: &mut [u8], vram: &[u8], frame: &mut [u8], area
     let points = points_run::frame_points(
         block::registers(state),
         block::raster_in(state),
-        state[2],
+        state[inplace::STATUS],
         &colours,
         vram,
         frame,
@@ -147,7 +147,7 @@ pub extern "C" fn vdp_row_step(state: &mut [u8], vram: &[u8], row: &mut [u8], ar
     let points = points_run::row_points(
         block::registers(state),
         block::raster_in(state),
-        state[2],
+        state[inplace::STATUS],
         &colours,
         vram,
         row,
@@ -178,7 +178,7 @@ pub extern "C" fn vdp_layer_step(
     let points = points_run::layer_frame_points(
         block::registers(state),
         block::raster_in(state),
-        state[2],
+        state[inplace::STATUS],
         &colours,
         vram,
         frame,
@@ -210,7 +210,7 @@ pub extern "C" fn vdp_layer_row_step(
     let points = points_run::layer_row_points(
         block::registers(state),
         block::raster_in(state),
-        state[2],
+        state[inplace::STATUS],
         &colours,
         vram,
         row,

@@ -19,7 +19,7 @@ use raster::Raster;
 use refusal::Refusal;
 
 // The bytes of the palette.
-const PALETTE_SIZE: u16 = 32;
+pub const PALETTE_SIZE: u16 = 32;
 
 // The device: what the ports work on, the raster, the palette and the cached colours.
 pub struct HomeState {

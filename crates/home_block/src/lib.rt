@@ -11,7 +11,11 @@ ghost use Rattle.home.specs.Home.{paletteSize, made};
 ghost use Rattle.home.specs.Ports.{paletteWrite};
 ghost use Rattle.home_block.specs.HomeBlock.{blockSize, blockOf, stateOf, wellFormed, Sized};
 ghost use Rattle.home_block.specs.InPlace.{OutInPlace, InputInPlace};
+use home::PALETTE_SIZE;
 use inplace::Got;
+use inplace::MARK;
+use inplace::MARK_FIRST;
+use inplace::MARK_SECOND;
 use raster::LineTable;
 use raster::Raster;
 use refusal::Refusal;
@@ -19,7 +23,7 @@ use refusal::Refusal;
 pub const BLOCK_SIZE: usize = 186;
 
 // The places that are its own: the scroll, the dirty flag, the table, the palette, the cache.
-const SCROLL: usize = 23;
+const VERTICAL_SCROLL: usize = 23;
 
 pub const DIRTY: usize = 24;
 
@@ -29,8 +33,8 @@ pub const PALETTE: usize = 26;
 
 pub const CACHE: usize = 58;
 
-// The bytes of the palette.
-const PALETTE_SIZE: u16 = 32;
+// The second byte of its mark.
+const HOME_MARK: u8 = 0x48;
 
 // R21.3: whether a block has the length, the mark, and no byte that does not fit its place.
 pub fn well_formed(block: &[u8]) -> bool
@@ -39,7 +43,7 @@ pub fn well_formed(block: &[u8]) -> bool
     if block.len() != BLOCK_SIZE {
         return false;
     }
-    let marked = (block[0] == 0x56) & (block[1] == 0x48);
+    let marked = (block[MARK] == MARK_FIRST) & (block[MARK_SECOND] == HOME_MARK);
     marked & block_parts::fields_fit(block) & (block[DIRTY] <= 1) & (block[TABLE] <= 1)
 }
 
@@ -48,7 +52,7 @@ pub fn fresh(block: &mut [u8], table: LineTable)
     requires { ⌜ length (now block) ≡ blockSize ⌝ }
     ensures { λ _. ⌜ now (block .exit) ≡ blockOf (made table) ⌝ }
 {
-    block_parts::stamp(block, 0x48, DIRTY);
+    block_parts::stamp(block, HOME_MARK, DIRTY);
     block[TABLE] = raster::table_number(table);
 }
 
@@ -67,7 +71,7 @@ pub fn raster_in(block: &[u8]) -> Raster
     requires { ⌜ length (now block) ≡ blockSize ⌝ }
     ensures { λ r. ⌜ r ≡ stateOf (now (block .entry)) .raster ⌝ }
 {
-    block_parts::raster_in(block, SCROLL, raster::table_from(block[TABLE]))
+    block_parts::raster_in(block, VERTICAL_SCROLL, raster::table_from(block[TABLE]))
 }
 
 // The palette, and the cached colours.
@@ -92,7 +96,7 @@ pub fn store_raster(block: &mut [u8], status: u8, raster: Raster)
     requires { ⌜ length (now block) ≡ blockSize ⌝ }
     ensures { λ _. ⌜ now (block .exit) ≡ rasterStored 23 status raster (now (block .entry)) ⌝ }
 {
-    block_parts::store_raster(block, SCROLL, status, raster);
+    block_parts::store_raster(block, VERTICAL_SCROLL, status, raster);
 }
 
 // Colours into a block, which are not dirty then.

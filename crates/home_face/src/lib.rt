@@ -104,7 +104,7 @@ pub fn step(state: &mut [u8], vram: &[u8], frame: &mut [u8]) -> u32
     let points = points_run::frame_points(
         home_block::registers(state),
         home_block::raster_in(state),
-        state[2],
+        state[inplace::STATUS],
         &colours,
         vram,
         frame,
@@ -125,7 +125,7 @@ pub fn row_step(state: &mut [u8], vram: &[u8], row: &mut [u8]) -> u32
     let points = points_run::row_points(
         home_block::registers(state),
         home_block::raster_in(state),
-        state[2],
+        state[inplace::STATUS],
         &colours,
         vram,
         row,
@@ -146,7 +146,7 @@ pub fn layer_step(state: &mut [u8], vram: &[u8], frame: &mut [u8], layers: &mut 
     let points = points_run::layer_frame_points(
         home_block::registers(state),
         home_block::raster_in(state),
-        state[2],
+        state[inplace::STATUS],
         &colours,
         vram,
         frame,
@@ -168,7 +168,7 @@ pub fn layer_row_step(state: &mut [u8], vram: &[u8], row: &mut [u8], layers: &mu
     let points = points_run::layer_row_points(
         home_block::registers(state),
         home_block::raster_in(state),
-        state[2],
+        state[inplace::STATUS],
         &colours,
         vram,
         row,

@@ -18,6 +18,36 @@ use front::WriteDest;
 use refusal::Refusal;
 use small::VRAM_ADDRESSES;
 
+// The places that are the same in either machine's block, by the names that include/vdp.h has for them; of two bytes the second has one of its own.
+pub const MARK: usize = 0;
+
+pub const MARK_SECOND: usize = 1;
+
+pub const STATUS: usize = 2;
+
+pub const REGISTERS: usize = 3;
+
+pub const COUNTER: usize = 14;
+
+pub const JUMPED: usize = 15;
+
+pub const LINE_COUNT: usize = 16;
+
+pub const ADDRESS: usize = 17;
+
+pub const ADDRESS_HIGH: usize = 18;
+
+pub const READ_BUFFER: usize = 19;
+
+pub const CHOSEN: usize = 20;
+
+pub const COMMAND_LATCHED: usize = 21;
+
+pub const COMMAND_BYTE: usize = 22;
+
+// The first byte of either machine's mark.
+pub const MARK_FIRST: u8 = 0x56;
+
 // What a port write answers; `palette` where the byte is for the machine's own palette, which has still to take it.
 pub struct Sent {
     pub refusal: Refusal,
@@ -121,7 +151,7 @@ pub fn address_in(block: &[u8]) -> u16
     requires { ⌜ frontEnd ≤ length (now block) ⌝ }
     ensures { λ r. ⌜ r ≡ addressIn (now (block .entry)) ⌝ }
 {
-    word(block[17], block[18])
+    word(block[ADDRESS], block[ADDRESS_HIGH])
 }
 
 // The command latch.
@@ -129,7 +159,7 @@ fn command_in(block: &[u8]) -> Latch
     requires { ⌜ frontEnd ≤ length (now block) ⌝ }
     ensures { λ r. ⌜ r ≡ frontIn (now (block .entry)) .«cmd_byte1» ⌝ }
 {
-    latch_in(block, 21)
+    latch_in(block, COMMAND_LATCHED)
 }
 
 // The memory that the data port reads and writes.
@@ -137,7 +167,7 @@ fn chosen_in(block: &[u8]) -> WriteDest
     requires { ⌜ frontEnd ≤ length (now block) ⌝ }
     ensures { λ r. ⌜ r ≡ frontIn (now (block .entry)) .dest ⌝ }
 {
-    chosen_from(block[20])
+    chosen_from(block[CHOSEN])
 }
 
 // ---- and stored
@@ -166,7 +196,7 @@ pub fn store_address(block: &mut [u8], address: u16)
     requires { ⌜ frontEnd ≤ length (now block) ⌝ }
     ensures { λ _. ⌜ now (block .exit) ≡ addressStored address (now (block .entry)) ⌝ }
 {
-    store_two(block, 17, (address % 256) as u8, (address / 256) as u8);
+    store_two(block, ADDRESS, (address % 256) as u8, (address / 256) as u8);
 }
 
 // Byte n of a palette that begins at `palette`; the flag at `dirty` is up afterwards where it was, or where the byte is another than before.
@@ -185,7 +215,7 @@ fn store_command(block: &mut [u8], latch: Latch)
     requires { ⌜ FrontFormed (now block) ⌝ }
     ensures { λ _. ⌜ now (block .exit) ≡ frontStored (withCommand (frontIn (now (block .entry))) latch) (now (block .entry)) ⌝ }
 {
-    store_latch(block, 21, latch);
+    store_latch(block, COMMAND_LATCHED, latch);
 }
 
 // A memory chosen, at this address.
@@ -194,7 +224,7 @@ fn store_choice(block: &mut [u8], dest: WriteDest, address: u16)
     ensures { λ _. ⌜ now (block .exit) ≡ frontStored (choosing (frontIn (now (block .entry))) dest address) (now (block .entry)) ⌝ }
 {
     store_address(block, address);
-    block[20] = chosen_of(dest);
+    block[CHOSEN] = chosen_of(dest);
 }
 
 // A byte in the read buffer, and the address one on from this one.
@@ -203,7 +233,7 @@ fn store_buffer(block: &mut [u8], byte: u8, address: u16)
     ensures { λ _. ⌜ now (block .exit) ≡ frontStored (withBuffer (frontIn (now (block .entry))) byte address) (now (block .entry)) ⌝ }
 {
     store_address(block, (address + 1) % VRAM_ADDRESSES);
-    block[19] = byte;
+    block[READ_BUFFER] = byte;
 }
 
 // A register.
@@ -211,7 +241,7 @@ fn store_register(block: &mut [u8], n: usize, val: u8)
     requires { ⌜ (FrontFormed (now block)) × (n < 11) ⌝ }
     ensures { λ _. ⌜ now (block .exit) ≡ frontStored (withReg (frontIn (now (block .entry))) (set (frontIn (now (block .entry)) .reg) n val)) (now (block .entry)) ⌝ }
 {
-    block[3 + n] = val;
+    block[REGISTERS + n] = val;
 }
 
 // ---- the ports
@@ -308,7 +338,7 @@ fn read_ram(block: &mut [u8], vram: &[u8]) -> Got
 {
     let dest = chosen_in(block);
     let addr = address_in(block);
-    let byte = block[19];
+    let byte = block[READ_BUFFER];
     store_command(block, Latch::Empty);
     match dest {
         WriteDest::None => refused(Refusal::NothingChosen),
@@ -332,9 +362,9 @@ fn read_status(block: &mut [u8]) -> Got
     requires { ⌜ FrontFormed (now block) ⌝ }
     ensures { λ r. ⌜ GotInPlace (now (block .entry)) (statusRead (frontIn (now (block .entry)))) r (now (block .exit)) ⌝ }
 {
-    let byte = block[2];
+    let byte = block[STATUS];
     store_command(block, Latch::Empty);
-    block[2] = 0;
+    block[STATUS] = 0;
     Got {
         refusal: Refusal::Accepted,
         byte: byte,
@@ -369,7 +399,7 @@ pub fn read(block: &mut [u8], vram: &[u8], port: u16) -> Got
     match port % 256 {
         VCOUNTER_READ => Got {
             refusal: Refusal::Accepted,
-            byte: block[14],
+            byte: block[COUNTER],
         },
         HCOUNTER_READ => refused(Refusal::HorizontalCounter),
         VDP_CMD => read_status(block),
