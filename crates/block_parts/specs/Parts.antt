@@ -8,7 +8,7 @@ use lib.ListN.{take, drop, set, replicate}
 use lib.Seq.{paste}
 use lib.Dec.{leb}
 use Rattle.laws.specs.Lists.{at}
-use Rattle.laws.specs.Paint.{byteOfColour, ofBytes}
+use Rattle.laws.specs.Paint.{byteOfColour, fourAt}
 use Rattle.laws.specs.Table.{table}
 use Rattle.raster.specs.declared.Raster.{Raster}
 use Rattle.raster.specs.declared.LineTable.{LineTable}
@@ -34,7 +34,7 @@ unfoldable pub colourBytes : List ℕ → List ℕ
 colourBytes cs = table 128 (λ k. byteOfColour (at cs (k / 4)) (k % 4))
 
 unfoldable pub colourAt : List ℕ → ℕ → ℕ
-colourAt b i = ofBytes (at b i) (at b (i + 1)) (at b (i + 2)) (at b (i + 3))
+colourAt b i = fourAt b i
 
 unfoldable pub coloursFrom : ℕ → List ℕ → List ℕ
 coloursFrom k b = table 32 (λ i. colourAt b (k + 4 * i))

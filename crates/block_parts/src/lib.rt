@@ -77,23 +77,12 @@ pub fn stamp(block: &mut [u8], mark: u8, dirty: usize)
 
 // ---- colours
 
-// A byte as a colour's part.
-fn wide(b: u8) -> u32
-    ensures { λ r. ⌜ (r ≡ b) × (r < 256) ⌝ }
-{
-    b as u32
-}
-
 // Four bytes of src, the lowest first.
 pub fn colour_at(src: &[u8], at: usize) -> u32
     requires { ⌜ at + 4 ≤ length (now src) ⌝ }
     ensures { λ r. ⌜ r ≡ colourAt (now (src .entry)) at ⌝ }
 {
-    let r = wide(src[at]);
-    let g = wide(src[at + 1]);
-    let b = wide(src[at + 2]);
-    let a = wide(src[at + 3]);
-    r + 256 * g + 65536 * b + 16777216 * a
+    small::four_at(src, at)
 }
 
 // The 32 colours that stand from this place on.

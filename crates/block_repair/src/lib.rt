@@ -60,18 +60,12 @@ fn memory_size(chosen: u8) -> u16
     }
 }
 
-fn word(low: u8, high: u8) -> u16
-    ensures { λ r. ⌜ r ≡ low + 256 * high ⌝ }
-{
-    (low as u16) + 256 * (high as u16)
-}
-
 // The address, reduced to its memory.
 fn address_of(old: &[u8]) -> u16
     requires { ⌜ oldSize ≤ length (now old) ⌝ }
     ensures { λ r. ⌜ r ≡ address (now (old .entry)) ⌝ }
 {
-    word(old[ADDRESS], old[ADDRESS_HIGH]) % memory_size(in_range(2, old[CHOSEN]))
+    small::word(old[ADDRESS], old[ADDRESS_HIGH]) % memory_size(in_range(2, old[CHOSEN]))
 }
 
 // Whether the cached colours are the palette's.

@@ -1,6 +1,6 @@
 // Colours: one from two palette bytes, and the 32 of the whole palette; and those of the home machine, one from each palette byte.
 ghost use mathlib.Core.Path.{_≡_};
-ghost use Prim.Native.Nat.{_*_, _/_, _%_, _<_};
+ghost use Prim.Native.Nat.{_*_, _/_, _%_};
 ghost use Rattle.colour.specs.Colour.{colour, coloursOf};
 ghost use Rattle.colour.specs.Home.{shade, homeColour, homeColoursOf};
 
@@ -18,19 +18,13 @@ fn spread_high(x: u8) -> u8
     ((x >> 4) & 0xF) | (x & 0xF0)
 }
 
-fn wide(x: u8) -> u32
-    ensures { λ r. ⌜ (r ≡ x) × (r < 256) ⌝ }
-{
-    x as u32
-}
-
 // R4.6: the colour of the palette bytes `rg` and `b`, red in its lowest byte.
 pub fn rgb(rg: u8, b: u8) -> u32
     ensures { λ r. ⌜ r ≡ colour rg b ⌝ }
 {
-    wide(spread_low(rg))
-        + 256 * wide(spread_high(rg))
-        + 65536 * wide(spread_low(b))
+    small::part(spread_low(rg))
+        + 256 * small::part(spread_high(rg))
+        + 65536 * small::part(spread_low(b))
         + 16777216 * 255
 }
 
@@ -58,9 +52,9 @@ fn spread_two(x: u8) -> u8
 pub fn home_rgb(byte: u8) -> u32
     ensures { λ r. ⌜ r ≡ homeColour byte ⌝ }
 {
-    wide(spread_two(byte))
-        + 256 * wide(spread_two(byte / 4))
-        + 65536 * wide(spread_two(byte / 16))
+    small::part(spread_two(byte))
+        + 256 * small::part(spread_two(byte / 4))
+        + 65536 * small::part(spread_two(byte / 16))
         + 16777216 * 255
 }
 

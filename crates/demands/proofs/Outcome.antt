@@ -27,6 +27,9 @@ use Rattle.raster.proofs.table_from
 use Rattle.picture.proofs.area_from
 use Rattle.picture.proofs.screen_of
 use Rattle.small.proofs.wide
+use Rattle.small.proofs.part
+use Rattle.small.proofs.word as small-word
+use Rattle.small.proofs.four_at
 use Rattle.small.proofs.smaller
 use Rattle.small.proofs.weight
 use Rattle.small.proofs.is_set
@@ -49,6 +52,7 @@ use Rattle.background.proofs.render_background_line
 use Rattle.stand.proofs.settings
 use Rattle.sprites.proofs.early_of
 use Rattle.sprites.proofs.table_at
+use Rattle.sprites.proofs.height
 use Rattle.sprites.proofs.line_at as sprite-line-at
 use Rattle.sprites.proofs.next_sprite
 use Rattle.pixel.proofs.spot_at
@@ -227,6 +231,15 @@ screen-of-once κs a q z z′ w w′ e f = (e ∙ sym f, refl)
 pub wide-once : OneOutcome 0 wide.Kinds.ps wide.Kinds.r wide.Reads.Asked wide.Reads.Learnt
 wide-once κs a q z z′ w w′ e f = (e .0 ∙ sym (f .0), refl)
 
+pub part-once : OneOutcome 0 part.Kinds.ps part.Kinds.r part.Reads.Asked part.Reads.Learnt
+part-once κs a q z z′ w w′ e f = (e .0 ∙ sym (f .0), refl)
+
+pub small-word-once : OneOutcome 0 small-word.Kinds.ps small-word.Kinds.r small-word.Reads.Asked small-word.Reads.Learnt
+small-word-once κs a q z z′ w w′ e f = (e ∙ sym f, refl)
+
+pub four-at-once : OneOutcome 1 four_at.Kinds.ps four_at.Kinds.r four_at.Reads.Asked four_at.Reads.Learnt
+four-at-once κs a q z z′ w w′ e f = (e ∙ sym f, refl)
+
 pub smaller-once : OneOutcome 0 smaller.Kinds.ps smaller.Kinds.r smaller.Reads.Asked smaller.Reads.Learnt
 smaller-once κs a q z z′ w w′ e f = (e ∙ sym f, refl)
 
@@ -323,6 +336,9 @@ early-of-once κs a q z z′ w w′ e f = (e .0 ∙ sym (f .0), refl)
 
 pub table-at-once : OneOutcome 0 table_at.Kinds.ps table_at.Kinds.r table_at.Reads.Asked table_at.Reads.Learnt
 table-at-once κs a q z z′ w w′ e f = (e .0 ∙ sym (f .0), refl)
+
+pub height-once : OneOutcome 0 height.Kinds.ps height.Kinds.r height.Reads.Asked height.Reads.Learnt
+height-once κs a q z z′ w w′ e f = (e .0 ∙ sym (f .0), refl)
 
 pub sprite-line-at-once : OneOutcome 0 sprite-line-at.Kinds.ps sprite-line-at.Kinds.r sprite-line-at.Reads.Asked sprite-line-at.Reads.Learnt
 sprite-line-at-once κs a q z z′ w w′ e f = (e .0 ∙ sym (f .0), refl)

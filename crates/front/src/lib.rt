@@ -116,7 +116,7 @@ impl Front {
             };
         };
         let mut front = self.with_command(Latch::Empty);
-        let addr = ((data as u16) + 256 * (val as u16)) % VRAM_ADDRESSES;
+        let addr = small::word(data, val) % VRAM_ADDRESSES;
         match val / 64 {
             0 => {
                 let at = addr as usize;

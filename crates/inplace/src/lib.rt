@@ -139,19 +139,12 @@ pub fn latch_in(block: &[u8], place: usize) -> Latch
     }
 }
 
-// Two bytes as an address, low byte first.
-fn word(low: u8, high: u8) -> u16
-    ensures { λ r. ⌜ r ≡ low + 256 * high ⌝ }
-{
-    (low as u16) + 256 * (high as u16)
-}
-
 // The address.
 pub fn address_in(block: &[u8]) -> u16
     requires { ⌜ frontEnd ≤ length (now block) ⌝ }
     ensures { λ r. ⌜ r ≡ addressIn (now (block .entry)) ⌝ }
 {
-    word(block[ADDRESS], block[ADDRESS_HIGH])
+    small::word(block[ADDRESS], block[ADDRESS_HIGH])
 }
 
 // The command latch.
@@ -270,7 +263,7 @@ fn write_cmd(block: &mut [u8], vram: &[u8], palette: u16, val: u8) -> Sent
         return answered(Refusal::Accepted);
     };
     store_command(block, Latch::Empty);
-    let addr = ((data as u16) + 256 * (val as u16)) % VRAM_ADDRESSES;
+    let addr = small::word(data, val) % VRAM_ADDRESSES;
     match val / 64 {
         0 => {
             let at = addr as usize;

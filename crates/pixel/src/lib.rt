@@ -300,20 +300,13 @@ fn none_of(vram: &[u8], k: usize, line: u8, lines: u8) -> bool
     lines <= nearest
 }
 
-// The lines of a sprite.
-fn height(tall: bool) -> u8
-    ensures { λ r. ⌜ (r ≡ cond tall 16 8) × (0 < r) ⌝ }
-{
-    if tall { 16 } else { 8 }
-}
-
 // Where the search of the list may begin: behind the sixteens at its start that have no sprite on the line.
 fn first_group(vram: &[u8], reg: [u8; 11], line: usize) -> usize
     requires { ⌜ (length (now vram) ≡ vramSize) × (line < 256) ⌝ }
     ensures { λ r. ⌜ (r ≤ 64) × (listed (at (now (vram .entry))) (at reg) line 64 0 ≡ listed (at (now (vram .entry))) (at reg) line (64 - r) r) ⌝ }
 {
     let table = sprites::table_at(reg);
-    let lines = height(small::is_set(reg[1], 1));
+    let lines = sprites::height(small::is_set(reg[1], 1)) as u8;
     let l = line as u8;
     let mut n: usize = 0;
     while n < 64 {

@@ -8,17 +8,13 @@ use lib.Dec.{eqb}
 use lib.ListN.{length}
 use Rattle.laws.specs.Bits.{bit}
 use Rattle.laws.specs.Lists.{at}
-use Rattle.laws.specs.Paint.{ofBytes}
+use Rattle.laws.specs.Paint.{fourAt}
 use Rattle.picture.specs.Area.{rowSize, areaFrom}
 use Rattle.raster.specs.declared.LineTable.the-variants.{Steps261}
 use Rattle.vdp.specs.Device.{made}
 use Rattle.block.specs.Block.{oldSize, blockOf}
 use Rattle.face.specs.Face.{Called, outCall, inputCall, rowStepCall}
 use Rattle.replay.specs.declared.Tally.{Tally}
-
--- a number of four bytes, the lowest first
-unfoldable pub wordAt : List ℕ → ℕ → ℕ
-wordAt l k = ofBytes (at l k) (at l (k + 1)) (at l (k + 2)) (at l (k + 3))
 
 -- the checksum of n bytes: byte i counts i + 1 times
 unfoldable pub sumOf : ℕ → List ℕ → ℕ
@@ -31,7 +27,7 @@ rowSum word area row = cond (bit word 24) (sumOf (rowSize (areaFrom area)) row) 
 
 -- the record at place k has this answer, this block and this row
 unfoldable pub agreed : List ℕ → ℕ → ℕ → List ℕ → ℕ → Bool
-agreed l k word block sum = eqb word (wordAt l (k + 4)) && eqb (sumOf oldSize block) (wordAt l (k + 8)) && eqb sum (wordAt l (k + 12))
+agreed l k word block sum = eqb word (fourAt l (k + 4)) && eqb (sumOf oldSize block) (fourAt l (k + 8)) && eqb sum (fourAt l (k + 12))
 
 -- what the calls are made on
 pub record World : Type 0 where

@@ -3,7 +3,7 @@
 ghost use mathlib.Core.Path.{_≡_};
 ghost use Prim.Native.Nat.{_+_, _*_, _≤_, _<_};
 ghost use lib.ListN.{length};
-ghost use Rattle.replay.specs.Replay.{wordAt, sumOf, rowSum, agreed, world, turn, turned, replayed};
+ghost use Rattle.replay.specs.Replay.{sumOf, rowSum, agreed, world, turn, turned, replayed};
 
 // How many answers agree before the first that does not, and whether all do.
 struct Tally {
@@ -11,29 +11,11 @@ struct Tally {
     same: bool,
 }
 
-fn wide(b: u8) -> u32
-    ensures { λ r. ⌜ (r ≡ b) × (r < 256) ⌝ }
-{
-    b as u32
-}
-
 // The port of its low byte.
 fn port(b: u8) -> u16
     ensures { λ r. ⌜ r ≡ b ⌝ }
 {
     b as u16
-}
-
-// A number of four bytes, the lowest first.
-fn word_at(list: &[u8], at: usize) -> u32
-    requires { ⌜ at + 4 ≤ length (now list) ⌝ }
-    ensures { λ r. ⌜ r ≡ wordAt (now (list .entry)) at ⌝ }
-{
-    let b0 = wide(list[at]);
-    let b1 = wide(list[at + 1]);
-    let b2 = wide(list[at + 2]);
-    let b3 = wide(list[at + 3]);
-    b0 + 256 * b1 + 65536 * b2 + 16777216 * b3
 }
 
 // What byte i adds to a checksum.
@@ -77,9 +59,9 @@ fn agrees(list: &[u8], at: usize, word: u32, state: &[u8], sum: u32) -> bool
     requires { ⌜ (at + 16 ≤ length (now list)) × (length (now state) ≡ 219) ⌝ }
     ensures { λ r. ⌜ r ≡ agreed (now (list .entry)) at word (now (state .entry)) sum ⌝ }
 {
-    let answer = word_at(list, at + 4);
-    let block = word_at(list, at + 8);
-    let drawn = word_at(list, at + 12);
+    let answer = small::four_at(list, at + 4);
+    let block = small::four_at(list, at + 8);
+    let drawn = small::four_at(list, at + 12);
     (word == answer) & (sum_of(state, 219) == block) & (sum == drawn)
 }
 

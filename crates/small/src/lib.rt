@@ -1,8 +1,10 @@
 // Numbers, sizes and tests that every layer uses.
 ghost use mathlib.Core.Path.{_≡_};
 ghost use mathlib.Core.Bool.{_&&_};
-ghost use Prim.Native.Nat.{ℕ, _*_, _<_, _≤_, min};
+ghost use Prim.Native.Nat.{ℕ, _+_, _*_, _<_, _≤_, min};
+ghost use lib.ListN.{length};
 ghost use Rattle.laws.specs.Bits.{bit, digit};
+ghost use Rattle.laws.specs.Paint.{fourAt};
 
 // The bytes of video memory: as a length, and as the number of its addresses.
 pub const VRAM_SIZE: usize = 0x4000;
@@ -15,6 +17,32 @@ pub fn wide(x: u8) -> usize
     ensures { λ r. ⌜ r < 256 ⌝ }
 {
     x as usize
+}
+
+// A byte as a part of a number of 32 bits.
+pub fn part(x: u8) -> u32
+    ensures { λ r. ⌜ (r ≡ x) × (r < 256) ⌝ }
+{
+    x as u32
+}
+
+// Two bytes as one number.
+pub fn word(low: u8, high: u8) -> u16
+    ensures { λ r. ⌜ r ≡ low + 256 * high ⌝ }
+{
+    (low as u16) + 256 * (high as u16)
+}
+
+// The four bytes from byte k on as one number, the lowest first: a colour, the four bytes of a tile's line, an answer word.
+pub fn four_at(bytes: &[u8], k: usize) -> u32
+    requires { ⌜ k + 4 ≤ length (now bytes) ⌝ }
+    ensures { λ r. ⌜ r ≡ fourAt (now (bytes .entry)) k ⌝ }
+{
+    let b0 = part(bytes[k]);
+    let b1 = part(bytes[k + 1]);
+    let b2 = part(bytes[k + 2]);
+    let b3 = part(bytes[k + 3]);
+    b0 + 256 * b1 + 65536 * b2 + 16777216 * b3
 }
 
 // The smaller of two numbers.

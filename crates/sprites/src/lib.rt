@@ -75,9 +75,10 @@ fn top_of(y: u8) -> usize
 }
 
 // The lines of a sprite.
-fn height(tall: bool) -> usize
+pub fn height(tall: bool) -> usize
     ensures { λ r. ⌜ r ≡ cond tall 16 8 ⌝ }
     ensures { λ r. ⌜ r ≤ 16 ⌝ }
+    ensures { λ r. ⌜ 0 < r ⌝ }
 {
     if tall { 16 } else { 8 }
 }

@@ -86,25 +86,6 @@ fn pixel_set_if(shown: bool, row: &mut [u8], x: usize, c: u32)
     }
 }
 
-// The four bytes from byte k on as one number, the lowest first: the colour of a pixel, or the four bytes of a tile's line.
-fn four_at(bytes: &[u8], k: usize) -> u32
-    requires { ⌜ k + 4 ≤ length (now bytes) ⌝ }
-    ensures { λ r. ⌜ r ≡ ofBytes (at (now (bytes .entry)) k) (at (now (bytes .entry)) (k + 1)) (at (now (bytes .entry)) (k + 2)) (at (now (bytes .entry)) (k + 3)) ⌝ }
-{
-    let b0 = part(bytes[k]);
-    let b1 = part(bytes[k + 1]);
-    let b2 = part(bytes[k + 2]);
-    let b3 = part(bytes[k + 3]);
-    b0 + 256 * b1 + 65536 * b2 + 16777216 * b3
-}
-
-// A byte as a part of such a number.
-fn part(x: u8) -> u32
-    ensures { λ r. ⌜ (r ≡ x) × (r < 256) ⌝ }
-{
-    x as u32
-}
-
 // The first colour where `on`, else the second.
 fn chosen(on: bool, a: u32, b: u32) -> u32
     ensures { λ r. ⌜ r ≡ cond on a b ⌝ }
@@ -266,7 +247,7 @@ pub fn character_line(
     ensures { λ r. ⌜ now (row .exit) ≡ painted (now (row .entry)) x n (lineColour (now (colours .entry)) palette (now (vram .entry)) addr flip start) ⌝ }
     ensures { λ r. ⌜ r ≡ number n (lineSolid (now (vram .entry)) addr flip start) ⌝ }
 {
-    let p = four_at(vram, addr);
+    let p = small::four_at(vram, addr);
     let codes = codes_of(flip, p);
     let bits = faced(flip, solid_of(p));
     paint_by(row, colours, palette, x, codes >> (8 * (start % 8)), n);
@@ -287,7 +268,7 @@ pub fn character_whole(
     ensures { λ r. ⌜ now (row .exit) ≡ painted (now (row .entry)) x 8 (lineColour (now (colours .entry)) palette (now (vram .entry)) addr flip 0) ⌝ }
     ensures { λ r. ⌜ r ≡ number 8 (lineSolid (now (vram .entry)) addr flip 0) ⌝ }
 {
-    let p = four_at(vram, addr);
+    let p = small::four_at(vram, addr);
     paint_whole_by(row, colours, palette, x, codes_of(flip, p));
     faced(flip, solid_of(p))
 }
@@ -340,7 +321,7 @@ pub fn sprite_columns(
         return column::fates(0, held, taken, 0);
     }
     let n = end - start;
-    let p = four_at(vram, addr);
+    let p = small::four_at(vram, addr);
     let all = cut(reversed(solid_of(p)), start, n);
     let columns = column::fates(all, held, taken, in_row(width, x));
     overlay_some(
@@ -360,14 +341,14 @@ fn overlay(row: &mut [u8], colours: &[u32], x: usize, codes: u64, drawn: u8)
     requires { ⌜ (x < 65536) × ((x + 8) * 4 ≤ length (now row)) × ((k : ℕ) → k < 8 → lane codes k < length (now colours)) ⌝ }
     ensures { λ r. ⌜ now (row .exit) ≡ overlaid (now (row .entry)) x 8 (bit drawn) (λ k. at (now (colours .entry)) (lane codes k)) ⌝ }
 {
-    let o0 = four_at(row, x * 4);
-    let o1 = four_at(row, x * 4 + 4);
-    let o2 = four_at(row, x * 4 + 8);
-    let o3 = four_at(row, x * 4 + 12);
-    let o4 = four_at(row, x * 4 + 16);
-    let o5 = four_at(row, x * 4 + 20);
-    let o6 = four_at(row, x * 4 + 24);
-    let o7 = four_at(row, x * 4 + 28);
+    let o0 = small::four_at(row, x * 4);
+    let o1 = small::four_at(row, x * 4 + 4);
+    let o2 = small::four_at(row, x * 4 + 8);
+    let o3 = small::four_at(row, x * 4 + 12);
+    let o4 = small::four_at(row, x * 4 + 16);
+    let o5 = small::four_at(row, x * 4 + 20);
+    let o6 = small::four_at(row, x * 4 + 24);
+    let o7 = small::four_at(row, x * 4 + 28);
     let c0 = lane_colour(colours, codes, 0);
     let c1 = lane_colour(colours, codes, 1);
     let c2 = lane_colour(colours, codes, 2);
@@ -418,7 +399,7 @@ fn sprite_whole(
     ensures { λ r. ⌜ now (row .exit) ≡ overlaid (now (row .entry)) x 8 (lineDrawn (now (vram .entry)) addr 0 8 held taken width x) (spriteColour (now (colours .entry)) (now (vram .entry)) addr 0) ⌝ }
     ensures { λ r. ⌜ (r .marks ≡ byteOf (lineMarked (now (vram .entry)) addr 0 8 held)) × (r .drawn ≡ byteOf (lineDrawn (now (vram .entry)) addr 0 8 held taken width x)) × (r .held ≡ byteOf (lineHeld (now (vram .entry)) addr 0 8 held)) ⌝ }
 {
-    let p = four_at(vram, addr);
+    let p = small::four_at(vram, addr);
     let columns = column::fates(reversed(solid_of(p)), held, taken, 255);
     overlay_by(row, colours, 16, x, codes_of(false, p), columns.drawn);
     columns

@@ -19,13 +19,6 @@ pub enum Record {
     End,
 }
 
-// Two bytes as one number, the first the higher.
-fn word(high: u8, low: u8) -> u16
-    ensures { λ r. ⌜ r ≡ 256 * high + low ⌝ }
-{
-    256 * (high as u16) + (low as u16)
-}
-
 // The record at this offset.
 pub fn record_at(s: &[u8], at: usize) -> Record
     ensures { λ r. ⌜ r ≡ recordAt (now (s .entry)) at ⌝ }
@@ -38,7 +31,7 @@ pub fn record_at(s: &[u8], at: usize) -> Record
         return Record::Bad;
     }
     let x = s[at + 2];
-    match word(s[at], s[at + 1]) {
+    match small::word(s[at + 1], s[at]) {
         0x5057 => {
             if left < 4 {
                 return Record::Bad;

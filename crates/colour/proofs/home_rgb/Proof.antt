@@ -7,14 +7,14 @@ use Rattle.colour.proofs.home_rgb.Tie as tie
 spread-two-requires : tie.Need-spread-two-requires
 spread-two-requires c κs = search needs
 
-wide-requires : tie.Need-wide-requires
-wide-requires c κs = search needs
+part-requires : tie.Need-part-requires
+part-requires c κs = search needs
 
 spread-two-requires-2 : tie.Need-spread-two-requires-2
 spread-two-requires-2 c κs = search needs
 
-wide-requires-2 : tie.Need-wide-requires-2
-wide-requires-2 c κs = search needs
+part-requires-2 : tie.Need-part-requires-2
+part-requires-2 c κs = search needs
 
 mul-result : tie.Need-mul-result
 mul-result c = search needs
@@ -25,8 +25,8 @@ add-result c = search needs
 spread-two-requires-3 : tie.Need-spread-two-requires-3
 spread-two-requires-3 c κs = search needs
 
-wide-requires-3 : tie.Need-wide-requires-3
-wide-requires-3 c κs = search needs
+part-requires-3 : tie.Need-part-requires-3
+part-requires-3 c κs = search needs
 
 mul-result-2 : tie.Need-mul-result-2
 mul-result-2 c = search needs
@@ -43,16 +43,16 @@ add-result-3 c = search needs
 returns : tie.Need-returns
 unfolding homeColour
 returns c =
-    let at-wide2 = c .before .before in
-    let at-spread-two2 = at-wide2 .before in
-    let at-wide = at-spread-two2 .before in
-    let at-spread-two = at-wide .before in
+    let at-part2 = c .before .before in
+    let at-spread-two2 = at-part2 .before in
+    let at-part = at-spread-two2 .before in
+    let at-spread-two = at-part .before in
     simp (
-      c .wide3 .ensures .0,
+      c .part3 .ensures .0,
       c .before .spread-two3 .ensures,
-      at-wide2 .wide2 .ensures .0,
+      at-part2 .part2 .ensures .0,
       at-spread-two2 .spread-two2 .ensures,
-      at-wide .wide .ensures .0,
+      at-part .part .ensures .0,
       at-spread-two .spread-two .ensures,
     )
 
@@ -61,13 +61,13 @@ home-rgb-spec =
     tie.close
     (tie.spec
     spread-two-requires
-    wide-requires
+    part-requires
     spread-two-requires-2
-    wide-requires-2
+    part-requires-2
     mul-result
     add-result
     spread-two-requires-3
-    wide-requires-3
+    part-requires-3
     mul-result-2
     add-result-2
     mul-result-3

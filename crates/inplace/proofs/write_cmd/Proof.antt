@@ -40,21 +40,15 @@ returns c =
 store-command-requires-2 : tie.Need-store-command-requires-2
 store-command-requires-2 c κs = search needs
 
-cast-addr : tie.Need-cast-addr
-cast-addr c = search needs
-
-mul-addr : tie.Need-mul-addr
-mul-addr c = search needs
-
-add-addr : tie.Need-add-addr
-add-addr c = search needs
+word-requires : tie.Need-word-requires
+word-requires c κs = search needs
 
 cast-at : tie.Need-cast-at
 cast-at c = search needs
 
 store-choice-requires : tie.Need-store-choice-requires
 store-choice-requires c κs =
-    let at-store-command2 = c .before .before .before .before in
+    let at-store-command2 = c .before .before .before .before .before in
     let at-start = at-store-command2 .before .before .before .before .before .before .before .before .before in
     still-formed (at-start .args .block .now) (emptied (frontIn (at-start .args .block .now)))
     (eleven (at-start .args .block .now) ((at-start .pre .0) .long)) (at-store-command2 .store-command2 .ensures) (at-start .pre .0)
@@ -65,7 +59,7 @@ shared-slice-read-store-buffer c = search needs
 store-buffer-requires : tie.Need-store-buffer-requires
 store-buffer-requires c κs =
     let at-store-choice = c .before .before .before .before in
-    let at-store-command2 = at-store-choice .before .before .before .before .before in
+    let at-store-command2 = at-store-choice .before .before .before .before .before .before in
     let at-start = at-store-command2 .before .before .before .before .before .before .before .before .before in (
       still-formed (at-start .args .block .now) _ (eleven (at-start .args .block .now) ((at-start .pre .0) .long))
           (next-choice (at-start .args .block .now) (emptied (frontIn (at-start .args .block .now)))
@@ -79,7 +73,7 @@ answered-requires-2 c κs = search needs
 
 store-choice-requires-2 : tie.Need-store-choice-requires-2
 store-choice-requires-2 c κs =
-    let at-store-command2 = c .before .before .before .before in
+    let at-store-command2 = c .before .before .before .before .before in
     let at-start = at-store-command2 .before .before .before .before .before .before .before .before .before in
     still-formed (at-start .args .block .now) (emptied (frontIn (at-start .args .block .now)))
     (eleven (at-start .args .block .now) ((at-start .pre .0) .long)) (at-store-command2 .store-command2 .ensures) (at-start .pre .0)
@@ -99,7 +93,8 @@ same-length-2 c = search needs
 returns-2 : tie.Need-returns-2
 returns-2 c =
     let at-match2 = c .before .before in
-    let at-store-command2 = at-match2 .before .before .before in
+    let at-word = at-match2 .before in
+    let at-store-command2 = at-word .before .before .before in
     let at-latch = at-store-command2 .before .before .before in
     let at-command-in = at-latch .before .before in
     sent-by (simp (
@@ -111,7 +106,7 @@ returns-2 c =
 
 store-register-requires : tie.Need-store-register-requires
 store-register-requires c κs =
-    let at-store-command2 = c .before .before .before .before .before in
+    let at-store-command2 = c .before .before .before .before .before .before in
     let at-start = at-store-command2 .before .before .before .before .before .before .before .before .before in (
       still-formed (at-start .args .block .now) (emptied (frontIn (at-start .args .block .now)))
           (eleven (at-start .args .block .now) ((at-start .pre .0) .long)) (at-store-command2 .store-command2 .ensures) (at-start .pre .0),
@@ -126,7 +121,7 @@ palette-address-requires c κs = search needs
 
 store-choice-requires-3 : tie.Need-store-choice-requires-3
 store-choice-requires-3 c κs =
-    let at-store-command2 = c .before .before .before .before .before in
+    let at-store-command2 = c .before .before .before .before .before .before in
     let at-start = at-store-command2 .before .before .before .before .before .before .before .before .before in
     still-formed (at-start .args .block .now) (emptied (frontIn (at-start .args .block .now)))
     (eleven (at-start .args .block .now) ((at-start .pre .0) .long)) (at-store-command2 .store-command2 .ensures) (at-start .pre .0)
@@ -142,11 +137,13 @@ returns-3 c =
     let at-store-buffer = c .before .before .before in
     let at-store-choice = at-store-buffer .before .before .before .before .before in
     let at-match2 = at-store-choice .before .before in
-    let at-store-command2 = at-match2 .before .before .before in
+    let at-word = at-match2 .before in
+    let at-store-command2 = at-word .before .before .before in
     let at-latch = at-store-command2 .before .before .before in
     let at-command-in = at-latch .before .before in
     let at-start = at-command-in .before .before .before .before in
-    sent-by (simp (sym (at-command-in .command-in .ensures) ∙ at-latch .latch .given .1, at-match2 .match2 .keys1)) (c .answered2 .ensures)
+    sent-by (simp (sym (at-command-in .command-in .ensures) ∙ at-latch .latch .given .1, at-match2 .match2 .keys1, at-word .word .ensures))
+    (c .answered2 .ensures)
     (next-buffer (at-start .args .block .now) _ (eleven (at-start .args .block .now) ((at-start .pre .0) .long))
     (next-choice (at-start .args .block .now) (emptied (frontIn (at-start .args .block .now)))
     (eleven (at-start .args .block .now) ((at-start .pre .0) .long)) (at-store-command2 .store-command2 .ensures) Vram _
@@ -159,11 +156,13 @@ returns-4 : tie.Need-returns-4
 returns-4 c =
     let at-store-choice2 = c .before .before .before in
     let at-match2 = at-store-choice2 .before .before in
-    let at-store-command2 = at-match2 .before .before .before in
+    let at-word = at-match2 .before in
+    let at-store-command2 = at-word .before .before .before in
     let at-latch = at-store-command2 .before .before .before in
     let at-command-in = at-latch .before .before in
     let at-start = at-command-in .before .before .before .before in
-    sent-by (simp (sym (at-command-in .command-in .ensures) ∙ at-latch .latch .given .1, at-match2 .match2 .keys2)) (c .answered3 .ensures)
+    sent-by (simp (sym (at-command-in .command-in .ensures) ∙ at-latch .latch .given .1, at-match2 .match2 .keys2, at-word .word .ensures))
+    (c .answered3 .ensures)
     (next-choice (at-start .args .block .now) (emptied (frontIn (at-start .args .block .now)))
     (eleven (at-start .args .block .now) ((at-start .pre .0) .long)) (at-store-command2 .store-command2 .ensures) Vram _
     (at-store-choice2 .store-choice2 .ensures))
@@ -176,7 +175,8 @@ returns-5 c =
     let at-store-register = c .before .before .before in
     let at-if1 = at-store-register .before .before in
     let at-match2 = at-if1 .before in
-    let at-store-command2 = at-match2 .before .before .before in
+    let at-word = at-match2 .before in
+    let at-store-command2 = at-word .before .before .before in
     let at-latch = at-store-command2 .before .before .before in
     let at-command-in = at-latch .before .before in
     let at-start = at-command-in .before .before .before .before in
@@ -193,7 +193,8 @@ returns-6 c =
     let at-store-choice3 = c .before .before .before in
     let at-palette-address = at-store-choice3 .before in
     let at-match2 = at-palette-address .before .before in
-    let at-store-command2 = at-match2 .before .before .before in
+    let at-word = at-match2 .before in
+    let at-store-command2 = at-word .before .before .before in
     let at-latch = at-store-command2 .before .before .before in
     let at-command-in = at-latch .before .before in
     let at-start = at-command-in .before .before .before .before in
@@ -220,9 +221,7 @@ write-cmd-spec =
     same-length
     returns
     store-command-requires-2
-    cast-addr
-    mul-addr
-    add-addr
+    word-requires
     cast-at
     store-choice-requires
     shared-slice-read-store-buffer

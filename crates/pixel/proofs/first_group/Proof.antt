@@ -31,6 +31,9 @@ is-set-requires c κs = search needs
 height-requires : tie.Need-height-requires Inv-loop μ-loop
 height-requires c κs = search needs
 
+cast-lines : tie.Need-cast-lines Inv-loop μ-loop
+cast-lines c = omega (arith, c .height .ensures .1 .0)
+
 cast-l : tie.Need-cast-l Inv-loop μ-loop
 cast-l c = search needs
 
@@ -45,7 +48,7 @@ none-of-requires c κs =
     let at-height = c .before .before in
     let at-table-at = at-height .before .before in
     let at-start = at-table-at .before .before in
-    (omega (arith, at-start .pre .0, at-table-at .table-at .ensures .1, c .loop-test .taken, c .before .loop .inv .1), at-height .height .ensures .1)
+    (omega (arith, at-start .pre .0, at-table-at .table-at .ensures .1, c .loop-test .taken, c .before .loop .inv .1), at-height .height .ensures .1 .1)
 
 returns : tie.Need-returns Inv-loop μ-loop
 returns c =
@@ -106,6 +109,7 @@ first-group-spec =
     array-read-is-set
     is-set-requires
     height-requires
+    cast-lines
     cast-l
     loop-holds
     add-none-of

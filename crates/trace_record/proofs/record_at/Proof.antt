@@ -1,7 +1,8 @@
 -- `trace_record::record_at` meets its contract: the record at this offset.
 use borrow.Author.Needs.{needs}
 use borrow.Author.Tests.{lt-ltb, le-ltb, le-leb, lt-leb, ne-eqb}
-use mathlib.Core.Path.{sym}
+use mathlib.Core.Path.{sym, _∙_}
+use native.Mathlib.Nat.{add-comm}
 use Rattle.trace_record.specs.Record.{recordAt, marked}
 use Rattle.trace_record.proofs.record_at.Statement.{statement}
 use Rattle.trace_record.proofs.record_at.Tie as tie
@@ -23,11 +24,11 @@ add-x c = search needs
 shared-slice-read-x : tie.Need-shared-slice-read-x
 shared-slice-read-x c = search needs
 
-shared-slice-read-word : tie.Need-shared-slice-read-word
-shared-slice-read-word c = search needs
-
 add-word : tie.Need-add-word
 add-word c = search needs
+
+shared-slice-read-word : tie.Need-shared-slice-read-word
+shared-slice-read-word c = search needs
 
 shared-slice-read-word-2 : tie.Need-shared-slice-read-word-2
 shared-slice-read-word-2 c = search needs
@@ -44,7 +45,7 @@ returns-3 c =
     simp (
       lt-leb _ _ (at-if1 .if1 .left),
       le-ltb _ _ (at-if2 .if2 .left),
-      sym (at-word .word .ensures),
+      sym (at-word .word .ensures ∙ add-comm _ _),
       c .before .match .keys1,
       lt-ltb _ _
           (c .if3 .taken),
@@ -65,7 +66,7 @@ returns-4 c =
     simp (
       lt-leb _ _ (at-if1 .if1 .left),
       le-ltb _ _ (at-if2 .if2 .left),
-      sym (at-word .word .ensures),
+      sym (at-word .word .ensures ∙ add-comm _ _),
       c .before .match .keys3,
       lt-ltb _ _
           (c .if4 .taken),
@@ -84,7 +85,7 @@ returns-5 c =
     simp (
       lt-leb _ _ (at-if1 .if1 .left),
       le-ltb _ _ (at-if2 .if2 .left),
-      sym (at-word .word .ensures),
+      sym (at-word .word .ensures ∙ add-comm _ _),
       at-match .match .keys1,
       le-ltb _ _
           (c .before .if3 .left),
@@ -95,7 +96,7 @@ unfolding recordAt marked
 returns-6 c =
     let at-if2 = c .before .before .before .before .before in
     let at-if1 = at-if2 .before in
-    simp (lt-leb _ _ (at-if1 .if1 .left), le-ltb _ _ (at-if2 .if2 .left), sym (c .before .word .ensures), c .match .keys2)
+    simp (lt-leb _ _ (at-if1 .if1 .left), le-ltb _ _ (at-if2 .if2 .left), sym (c .before .word .ensures ∙ add-comm _ _), c .match .keys2)
 
 returns-7 : tie.Need-returns-7
 unfolding recordAt marked
@@ -107,7 +108,7 @@ returns-7 c =
     simp (
       lt-leb _ _ (at-if1 .if1 .left),
       le-ltb _ _ (at-if2 .if2 .left),
-      sym (at-word .word .ensures),
+      sym (at-word .word .ensures ∙ add-comm _ _),
       at-match .match .keys3,
       le-ltb _ _
           (c .before .if4 .left),
@@ -122,7 +123,7 @@ returns-8 c =
     simp (
       lt-leb _ _ (at-if1 .if1 .left),
       le-ltb _ _ (at-if2 .if2 .left),
-      sym (c .before .word .ensures),
+      sym (c .before .word .ensures ∙ add-comm _ _),
       ne-eqb _ _ (c .match .rest .0 .0 .1),
       ne-eqb _ _ (c .match .rest .0 .1),
       ne-eqb _ _ (c .match .rest .1),
@@ -137,8 +138,8 @@ record-at-spec =
     returns-2
     add-x
     shared-slice-read-x
-    shared-slice-read-word
     add-word
+    shared-slice-read-word
     shared-slice-read-word-2
     word-requires
     returns-3

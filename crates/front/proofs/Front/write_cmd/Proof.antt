@@ -19,14 +19,8 @@ returns c = simp (c .with-command .ensures, c .before .enum-told .given .1)
 with-command-requires-2 : tie.Need-with-command-requires-2
 with-command-requires-2 c κs = search needs
 
-cast-addr : tie.Need-cast-addr
-cast-addr c = search needs
-
-mul-addr : tie.Need-mul-addr
-mul-addr c = search needs
-
-add-addr : tie.Need-add-addr
-add-addr c = search needs
+word-requires : tie.Need-word-requires
+word-requires c κs = search needs
 
 cast-at : tie.Need-cast-at
 cast-at c = search needs
@@ -48,7 +42,8 @@ cast-reg c = search needs
 
 returns-2 : tie.Need-returns-2
 returns-2 c =
-    let at-with-command2 = c .before .before in
+    let at-word = c .before .before in
+    let at-with-command2 = at-word .before in
     let at-cmd-byte1 = at-with-command2 .before .before in
     simp (at-with-command2 .with-command2 .ensures, at-cmd-byte1 .cmd-byte1 .given .1, c .before .match2 .keys3, lt-ltb _ _ (c .if1 .taken))
 
@@ -67,25 +62,35 @@ choosing-requires-3 c κs = search needs
 returns-3 : tie.Need-returns-3
 returns-3 c =
     let at-match2 = c .before .before in
-    let at-with-command2 = at-match2 .before in
+    let at-word = at-match2 .before in
+    let at-with-command2 = at-word .before in
     let at-cmd-byte1 = at-with-command2 .before .before in
-    simp (c .before .choosing .ensures, at-with-command2 .with-command2 .ensures, at-cmd-byte1 .cmd-byte1 .given .1, at-match2 .match2 .keys1)
+    simp (
+      c .before .choosing .ensures,
+      at-word .word .ensures,
+      at-with-command2 .with-command2 .ensures,
+      at-cmd-byte1 .cmd-byte1 .given .1,
+      at-match2 .match2 .keys1,
+    )
 
 returns-4 : tie.Need-returns-4
 returns-4 c =
-    let at-with-command2 = c .before .before in
+    let at-word = c .before .before in
+    let at-with-command2 = at-word .before in
     let at-cmd-byte1 = at-with-command2 .before .before in
-    simp (c .choosing2 .ensures, at-with-command2 .with-command2 .ensures, at-cmd-byte1 .cmd-byte1 .given .1, c .before .match2 .keys2)
+    simp (c .choosing2 .ensures, at-word .word .ensures, at-with-command2 .with-command2 .ensures, at-cmd-byte1 .cmd-byte1 .given .1, c .before .match2 .keys2)
 
 returns-5 : tie.Need-returns-5
 returns-5 c =
-    let at-with-command2 = c .before .before in
+    let at-word = c .before .before in
+    let at-with-command2 = at-word .before in
     let at-cmd-byte1 = at-with-command2 .before .before in
     simp (at-with-command2 .with-command2 .ensures, at-cmd-byte1 .cmd-byte1 .given .1, c .before .match2 .keys3, le-ltb _ _ (c .if1 .left))
 
 returns-6 : tie.Need-returns-6
 returns-6 c =
-    let at-with-command2 = c .before .before in
+    let at-word = c .before .before in
+    let at-with-command2 = at-word .before in
     let at-cmd-byte1 = at-with-command2 .before .before in
     let none = c .before .match2 .rest in
     simp (
@@ -107,9 +112,7 @@ write-cmd-spec =
     with-command-requires
     returns
     with-command-requires-2
-    cast-addr
-    mul-addr
-    add-addr
+    word-requires
     cast-at
     choosing-requires
     shared-slice-read-video
