@@ -129,7 +129,7 @@ pub fn report_of(reg: [u8; 11], line: u8) -> DisplayRefresh
     if line != SCREEN_END {
         return DisplayRefresh::NoDisplay;
     }
-    if reg[1] / 64 % 2 == 1 {
+    if small::is_set(reg[1], 6) {
         return DisplayRefresh::ScreenDone;
     }
     DisplayRefresh::ScreenDoneNoRefresh
@@ -140,7 +140,7 @@ pub fn interrupt_of(reg: [u8; 11], status: u8, raster: Raster) -> VdpInt
     ensures { λ r. ⌜ r ≡ interruptBy reg status raster ⌝ }
 {
     let line_interrupt = raster.line_interrupt_is_up(reg);
-    if ((reg[1] / 32 % 2 == 1) & (status / 128 % 2 == 1)) | line_interrupt {
+    if (small::is_set(reg[1], 5) & small::is_set(status, 7)) | line_interrupt {
         return VdpInt::InterruptGenerated;
     }
     VdpInt::NoInterrupt

@@ -107,7 +107,7 @@ impl Raster {
     pub fn line_interrupt_is_up(self, reg: [u8; 11]) -> bool
         ensures { λ r. ⌜ r ≡ lineInterrupt (at reg) self ⌝ }
     {
-        (reg[0] / 16 % 2 == 1) & (self.line_interrupt_counter == 0)
+        small::is_set(reg[0], 4) & (self.line_interrupt_counter == 0)
     }
 
     // R4.5: the count starts again below the picture and at 0, and else goes down by one.
