@@ -1,7 +1,8 @@
 // What a program does around its work: it takes its input from a file or from standard input, writes its output, and tells on standard error what failed.
 // No contract can say which bytes are read or written. Each function is safe and ends, and the count that `input` answers lies within the buffer.
+ghost use mathlib.Core.Path.{_≡_};
 ghost use Prim.Native.Nat.{_≤_};
-ghost use lib.ListN.{length};
+ghost use lib.ListN.{length, replicate};
 ghost use Rattle.io.specs.Counts.{Counts};
 use libc::STDERR_FILENO;
 use libc::STDIN_FILENO;
@@ -110,4 +111,29 @@ pub fn input(name: &[u8], help: &[u8], buf: &mut [u8]) -> Taken
     let got = read_from(fd, name, path, buf);
     libc::close(fd);
     got
+}
+
+// ---- buffers that several programs need. The contract of a room gives its length alone, that of a frame also that it is zeroed: so long an array then costs
+// its caller's check nothing.
+
+// Room for the text of any recording.
+pub fn text_room() -> [u8; 327_700]
+    ensures { λ r. ⌜ 327700 ≡ length r ⌝ }
+{
+    [0; 327_700]
+}
+
+// A visible frame, zeroed.
+pub fn visible_frame() -> [u8; 92_160]
+    ensures { λ r. ⌜ r ≡ replicate 92160 0 ⌝ }
+    ensures { λ r. ⌜ 92160 ≡ length r ⌝ }
+{
+    [0; 92_160]
+}
+
+// Room for its picture.
+pub fn picture_room() -> [u8; 69_135]
+    ensures { λ r. ⌜ 69135 ≡ length r ⌝ }
+{
+    [0; 69_135]
 }

@@ -1,30 +1,13 @@
 // Writes the picture that a recording draws on a fresh device, one of the chart's line table, as a binary PPM.
-ghost use mathlib.Core.Path.{_≡_};
-ghost use lib.ListN.{length, replicate};
 use trace_run::Device;
 use vdp::VdpState;
-
-// A visible frame, zeroed: the contract says so, and gives its length, which the caller's check then need not compute.
-fn blank() -> [u8; 92_160]
-    ensures { λ r. ⌜ r ≡ replicate 92160 0 ⌝ }
-    ensures { λ r. ⌜ 92160 ≡ length r ⌝ }
-{
-    [0; 92_160]
-}
-
-// Room for a picture.
-fn room() -> [u8; 69_135]
-    ensures { λ r. ⌜ 69135 ≡ length r ⌝ }
-{
-    [0; 69_135]
-}
 
 fn main() {
     let device = Device::handheld(VdpState::new());
     let mut vram = [0u8; 16384];
     let mut row = [0u8; 1024];
-    let mut frame = blank();
-    let mut picture = room();
+    let mut frame = program::visible_frame();
+    let mut picture = program::picture_room();
     let mut input = io::large_buffer();
     let taken = program::input(
         b"snapshot",

@@ -1,21 +1,12 @@
 // Prints what a recording does, call by call, on a fresh device: one of the chart's line table.
-ghost use mathlib.Core.Path.{_≡_};
-ghost use lib.ListN.{length};
 use trace_run::Device;
 use vdp::VdpState;
-
-// Room for the text of any recording. The contract gives only the length: so long an array then costs its caller's check nothing.
-fn room() -> [u8; 327_700]
-    ensures { λ r. ⌜ 327700 ≡ length r ⌝ }
-{
-    [0; 327_700]
-}
 
 fn main() {
     let device = Device::handheld(VdpState::new());
     let mut vram = [0u8; 16384];
     let mut row = [0u8; 1024];
-    let mut text = room();
+    let mut text = program::text_room();
     let mut input = io::large_buffer();
     let taken = program::input(
         b"trace",
