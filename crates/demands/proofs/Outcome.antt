@@ -69,15 +69,13 @@ use Rattle.vdp.proofs.VdpState.out
 use Rattle.vdp.proofs.VdpState.input
 use Rattle.points.proofs.interrupt_number
 use Rattle.points.proofs.report_number
-use Rattle.points.proofs.row_on
-use Rattle.points.proofs.ended as screen-ended
-use Rattle.points.proofs.report_of
-use Rattle.points.proofs.interrupt_of
-use Rattle.points.proofs.refused as points-refused
-use Rattle.points.proofs.column_count
 use Rattle.points.proofs.row_size
-use Rattle.points.proofs.lend
-use Rattle.points.proofs.Order.{lent-once}
+use Rattle.points.proofs.row_due
+use Rattle.points.proofs.frame_due
+use Rattle.points.proofs.layer_due
+use Rattle.points.proofs.finish
+use Rattle.points_run.proofs.row_points_due
+use Rattle.points_run.proofs.frame_points_due
 use Rattle.points_run.proofs.row_points
 use Rattle.points_run.proofs.frame_points
 use Rattle.points_run.proofs.layer_row_points
@@ -425,29 +423,33 @@ interrupt-number-once κs a q z z′ w w′ e f = (e .0 ∙ sym (f .0), refl)
 pub report-number-once : OneOutcome 0 report_number.Kinds.ps report_number.Kinds.r report_number.Reads.Asked report_number.Reads.Learnt
 report-number-once κs a q z z′ w w′ e f = (e .0 ∙ sym (f .0), refl)
 
-pub row-on-once : OneOutcome 0 row_on.Kinds.ps row_on.Kinds.r row_on.Reads.Asked row_on.Reads.Learnt
-row-on-once κs a q z z′ w w′ e f = (e ∙ sym f, refl)
-
-pub screen-ended-once : OneOutcome 0 screen-ended.Kinds.ps screen-ended.Kinds.r screen-ended.Reads.Asked screen-ended.Reads.Learnt
-screen-ended-once κs a q z z′ w w′ e f = (e ∙ sym f, refl)
-
-pub report-of-once : OneOutcome 0 report_of.Kinds.ps report_of.Kinds.r report_of.Reads.Asked report_of.Reads.Learnt
-report-of-once κs a q z z′ w w′ e f = (e ∙ sym f, refl)
-
-pub interrupt-of-once : OneOutcome 0 interrupt_of.Kinds.ps interrupt_of.Kinds.r interrupt_of.Reads.Asked interrupt_of.Reads.Learnt
-interrupt-of-once κs a q z z′ w w′ e f = (e ∙ sym f, refl)
-
-pub points-refused-once : OneOutcome 0 points-refused.Kinds.ps points-refused.Kinds.r points-refused.Reads.Asked points-refused.Reads.Learnt
-points-refused-once κs a q z z′ w w′ e f = (e ∙ sym f, refl)
-
-pub column-count-once : OneOutcome 0 column_count.Kinds.ps column_count.Kinds.r column_count.Reads.Asked column_count.Reads.Learnt
-column-count-once κs a q z z′ w w′ e f = (e ∙ sym f, refl)
-
 pub row-size-once : OneOutcome 0 row_size.Kinds.ps row_size.Kinds.r row_size.Reads.Asked row_size.Reads.Learnt
 row-size-once κs a q z z′ w w′ e f = (e ∙ sym f, refl)
 
-pub lend-once : OneOutcome 2 lend.Kinds.ps lend.Kinds.r lend.Reads.Asked lend.Reads.Learnt
-lend-once κs a q z z′ w w′ e f = (lent-once e f, refl)
+pub finish-once : OneOutcome 0 finish.Kinds.ps finish.Kinds.r finish.Reads.Asked finish.Reads.Learnt
+finish-once κs a q z z′ w w′ e f = (e ∙ sym f, refl)
+
+pub row-due-once : OneOutcome 1 row_due.Kinds.ps row_due.Kinds.r row_due.Reads.Asked row_due.Reads.Learnt
+row-due-once κs a q z z′ w w′ e f = (e ∙ sym f, refl)
+
+pub frame-due-once : OneOutcome 1 frame_due.Kinds.ps frame_due.Kinds.r frame_due.Reads.Asked frame_due.Reads.Learnt
+frame-due-once κs a q z z′ w w′ e f = (e ∙ sym f, refl)
+
+pub layer-due-once : OneOutcome 0 layer_due.Kinds.ps layer_due.Kinds.r layer_due.Reads.Asked layer_due.Reads.Learnt
+layer-due-once κs a q z z′ w w′ e f = (e .0 ∙ sym (f .0), refl)
+
+pub row-points-due-once : OneOutcome 4 row_points_due.Kinds.ps row_points_due.Kinds.r row_points_due.Reads.Asked row_points_due.Reads.Learnt
+row-points-due-once κs a q z z′ w w′ e f = (
+  e .0 ∙ sym (f .0),
+  λ i. (tt, (tt, (tt, (tt, (tt, ((e .1 .0 ∙ sym (f .1 .0)) i, ((e .1 .1 ∙ sym (f .1 .1)) i, w .1 .1 .1 .1 .1 .1 .1))))))),
+)
+
+pub frame-points-due-once : OneOutcome 4 frame_points_due.Kinds.ps frame_points_due.Kinds.r frame_points_due.Reads.Asked
+    frame_points_due.Reads.Learnt
+frame-points-due-once κs a q z z′ w w′ e f = (
+  e .0 ∙ sym (f .0),
+  λ i. (tt, (tt, (tt, (tt, (tt, ((e .1 .0 ∙ sym (f .1 .0)) i, ((e .1 .1 ∙ sym (f .1 .1)) i, w .1 .1 .1 .1 .1 .1 .1))))))),
+)
 
 pub row-points-once : OneOutcome 3 row_points.Kinds.ps row_points.Kinds.r row_points.Reads.Asked row_points.Reads.Learnt
 row-points-once κs a q z z′ w w′ e f =

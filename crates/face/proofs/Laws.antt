@@ -2,23 +2,26 @@
 -- Assumes nothing.
 use mathlib.Core.Path.{_≡_, refl, sym, ap, _∙_}
 use mathlib.Core.Bool.{true, false, _&&_}
+use mathlib.Core.Logic.{_≢_}
 use mathlib.Core.List.{List, []}
 use Prim.Native.Nat.{ℕ, _+_, _*_, _<_, _≤_}
 use borrow.Author.Tests.{le-leb, lt-leb}
 use lib.Dec.{leb}
 use lib.ListN.{length}
 use Rattle.laws.specs.Lists.{at}
+use Rattle.laws.proofs.Parts.{at-past}
+use Rattle.laws.proofs.Tests.{split}
 use Rattle.picture.specs.declared.Screen.{Screen}
 use Rattle.picture.specs.declared.RenderArea.{RenderArea}
 use Rattle.raster.specs.Raster.{lineTableFrom}
 use Rattle.vdp.specs.declared.VdpState.{VdpState}
 use Rattle.refusal.specs.declared.Refusal.{Refusal}
 use Rattle.refusal.specs.declared.Refusal.the-variants.{Accepted, BlockMalformed, UnknownArea}
-use Rattle.vdp.specs.Device.{made}
+use Rattle.vdp.specs.Device.{made, withCache}
 use Rattle.refusal.specs.Refusals.{refusalNumber, Line}
 use Rattle.vdp.specs.Ports.{portRead}
 use Rattle.inplace.specs.declared.Got.{Got}
-use Rattle.block.specs.Block.{fits, freshIn, wellFormed, stateOf, blockOf, Sized}
+use Rattle.block.specs.Block.{fits, freshIn, wellFormed, head, small, last, stateOf, blockOf, Sized}
 use Rattle.block.proofs.Whole.{long}
 use Rattle.block_ports.specs.InPlace.{OutInPlace, InputInPlace}
 use Rattle.block.proofs.RoundTrip.{block-back}
@@ -146,11 +149,11 @@ module _ (b m x : List ℕ) (n : ℕ) where
 
   -- a step, by what its points answer and leave, the block that they are stored in, and their word
   module _
-      {a : RenderArea} {screen : Screen} {points : Points} {k : Reading} {b′ x′ : List ℕ} {r : ℕ}
+      {a : RenderArea} {screen : Screen} {points : Points} {k : Reading} {colours b′ x′ : List ℕ} {r : ℕ}
       (bytes : (i : ℕ) → at b i < 256) (w : wellFormed b ≡ true) (h : n ≤ 2) (ea : a ≡ areaFrom n) (ez : screen ≡ screenOf a)
-      (g : k ≡ readingOf (stateOf b))
-      (es : (j : ℕ) (s : VdpState) → Sized s → points .raster .table ≡ s .raster .table → k .colours ≡ coloursNow s → b ≡ blockOf j s → b′ ≡ blockOf
-      j (joined s points .vdp))
+      (g : k ≡ readingOf (stateOf b)) (colour-of : (y : ℕ) → points .row ≡ Drawn y → colours ≡ coloursNow (stateOf b))
+      (es : (j : ℕ) (s : VdpState) → Sized s → points .raster .table ≡ s .raster .table → ((y : ℕ) → points .row ≡ Drawn y → colours ≡ coloursNow s)
+      → b ≡ blockOf j s → b′ ≡ blockOf j (joined s points .vdp))
       (er : r ≡ pointsWord points)
     where
       stored :
@@ -163,7 +166,7 @@ module _ (b m x : List ℕ) (n : ℕ) where
             word = er ∙ ap stepWord e;
             block =
                 es (length b) (stateOf b) (sized-state b (long b w)) (ap (λ (s : Stepped). s .vdp .raster .table) e ∙ step-table ls a m (stateOf b))
-                (ap (λ (q : Reading). q .colours) g) (sym (block-back b w bytes))
+                colour-of (sym (block-back b w bytes))
                 ∙ ap (λ (s : Stepped). blockOf (length b) (s .vdp)) e;
             lent = ey;
           })
@@ -206,3 +209,9 @@ cleaned-sized (Drawn y) s colours g = record { registers = g .registers; palette
 pub cleaned-table : (r : DrawnRow) (s : VdpState) (colours : List ℕ) → cleaned r s colours .raster .table ≡ s .raster .table
 cleaned-table NoRow s colours = refl
 cleaned-table (Drawn y) s colours = refl
+
+-- a block whose colours are clean has them already
+pub clean-kept : (n : ℕ) (s : VdpState) → Sized s → at (blockOf n s) 26 ≢ 1 → blockOf n s ≡ blockOf n (withCache s (coloursNow s))
+unfolding blockOf head small last
+clean-kept n s g h =
+    split (s .«cram_dirty») (λ t. absurd (h (at-past (s .reg) _ 11 12 (g .registers) ∙ rw t))) (λ t. rw t)

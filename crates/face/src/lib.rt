@@ -7,6 +7,7 @@ ghost use Rattle.refusal.specs.Refusals.{refusalNumber};
 ghost use lib.ListN.{length};
 ghost use Rattle.laws.specs.Lists.{at};
 ghost use Rattle.vdp.specs.declared.VdpState.{VdpState};
+ghost use Rattle.points.specs.declared.DrawnRow.the-variants.{Drawn};
 ghost use Rattle.block.specs.Block.{oldSize, stateOf, blockOf, Sized};
 ghost use Rattle.step.specs.Step.{coloursNow, cleaned, joined};
 ghost use Rattle.face.specs.Tiles.{writeTileCall, readTileCall};
@@ -74,32 +75,37 @@ pub extern "C" fn vdp_input(state: &mut [u8], vram: &[u8], port: u16) -> u32
     word::number(refusal) + 256 * (got.byte as u32)
 }
 
-// The colours that a step of the block's device draws with.
-fn colours_of(state: &[u8]) -> [u32; 32]
+// The colours that a step of the block's device draws a row with; where it draws none, none are made.
+fn colours_of(state: &[u8], row: DrawnRow) -> [u32; 32]
     requires { ⌜ oldSize ≤ length (now state) ⌝ }
-    ensures { λ r. ⌜ r ≡ coloursNow (stateOf (now (state .entry))) ⌝ }
+    ensures { λ r. ⌜ ((y : ℕ) → row ≡ Drawn y → r ≡ coloursNow (stateOf (now (state .entry)))) ⌝ }
 {
+    let DrawnRow::Drawn(_) = row else {
+        return [0u32; 32];
+    };
     if state[block::DIRTY] == 1 {
         return colour::palette_recompute(block::palette_in(state));
     }
     block::cache_in(state)
 }
 
-// The colours into the block, if a row was drawn with them.
+// The colours into the block, if a row was drawn with them and they are not there already.
 fn store_colours(state: &mut [u8], row: DrawnRow, colours: &[u32; 32])
     requires { ⌜ oldSize ≤ length (now state) ⌝ }
-    ensures { λ _. ⌜ ((k : ℕ) (s : VdpState) → Sized s → now (state .entry) ≡ blockOf k s → now (state .exit) ≡ blockOf k (cleaned row s (now (colours .entry)))) ⌝ }
+    ensures { λ _. ⌜ ((k : ℕ) (s : VdpState) → Sized s → ((y : ℕ) → row ≡ Drawn y → now (colours .entry) ≡ coloursNow s) → now (state .entry) ≡ blockOf k s → now (state .exit) ≡ blockOf k (cleaned row s (coloursNow s))) ⌝ }
 {
-    match row {
-        DrawnRow::NoRow => {}
-        DrawnRow::Drawn(_) => block::store_cache(state, colours),
+    let DrawnRow::Drawn(_) = row else {
+        return;
+    };
+    if state[block::DIRTY] == 1 {
+        block::store_cache(state, colours);
     }
 }
 
 // What the points of a step leave of the device, into its block.
 fn store(state: &mut [u8], points: Points, colours: &[u32; 32])
     requires { ⌜ oldSize ≤ length (now state) ⌝ }
-    ensures { λ _. ⌜ ((k : ℕ) (s : VdpState) → Sized s → points .raster .table ≡ s .raster .table → now (colours .entry) ≡ coloursNow s → now (state .entry) ≡ blockOf k s → now (state .exit) ≡ blockOf k (joined s points .vdp)) ⌝ }
+    ensures { λ _. ⌜ ((k : ℕ) (s : VdpState) → Sized s → points .raster .table ≡ s .raster .table → ((y : ℕ) → points .row ≡ Drawn y → now (colours .entry) ≡ coloursNow s) → now (state .entry) ≡ blockOf k s → now (state .exit) ≡ blockOf k (joined s points .vdp)) ⌝ }
 {
     let row = points.row;
     let raster = points.raster;
@@ -118,15 +124,22 @@ pub extern "C" fn vdp_step(state: &mut [u8], vram: &[u8], frame: &mut [u8], area
     if picture::LAST_AREA < area {
         return word::number(Refusal::UnknownArea);
     }
-    let colours = colours_of(state);
-    let points = points_run::frame_points(
-        block::registers(state),
-        block::raster_in(state),
+    let screen = picture::screen_of(picture::area_from(area));
+    let reg = block::registers(state);
+    let raster = block::raster_in(state);
+    let due = points::frame_due(reg, raster, vram, frame.len(), screen);
+    let mut none = [0u8; 0];
+    let drawn = due.row;
+    let colours = colours_of(state, drawn);
+    let points = points_run::frame_points_due(
+        due,
+        reg,
         state[inplace::STATUS],
         &colours,
         vram,
         frame,
-        picture::screen_of(picture::area_from(area)),
+        &mut none,
+        screen,
     );
     store(state, points, &colours);
     word::word_of(points)
@@ -143,15 +156,22 @@ pub extern "C" fn vdp_row_step(state: &mut [u8], vram: &[u8], row: &mut [u8], ar
     if picture::LAST_AREA < area {
         return word::number(Refusal::UnknownArea);
     }
-    let colours = colours_of(state);
-    let points = points_run::row_points(
-        block::registers(state),
-        block::raster_in(state),
+    let screen = picture::screen_of(picture::area_from(area));
+    let reg = block::registers(state);
+    let raster = block::raster_in(state);
+    let due = points::row_due(reg, raster, vram, row.len(), screen);
+    let mut none = [0u8; 0];
+    let drawn = due.row;
+    let colours = colours_of(state, drawn);
+    let points = points_run::row_points_due(
+        due,
+        reg,
         state[inplace::STATUS],
         &colours,
         vram,
         row,
-        picture::screen_of(picture::area_from(area)),
+        &mut none,
+        screen,
     );
     store(state, points, &colours);
     word::word_of(points)
@@ -174,16 +194,22 @@ pub extern "C" fn vdp_layer_step(
     if picture::LAST_AREA < area {
         return word::number(Refusal::UnknownArea);
     }
-    let colours = colours_of(state);
-    let points = points_run::layer_frame_points(
-        block::registers(state),
-        block::raster_in(state),
+    let screen = picture::screen_of(picture::area_from(area));
+    let reg = block::registers(state);
+    let raster = block::raster_in(state);
+    let plain = points::frame_due(reg, raster, vram, frame.len(), screen);
+    let due = points::layer_due(plain, raster, layers.len(), screen);
+    let drawn = due.row;
+    let colours = colours_of(state, drawn);
+    let points = points_run::frame_points_due(
+        due,
+        reg,
         state[inplace::STATUS],
         &colours,
         vram,
         frame,
         layers,
-        picture::screen_of(picture::area_from(area)),
+        screen,
     );
     store(state, points, &colours);
     word::word_of(points)
@@ -206,16 +232,22 @@ pub extern "C" fn vdp_layer_row_step(
     if picture::LAST_AREA < area {
         return word::number(Refusal::UnknownArea);
     }
-    let colours = colours_of(state);
-    let points = points_run::layer_row_points(
-        block::registers(state),
-        block::raster_in(state),
+    let screen = picture::screen_of(picture::area_from(area));
+    let reg = block::registers(state);
+    let raster = block::raster_in(state);
+    let plain = points::row_due(reg, raster, vram, row.len(), screen);
+    let due = points::layer_due(plain, raster, layers.len(), screen);
+    let drawn = due.row;
+    let colours = colours_of(state, drawn);
+    let points = points_run::row_points_due(
+        due,
+        reg,
         state[inplace::STATUS],
         &colours,
         vram,
         row,
         layers,
-        picture::screen_of(picture::area_from(area)),
+        screen,
     );
     store(state, points, &colours);
     word::word_of(points)

@@ -2,12 +2,15 @@
 -- Assumes nothing.
 use mathlib.Core.Path.{_≡_, refl, sym, ap, _∙_}
 use mathlib.Core.Bool.{true, false, _&&_}
+use mathlib.Core.Logic.{_≢_}
 use mathlib.Core.List.{List, []}
 use Prim.Native.Nat.{ℕ, _+_, _*_, _<_, _≤_}
 use borrow.Author.Tests.{le-leb, eq-eqb}
 use lib.Dec.{leb, eqb}
 use lib.ListN.{length}
 use Rattle.laws.specs.Lists.{at}
+use Rattle.laws.proofs.Parts.{at-past}
+use Rattle.laws.proofs.Tests.{split}
 use Rattle.picture.specs.declared.Screen.the-variants.{Home}
 use Rattle.picture.specs.Screen.{columns}
 use Rattle.raster.specs.Raster.{lineTableFrom}
@@ -20,19 +23,19 @@ use Rattle.points.specs.declared.DrawnRow.{DrawnRow}
 use Rattle.points.specs.declared.DrawnRow.the-variants.{NoRow, Drawn}
 use Rattle.points.specs.Points.{Reading, rowLines, frameLines, pointsWith}
 use Rattle.points.specs.Bytes.{rowFilled, frameFilled, RowPointsLeave, FramePointsLeave, LayerPointsLeave, RowLayerPointsLeave, FrameLayerPointsLeave}
-use Rattle.points.proofs.Steps.{under-also}
+use Rattle.points.proofs.Order.{under-also}
 use Rattle.dump.specs.Sheet.{SheetLeaves}
 use Rattle.word.specs.Word.{pointsWord}
 use Rattle.word.specs.Called.{Called, Leaves}
 use Rattle.word.proofs.Calls.{leaves, along, ten, on}
 use Rattle.home.specs.declared.HomeState.{HomeState}
 use Rattle.home.specs.declared.HomeStepped.{HomeStepped}
-use Rattle.home.specs.Home.{made}
+use Rattle.home.specs.Home.{made, withCache}
 use Rattle.home.specs.Ports.{portRead}
 use Rattle.home.specs.Step.{coloursNow, readingOf, cleaned, joined, refusedStep, stepped, stepWith, rowAfter, frameAfter}
 use Rattle.home.proofs.Laws.{step-either, stepped-table}
 use Rattle.home.proofs.Steps.{joined-with}
-use Rattle.home_block.specs.HomeBlock.{blockSize, blockOf, stateOf, wellFormed, Sized}
+use Rattle.home_block.specs.HomeBlock.{blockSize, head, small, blockOf, stateOf, wellFormed, Sized}
 use Rattle.home_block.specs.InPlace.{OutInPlace, InputInPlace}
 use Rattle.home_block.proofs.Whole.{said}
 use Rattle.home_block.proofs.Stores.{sized-state}
@@ -119,10 +122,10 @@ module _ (b m x : List ℕ) where
 
   -- by what its points answer and leave, the block that they are stored in, and their word
   module _
-      {points : Points} {k : Reading} {b′ x′ : List ℕ} {r : ℕ} (bytes : (i : ℕ) → at b i < 256) (w : wellFormed b ≡ true)
-      (g : k ≡ readingOf (stateOf b))
-      (es : (h : HomeState) → Sized h → points .raster .table ≡ h .raster .table → k .colours ≡ coloursNow h → b ≡ blockOf h
-      → b′ ≡ blockOf (joined h points .home))
+      {points : Points} {k : Reading} {colours b′ x′ : List ℕ} {r : ℕ} (bytes : (i : ℕ) → at b i < 256) (w : wellFormed b ≡ true)
+      (g : k ≡ readingOf (stateOf b)) (colour-of : (y : ℕ) → points .row ≡ Drawn y → colours ≡ coloursNow (stateOf b))
+      (es : (h : HomeState) → Sized h → points .raster .table ≡ h .raster .table → ((y : ℕ) → points .row ≡ Drawn y → colours ≡ coloursNow h)
+      → b ≡ blockOf h → b′ ≡ blockOf (joined h points .home))
       (er : r ≡ pointsWord points)
     where
       stored : (call : HomeState → Called) (ls : List Line) {y : List ℕ} → call (stateOf b) ≡ steppedTo (stepWith ls m (stateOf b)) y
@@ -136,7 +139,7 @@ module _ (b m x : List ℕ) where
             word = er ∙ ap stepWord q;
             block =
                 es h (sized-state b (said b w .long)) (ap (λ (s : HomeStepped). s .home .raster .table) q ∙ step-table ls m h)
-                (ap (λ (y : Reading). y .colours) g) (sym (block-back b w bytes))
+                colour-of (sym (block-back b w bytes))
                 ∙ ap (λ (s : HomeStepped). blockOf (s .home)) q;
             lent = ey;
           })
@@ -195,3 +198,9 @@ cleaned-sized (Drawn y) h colours g = record { registers = g .registers; palette
 pub cleaned-table : (r : DrawnRow) (h : HomeState) (colours : List ℕ) → cleaned r h colours .raster .table ≡ h .raster .table
 cleaned-table NoRow h colours = refl
 cleaned-table (Drawn y) h colours = refl
+
+-- a block whose colours are clean has them already
+pub clean-kept : (h : HomeState) → Sized h → at (blockOf h) 24 ≢ 1 → blockOf h ≡ blockOf (withCache h (coloursNow h))
+unfolding blockOf head small
+clean-kept h g n =
+    split (h .«cram_dirty») (λ t. absurd (n (at-past (h .front .reg) _ 11 10 (g .registers) ∙ rw t))) (λ t. rw t)

@@ -2,12 +2,13 @@
 ghost use mathlib.Core.List.{[]};
 ghost use mathlib.Core.Path.{_≡_};
 ghost use mathlib.Core.Bool.{cond};
-ghost use Prim.Native.Nat.{_<_};
+ghost use Prim.Native.Nat.{ℕ, _<_};
 ghost use lib.ListN.{length};
 ghost use Rattle.laws.specs.Lists.{at};
 ghost use Rattle.word.specs.Called.{Leaves};
 ghost use Rattle.home.specs.declared.HomeState.{HomeState};
 ghost use Rattle.home.specs.Step.{coloursNow, cleaned, joined};
+ghost use Rattle.points.specs.declared.DrawnRow.the-variants.{Drawn};
 ghost use Rattle.home_block.specs.HomeBlock.{blockSize, blockOf, stateOf, Sized};
 ghost use Rattle.home_face.specs.HomeFace.{newTableCall, newCall, outCall, inputCall, stepCall, rowStepCall, dumpCall};
 ghost use Rattle.home_face.specs.Pixel.{pixelCall};
@@ -60,32 +61,37 @@ pub fn input(state: &mut [u8], vram: &[u8], port: u16) -> u32
     word::number(refusal) + 256 * (got.byte as u32)
 }
 
-// The colours that a step of the block's device draws with.
-fn colours_of(state: &[u8]) -> [u32; 32]
+// The colours that a step of the block's device draws a row with; where it draws none, none are made.
+fn colours_of(state: &[u8], row: DrawnRow) -> [u32; 32]
     requires { ⌜ length (now state) ≡ blockSize ⌝ }
-    ensures { λ r. ⌜ r ≡ coloursNow (stateOf (now (state .entry))) ⌝ }
+    ensures { λ r. ⌜ ((y : ℕ) → row ≡ Drawn y → r ≡ coloursNow (stateOf (now (state .entry)))) ⌝ }
 {
+    let DrawnRow::Drawn(_) = row else {
+        return [0u32; 32];
+    };
     if state[home_block::DIRTY] == 1 {
         return colour::home_palette_recompute(home_block::palette_in(state));
     }
     home_block::cache_in(state)
 }
 
-// The colours into the block, if a row was drawn with them.
+// The colours into the block, if a row was drawn with them and they are not there already.
 fn store_colours(state: &mut [u8], row: DrawnRow, colours: &[u32; 32])
     requires { ⌜ length (now state) ≡ blockSize ⌝ }
-    ensures { λ _. ⌜ ((h : HomeState) → Sized h → now (state .entry) ≡ blockOf h → now (state .exit) ≡ blockOf (cleaned row h (now (colours .entry)))) ⌝ }
+    ensures { λ _. ⌜ ((h : HomeState) → Sized h → ((y : ℕ) → row ≡ Drawn y → now (colours .entry) ≡ coloursNow h) → now (state .entry) ≡ blockOf h → now (state .exit) ≡ blockOf (cleaned row h (coloursNow h))) ⌝ }
 {
-    match row {
-        DrawnRow::NoRow => {}
-        DrawnRow::Drawn(_) => home_block::store_cache(state, colours),
+    let DrawnRow::Drawn(_) = row else {
+        return;
+    };
+    if state[home_block::DIRTY] == 1 {
+        home_block::store_cache(state, colours);
     }
 }
 
 // What the points of a step leave of the device, into its block.
 fn store(state: &mut [u8], points: Points, colours: &[u32; 32])
     requires { ⌜ length (now state) ≡ blockSize ⌝ }
-    ensures { λ _. ⌜ ((h : HomeState) → Sized h → points .raster .table ≡ h .raster .table → now (colours .entry) ≡ coloursNow h → now (state .entry) ≡ blockOf h → now (state .exit) ≡ blockOf (joined h points .home)) ⌝ }
+    ensures { λ _. ⌜ ((h : HomeState) → Sized h → points .raster .table ≡ h .raster .table → ((y : ℕ) → points .row ≡ Drawn y → now (colours .entry) ≡ coloursNow h) → now (state .entry) ≡ blockOf h → now (state .exit) ≡ blockOf (joined h points .home)) ⌝ }
 {
     let row = points.row;
     let raster = points.raster;
@@ -100,14 +106,20 @@ pub fn step(state: &mut [u8], vram: &[u8], frame: &mut [u8]) -> u32
     if !home_block::well_formed(state) {
         return word::number(Refusal::BlockMalformed);
     }
-    let colours = colours_of(state);
-    let points = points_run::frame_points(
-        home_block::registers(state),
-        home_block::raster_in(state),
+    let reg = home_block::registers(state);
+    let raster = home_block::raster_in(state);
+    let due = points::frame_due(reg, raster, vram, frame.len(), Screen::Home);
+    let mut none = [0u8; 0];
+    let drawn = due.row;
+    let colours = colours_of(state, drawn);
+    let points = points_run::frame_points_due(
+        due,
+        reg,
         state[inplace::STATUS],
         &colours,
         vram,
         frame,
+        &mut none,
         Screen::Home,
     );
     store(state, points, &colours);
@@ -121,14 +133,20 @@ pub fn row_step(state: &mut [u8], vram: &[u8], row: &mut [u8]) -> u32
     if !home_block::well_formed(state) {
         return word::number(Refusal::BlockMalformed);
     }
-    let colours = colours_of(state);
-    let points = points_run::row_points(
-        home_block::registers(state),
-        home_block::raster_in(state),
+    let reg = home_block::registers(state);
+    let raster = home_block::raster_in(state);
+    let due = points::row_due(reg, raster, vram, row.len(), Screen::Home);
+    let mut none = [0u8; 0];
+    let drawn = due.row;
+    let colours = colours_of(state, drawn);
+    let points = points_run::row_points_due(
+        due,
+        reg,
         state[inplace::STATUS],
         &colours,
         vram,
         row,
+        &mut none,
         Screen::Home,
     );
     store(state, points, &colours);
@@ -142,10 +160,15 @@ pub fn layer_step(state: &mut [u8], vram: &[u8], frame: &mut [u8], layers: &mut 
     if !home_block::well_formed(state) {
         return word::number(Refusal::BlockMalformed);
     }
-    let colours = colours_of(state);
-    let points = points_run::layer_frame_points(
-        home_block::registers(state),
-        home_block::raster_in(state),
+    let reg = home_block::registers(state);
+    let raster = home_block::raster_in(state);
+    let plain = points::frame_due(reg, raster, vram, frame.len(), Screen::Home);
+    let due = points::layer_due(plain, raster, layers.len(), Screen::Home);
+    let drawn = due.row;
+    let colours = colours_of(state, drawn);
+    let points = points_run::frame_points_due(
+        due,
+        reg,
         state[inplace::STATUS],
         &colours,
         vram,
@@ -164,10 +187,15 @@ pub fn layer_row_step(state: &mut [u8], vram: &[u8], row: &mut [u8], layers: &mu
     if !home_block::well_formed(state) {
         return word::number(Refusal::BlockMalformed);
     }
-    let colours = colours_of(state);
-    let points = points_run::layer_row_points(
-        home_block::registers(state),
-        home_block::raster_in(state),
+    let reg = home_block::registers(state);
+    let raster = home_block::raster_in(state);
+    let plain = points::row_due(reg, raster, vram, row.len(), Screen::Home);
+    let due = points::layer_due(plain, raster, layers.len(), Screen::Home);
+    let drawn = due.row;
+    let colours = colours_of(state, drawn);
+    let points = points_run::row_points_due(
+        due,
+        reg,
         state[inplace::STATUS],
         &colours,
         vram,

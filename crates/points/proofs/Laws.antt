@@ -31,6 +31,9 @@ module _ (a : Screen) (vram : List ℕ) (size : ℕ) where
   pub row-fits : Passed (rowLines a vram size) → rowSize a ≤ size
   row-fits p = ltb-false size (rowSize a) (p .1 .0)
 
+  pub row-memory : Passed (rowLines a vram size) → length vram ≡ 16384
+  row-memory p = eqb-true (length vram) 16384 (not-false (whole vram) (p .0))
+
   pub row-refusing : Refusing (rowLines a vram size)
   row-refusing = (refuses VramLength (λ z. omega arith), (refuses PixelLength (λ z. omega arith), tt))
 

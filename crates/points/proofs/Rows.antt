@@ -13,7 +13,6 @@ use Rattle.picture.specs.Screen.{rows, firstLine, rowSize, frameSize}
 use Rattle.points.specs.declared.DrawnRow.{DrawnRow}
 use Rattle.points.specs.declared.DrawnRow.the-variants.{NoRow, Drawn}
 use Rattle.points.specs.Points.{rowOn, RowIn}
-use Rattle.points.specs.Bytes.{startOf}
 
 -- a row is drawn: its number is below the area's, and its line is known
 told : (a : Screen) (l y : ℕ) (t : Bool) → (leb (firstLine a) l && ltb l (firstLine a + rows a)) ≡ t → cond t (Drawn (l - firstLine a)) NoRow ≡ Drawn
@@ -61,13 +60,6 @@ row-end VisibleOnly y h = omega arith
 row-end EffectiveArea y h = omega arith
 row-end TrueEdges y h = omega arith
 row-end Home y h = omega arith
-
-pub part-end : (a : Screen) (r : DrawnRow) → RowIn a r → startOf a r + rowSize a ≤ frameSize a
-part-end VisibleOnly NoRow i = omega arith
-part-end EffectiveArea NoRow i = omega arith
-part-end TrueEdges NoRow i = omega arith
-part-end Home NoRow i = omega arith
-part-end a (Drawn y) i = row-end a y (i y refl)
 
 pub frame-small : (a : Screen) → frameSize a ≤ 229376
 frame-small VisibleOnly = omega arith

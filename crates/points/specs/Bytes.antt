@@ -2,7 +2,7 @@
 -- Assumes nothing.
 use mathlib.Core.Path.{_≡_}
 use mathlib.Core.List.{List, [], _∷_, _++_}
-use Prim.Native.Nat.{ℕ, _*_}
+use Prim.Native.Nat.{ℕ}
 use lib.Dec.{ltb}
 use lib.ListN.{length, drop}
 use Rattle.laws.specs.Lists.{withRow}
@@ -27,11 +27,6 @@ rowWith (Drawn y) s colours picture buffer = rowBytes colours (columns s) (pictu
 unfoldable pub frameWith : DrawnRow → Screen → List ℕ → (ℕ → Row) → List ℕ → List ℕ
 frameWith NoRow s colours picture frame = frame
 frameWith (Drawn y) s colours picture frame = withRow (rowSize s) y (rowBytes colours (columns s) (picture y)) frame
-
--- where the row's part of a frame starts; with no row, the first row's
-abbrev pub startOf : Screen → DrawnRow → ℕ
-startOf s NoRow = 0
-startOf s (Drawn y) = y * rowSize s
 
 -- R15.3: the layer buffer with the layers of the row
 unfoldable pub layersBy : DrawnRow → Screen → (ℕ → ℕ → ℕ) → List ℕ → List ℕ

@@ -1,5 +1,5 @@
 -- What the contracts of `points` cite.
 pub mod Points
 pub mod Bytes
-pub mod Lend
+pub mod Due
 pub mod View

@@ -1,15 +1,16 @@
-// The five points of a step, each by itself: the row of a line, the screen's end, the interrupt; the sizes of rows and frames and the refusals by them; how a frame is lent, row by row, and the view of a row.
+// The five points of a step but for the drawing of its row: what the coming step is to do, its row or its refusal; the screen's end, the interrupt, the line count; and the view of a frame's row.
 ghost use mathlib.Core.Path.{_≡_};
-ghost use mathlib.Core.Bool.{false, cond};
-ghost use Prim.Native.Nat.{_<_};
+ghost use mathlib.Core.Bool.{cond};
+ghost use mathlib.Core.List.{List};
+ghost use Prim.Native.Nat.{ℕ, _<_};
 ghost use lib.Dec.{ltb};
-ghost use lib.ListN.{length};
 ghost use Rattle.picture.specs.declared.Screen.the-variants.{VisibleOnly};
 ghost use Rattle.picture.specs.Screen.{columns, rows, rowSize, frameSize};
+ghost use Rattle.refusal.specs.Refusals.{Line};
 ghost use Rattle.points.specs.declared.DrawnRow.the-variants.{NoRow, Drawn};
-ghost use Rattle.points.specs.Points.{interruptNumber, reportNumber, rowOn, endedBy, reportBy, interruptBy, refusedPoints};
-ghost use Rattle.points.specs.Bytes.{startOf};
-ghost use Rattle.points.specs.Lend.{LentOut};
+ghost use Rattle.points.specs.Points.{interruptNumber, reportNumber, rowOn, endedBy, reportBy, interruptBy, rowLines, frameLines};
+ghost use Rattle.points.specs.Bytes.{alsoLayers};
+ghost use Rattle.points.specs.Due.{refusedDue, takenDue, layerDue, dueOf, pointsBy};
 ghost use Rattle.points.specs.View.{screenRow};
 use picture::Screen;
 use raster::Raster;
@@ -101,7 +102,7 @@ fn top_row(line: u8, rows: u8) -> DrawnRow
     DrawnRow::Drawn(line)
 }
 
-pub fn row_on(screen: Screen, line: u8) -> DrawnRow
+fn row_on(screen: Screen, line: u8) -> DrawnRow
     ensures { λ r. ⌜ r ≡ rowOn screen line ⌝ }
 {
     match screen {
@@ -113,7 +114,7 @@ pub fn row_on(screen: Screen, line: u8) -> DrawnRow
 }
 
 // R4.3: the screen ends at line C1.
-pub fn ended(status: u8, line: u8) -> u8
+fn ended(status: u8, line: u8) -> u8
     ensures { λ r. ⌜ r ≡ endedBy line status ⌝ }
 {
     if line == SCREEN_END {
@@ -123,7 +124,7 @@ pub fn ended(status: u8, line: u8) -> u8
     }
 }
 
-pub fn report_of(reg: [u8; 11], line: u8) -> DisplayRefresh
+fn report_of(reg: [u8; 11], line: u8) -> DisplayRefresh
     ensures { λ r. ⌜ r ≡ reportBy reg line ⌝ }
 {
     if line != SCREEN_END {
@@ -136,7 +137,7 @@ pub fn report_of(reg: [u8; 11], line: u8) -> DisplayRefresh
 }
 
 // R4.4: the end of the screen or the line count asks for an interrupt.
-pub fn interrupt_of(reg: [u8; 11], status: u8, raster: Raster) -> VdpInt
+fn interrupt_of(reg: [u8; 11], status: u8, raster: Raster) -> VdpInt
     ensures { λ r. ⌜ r ≡ interruptBy reg status raster ⌝ }
 {
     let line_interrupt = raster.line_interrupt_is_up(reg);
@@ -146,22 +147,8 @@ pub fn interrupt_of(reg: [u8; 11], status: u8, raster: Raster) -> VdpInt
     VdpInt::NoInterrupt
 }
 
-// R2.3: a refused step tells and changes nothing.
-pub fn refused(refusal: Refusal, status: u8, raster: Raster) -> Points
-    ensures { λ r. ⌜ r ≡ refusedPoints refusal status raster ⌝ }
-{
-    Points {
-        refusal: refusal,
-        interrupt: VdpInt::NoInterrupt,
-        report: DisplayRefresh::NoDisplay,
-        row: DrawnRow::NoRow,
-        status: status,
-        raster: raster,
-    }
-}
-
-// How many columns a row has and how many rows a frame, the bytes of a row and of a frame, and where a row's part of a frame starts (with no row, the first row's).
-pub fn column_count(screen: Screen) -> usize
+// How many columns a row has and how many rows a frame, and the bytes of a row and of a frame.
+fn column_count(screen: Screen) -> usize
     ensures { λ r. ⌜ r ≡ columns screen ⌝ }
 {
     match screen {
@@ -205,55 +192,111 @@ fn frame_size(screen: Screen) -> usize
     }
 }
 
-fn start_of(screen: Screen, row: DrawnRow) -> usize
-    ensures { λ r. ⌜ r ≡ startOf screen row ⌝ }
-{
-    match row {
-        DrawnRow::NoRow => 0,
-        DrawnRow::Drawn(y) => (y as usize) * row_size(screen),
-    }
-}
-
-// How a frame is lent to a step: not at all, by this refusal; or the row's part of it, and with no row to draw the first row's, which stays as it is.
-pub struct Lent {
+// What the coming step is to do on its buffers, known before any colour is asked for: whether it is taken, or by which refusal not; the row that it
+// draws, if it draws one; and the raster with its counter up, which a refused step leaves as it was.
+pub struct Due {
     pub good: bool,
     pub refusal: Refusal,
-    pub start: usize,
-    pub end: usize,
+    pub row: DrawnRow,
+    pub up: Raster,
 }
 
-fn not_lent(refusal: Refusal) -> Lent
-    ensures { λ r. ⌜ (r .good ≡ false) × (r .refusal ≡ refusal) × (r .start ≡ 0) × (r .end ≡ 0) ⌝ }
+fn refused(refusal: Refusal, raster: Raster) -> Due
+    ensures { λ r. ⌜ r ≡ refusedDue refusal raster ⌝ }
 {
-    Lent {
+    Due {
         good: false,
         refusal: refusal,
-        start: 0,
-        end: 0,
+        row: DrawnRow::NoRow,
+        up: raster,
     }
 }
 
-pub fn lend(reg: [u8; 11], raster: Raster, vram: &[u8], frame: &[u8], screen: Screen) -> Lent
-    ensures { λ r. ⌜ LentOut screen reg raster (now (vram .entry)) (length (now (frame .entry))) r ⌝ }
+fn taken(reg: [u8; 11], raster: Raster, screen: Screen) -> Due
+    ensures { λ r. ⌜ r ≡ takenDue screen reg raster ⌝ }
 {
-    if vram.len() != VRAM_SIZE {
-        return not_lent(Refusal::VramLength);
-    }
-    let need = frame_size(screen);
-    if frame.len() < need {
-        return not_lent(Refusal::PixelLength);
-    }
-    if need < frame.len() {
-        return not_lent(Refusal::FrameTooLong);
-    }
     let up = raster.advance(reg);
     let drawn = row_on(screen, up.v_counter);
-    let start = start_of(screen, drawn);
-    Lent {
+    Due {
         good: true,
         refusal: Refusal::Accepted,
-        start: start,
-        end: start + row_size(screen),
+        row: drawn,
+        up: up,
+    }
+}
+
+// On a row buffer of `size` bytes.
+pub fn row_due(reg: [u8; 11], raster: Raster, vram: &[u8], size: usize, screen: Screen) -> Due
+    ensures { λ r. ⌜ r ≡ dueOf (rowLines screen (now (vram .entry)) size) screen reg raster ⌝ }
+{
+    if vram.len() != VRAM_SIZE {
+        return refused(Refusal::VramLength, raster);
+    }
+    let need = row_size(screen);
+    if size < need {
+        return refused(Refusal::PixelLength, raster);
+    }
+    taken(reg, raster, screen)
+}
+
+// On a frame of `size` bytes.
+pub fn frame_due(reg: [u8; 11], raster: Raster, vram: &[u8], size: usize, screen: Screen) -> Due
+    ensures { λ r. ⌜ r ≡ dueOf (frameLines screen (now (vram .entry)) size) screen reg raster ⌝ }
+{
+    if vram.len() != VRAM_SIZE {
+        return refused(Refusal::VramLength, raster);
+    }
+    let need = frame_size(screen);
+    if size < need {
+        return refused(Refusal::PixelLength, raster);
+    }
+    if need < size {
+        return refused(Refusal::FrameTooLong, raster);
+    }
+    taken(reg, raster, screen)
+}
+
+// The same with a layer buffer of `size` bytes beside it.
+pub fn layer_due(due: Due, raster: Raster, size: usize, screen: Screen) -> Due
+    ensures { λ r. ⌜ r ≡ layerDue (columns screen) size raster due ⌝ }
+    ensures { λ r. ⌜ ((lines : List Line) (reg : List ℕ) → due ≡ dueOf lines screen reg raster → r ≡ dueOf (alsoLayers (columns screen) size lines) screen reg raster) ⌝ }
+{
+    if !due.good {
+        return due;
+    }
+    let least = column_count(screen);
+    if size < least {
+        return refused(Refusal::LayerLength, raster);
+    }
+    due
+}
+
+// R4.3 to R4.5, once the row is drawn, which set these status bits; a refused step tells and changes nothing (R2.3).
+pub fn finish(due: Due, reg: [u8; 11], status: u8, bits: u8) -> Points
+    ensures { λ r. ⌜ r ≡ pointsBy reg status bits due ⌝ }
+{
+    let up = due.up;
+    let row = due.row;
+    let refusal = due.refusal;
+    if !due.good {
+        return Points {
+            refusal: refusal,
+            interrupt: VdpInt::NoInterrupt,
+            report: DisplayRefresh::NoDisplay,
+            row: DrawnRow::NoRow,
+            status: status,
+            raster: up,
+        };
+    }
+    let line = up.v_counter;
+    let last = ended(status | bits, line);
+    Points {
+        refusal: Refusal::Accepted,
+        interrupt: interrupt_of(reg, last, up),
+        report: report_of(reg, line),
+        row: row,
+        status: last,
+        raster: up.line_interrupt_update(reg),
     }
 }
 

@@ -1,37 +1,30 @@
--- The five points of a step, on a row buffer and on a frame by the part that is lent.
+-- The five points of a step, from what it is to do: on a row buffer, and on a frame by the part that is lent.
 -- Assumes nothing.
 use mathlib.Core.Path.{_≡_, refl, sym, ap, _∙_}
-use mathlib.Core.Logic.{_≢_}
-use mathlib.Core.List.{List, [], _++_, append-nil}
+use mathlib.Core.List.{List, _++_, append-nil}
 use Prim.Native.Nat.{ℕ, _+_, _-_, _*_, _<_, _≤_}
 use native.Mathlib.Nat.{mul-comm}
 use native.Mathlib.Omega.{arith}
-use borrow.Rule.Slice.PartMut.{midOf, postOf, putMid, put-same, mid-len, post-is}
-use lib.Bits.{bitOr}
+use borrow.Rule.Slice.PartMut.{midOf, postOf, putMid, mid-len, post-is}
 use lib.ListN.{length, drop, drop-of-length-le}
-use Rattle.laws.specs.Lists.{at, withRow}
+use Rattle.laws.specs.Lists.{withRow}
 use Rattle.picture.specs.declared.Screen.{Screen}
 use Rattle.picture.specs.Picture.{Row}
-use Rattle.picture.specs.Screen.{columns, rowSize, frameSize, rowBytes, statusBits, pictureOf}
-use Rattle.picture.specs.Layers.{layersOf, layersIn}
+use Rattle.picture.specs.Screen.{columns, rows, rowSize, frameSize, rowBytes, statusBits}
+use Rattle.picture.specs.Layers.{layersIn}
 use Rattle.raster.specs.declared.Raster.{Raster}
-use Rattle.raster.specs.Raster.{advanced, counted}
-use Rattle.refusal.specs.declared.Refusal.{Refusal}
-use Rattle.refusal.specs.declared.Refusal.the-variants.{Accepted, VramLength, PixelLength, LayerLength}
-use Rattle.refusal.specs.Refusals.{refusalNumber, Line, first}
-use Rattle.refusal.proofs.Tables.{Passed, refuses, under-passed, under-refused}
-use Rattle.points.specs.declared.VdpInt.{VdpInt}
-use Rattle.points.specs.declared.DisplayRefresh.{DisplayRefresh}
+use Rattle.refusal.specs.Refusals.{Line, under}
+use Rattle.refusal.proofs.Tables.{Passed, under-either}
 use Rattle.points.specs.declared.DrawnRow.{DrawnRow}
 use Rattle.points.specs.declared.DrawnRow.the-variants.{NoRow, Drawn}
+use Rattle.points.specs.declared.Due.{Due}
 use Rattle.points.specs.declared.Points.{Points}
-use Rattle.points.specs.Points.{Reading, rowOn, RowIn, comingRow, comingPicture, bitsOf, endedBy, reportBy, interruptBy, pointsOf}
-use Rattle.points.specs.Points.{refusedPoints, atLeast, exactly, rowLines, frameLines, pointsWith}
-use Rattle.points.specs.Bytes.{rowWith, frameWith, startOf, layersBy, layersFilled, layersUnder, PointsLeave, RowPointsLeave}
-use Rattle.points.specs.Bytes.{FramePointsLeave, alsoLayers, LayerPointsLeave, RowLayerPointsLeave, FrameLayerPointsLeave}
-use Rattle.points.proofs.Rows.{row-in, part-end}
-use Rattle.points.proofs.Laws.{row-passes, frame-passes}
-use Rattle.points.proofs.Order.{first-8, first-size, short-row, long-row, exact-frame, not-last, layerLine, short-layers, under-also}
+use Rattle.points.specs.Points.{Reading, bitsOf, pointsOf, rowLines, frameLines, pointsWith}
+use Rattle.points.specs.Bytes.{rowWith, frameWith, layersBy, alsoLayers}
+use Rattle.points.specs.Due.{refusedDue, takenDue, dueOf, Fits, duePicture, dueLayers, pointsBy}
+use Rattle.points.proofs.Rows.{row-low, row-end}
+use Rattle.points.proofs.Laws.{row-fits, row-memory, frame-fits, frame-memory}
+use Rattle.points.proofs.Order.{due-map}
 
 -- ---- drawing: the row's bytes, the status bits that it sets, and its layers
 module _ (a : Screen) (colours : List ℕ) (picture : ℕ → Row) (layer : ℕ → ℕ → ℕ) (b layers : List ℕ) {row : DrawnRow} where
@@ -47,182 +40,104 @@ module _ (a : Screen) (colours : List ℕ) (picture : ℕ → Row) (layer : ℕ 
   unfolding bitsOf rowWith layersBy
   drawn-one y e eb es eo = (es ∙ rw e, (eb ∙ rw e, eo ∙ rw e))
 
--- ---- the points
-module _ (a : Screen) (vram : List ℕ) (k : Reading) where
-  -- the answer of refused ones
-  abbrev none : Refusal → Points
-  none r = refusedPoints r (k .status) (k .raster)
+  -- the same of a frame, of which the part from s to below t is lent
+  pub framed-none : row ≡ NoRow → (0 ≡ bitsOf row picture) × ((b ≡ frameWith row a colours picture b) × (layers ≡ layersBy row a layer layers))
+  unfolding bitsOf frameWith layersBy
+  framed-none e = (rw e, (rw e, rw e))
 
-  -- under any lines: refused ones leave pixels and layers; with room they may as well ask for their layers
-  module _ (ls : List Line) (b filled layers : List ℕ) where
-    abbrev Left : Points → List ℕ → List ℕ → Type 0
-    Left p b′ layers′ = PointsLeave ls a vram k b filled p b′ × (layers′ ≡ layersUnder ls a vram k layers)
+  pub framed-one :
+      (y : ℕ) {ys layers′ : List ℕ} {bits : ℕ} → row ≡ Drawn y → y < rows a → frameSize a ≤ length b
+      → ys ≡ rowBytes colours (columns a) (picture y) ++ drop (rowSize a) (midOf (y * rowSize a) (y * rowSize a + rowSize a - y * rowSize a) b)
+      → bits ≡ statusBits (picture y) → layers′ ≡ layersIn layers (columns a) (layer y)
+      → (bits ≡ bitsOf row picture)
+      × ((putMid (y * rowSize a) (y * rowSize a + rowSize a - y * rowSize a) b ys ≡ frameWith row a colours picture b)
+      × (layers′ ≡ layersBy row a layer layers))
+  unfolding bitsOf frameWith layersBy withRow
+  framed-one y {ys} e low long eb er eo =
+      let end = row-end a y low in
+      let s : ℕ = y * rowSize a in
+      let t : ℕ = y * rowSize a + rowSize a in
+      let n : length (midOf s (t - s) b) ≡ t - s = mid-len s t b (omega (arith, end)) in
+      let k : length (midOf s (t - s) b) ≤ rowSize a = omega arith in
+      let q : ys ≡ rowBytes colours (columns a) (picture y) = eb ∙ rw (drop-of-length-le (midOf s (t - s) b) k)
+      (append-nil (rowBytes colours (columns a) (picture y))) in
+      let z : postOf s (t - s) b ≡ drop t b = post-is s t b (omega arith) in
+      (er ∙ rw e, (rw (e, q, z, mul-comm (rowSize a) y), eo ∙ rw e))
 
-    stays : (r : Refusal) {p : Points} → first ls ≡ r → refusalNumber r ≢ 0 → p ≡ none r → Left p b layers
-    unfolding pointsWith
-    stays r e n q =
-        let no : first ls ≢ Accepted = λ z. refuses r n (sym e ∙ z) in (
-          record {
-            answer = q ∙ ap none (sym e) ∙ sym (under-refused ls none (pointsOf a vram k) no);
-            bytes = sym
-                (under-refused ls (λ x. b) filled no);
-          },
-          sym (under-refused ls (λ x. layers) (layersFilled a vram k layers) no),
-        )
+-- a row that is due can be drawn
+module _ (s : Screen) (reg : List ℕ) (raster : Raster) (vram : List ℕ) (size : ℕ) where
+  due-fits : (need : ℕ) (ls : List Line) → (Passed ls → (length vram ≡ 16384) × (need ≤ size)) → Fits s vram need size (dueOf ls s reg raster .row)
+  due-fits need ls f =
+      under-either (λ (d : Due). Fits s vram need size (d .row)) ls (λ r. refusedDue r raster) (takenDue s reg raster)
+      (λ r y e. absurd (let z : _≡_ {A = ℕ} 0 1 = cc in omega arith))
+      (λ p y e. (f p .0, (f p .1, row-low s _ y e)))
 
-    done : Passed ls → {p : Points} {b′ layers′ : List ℕ} → p ≡ pointsOf a vram k → b′ ≡ filled → layers′ ≡ layersFilled a vram k layers → Left p b′
-        layers′
-    unfolding pointsWith
-    done ok e eb eo = (
-      record { answer = e ∙ sym (under-passed ls none (pointsOf a vram k) ok); bytes = eb ∙ sym (under-passed ls (λ x. b) filled ok) },
-      eo ∙ sym (under-passed ls (λ x. layers) (layersFilled a vram k layers) ok),
-    )
+  row-both : Passed (rowLines s vram size) → (length vram ≡ 16384) × (rowSize s ≤ size)
+  row-both p = (row-memory s vram size p, row-fits s vram size p)
 
-    undone : Passed ls → {p : Points} {b′ layers′ : List ℕ} → Left p b′ layers′ → (p ≡ pointsOf a vram k) ×
-        ((b′ ≡ filled) × (layers′ ≡ layersFilled a vram k layers))
-    unfolding pointsWith
-    undone ok e = (
-      e .0 .answer ∙ under-passed ls none (pointsOf a vram k) ok,
-      (e .0 .bytes ∙ under-passed ls (λ x. b) filled ok, e .1 ∙ under-passed ls (λ x. layers) (layersFilled a vram k layers) ok),
-    )
+  frame-both : Passed (frameLines s vram size) → (length vram ≡ 16384) × (frameSize s ≤ size)
+  frame-both p = (frame-memory s vram size p, omega (arith, frame-fits s vram size p))
 
-    pub with-room : {p : Points} {b′ layers′ : List ℕ} → columns a ≤ length layers → Left p b′ layers′ → LayerPointsLeave ls a vram k b filled layers
-        p b′ layers′
-    unfolding pointsWith
-    with-room h e =
-        let w = columns a in
-        let n = length layers in
-        record {
-          points =
-              record {
-                answer = e .0 .answer ∙ sym (under-also w n ls none (pointsOf a vram k) h);
-                bytes = e .0 .bytes ∙ sym (under-also w n ls (λ x. b) filled h);
-              };
-          owners = e .1 ∙ sym (under-also w n ls (λ x. layers) (layersFilled a vram k layers) h);
-        }
+  module _ {d : Due} where
+    pub row-due-fits : d ≡ dueOf (rowLines s vram size) s reg raster → Fits s vram (rowSize s) size (d .row)
+    row-due-fits e = rw e (due-fits (rowSize s) (rowLines s vram size) row-both)
 
-  -- without room
-  layers-stay :
-      (ls : List Line) (b filled layers : List ℕ) (r : Refusal) {p : Points} → first (alsoLayers (columns a) (length layers) ls) ≡ r → refusalNumber
-      r ≢ 0 → p ≡ none r
-      → LayerPointsLeave ls a vram k b filled layers p b layers
-  layers-stay ls b filled layers r e n q =
-      let h = stays (alsoLayers (columns a) (length layers) ls) b filled layers r e n q in record { points = h .0; owners = h .1 }
+    pub frame-due-fits : d ≡ dueOf (frameLines s vram size) s reg raster → Fits s vram (frameSize s) size (d .row)
+    frame-due-fits e = rw e (due-fits (frameSize s) (frameLines s vram size) frame-both)
 
-  -- ---- a row buffer: refused by 8 and by 9, and the same with layers, and then by 16
-  module _ (b layers : List ℕ) where
-    abbrev RowLeft : Points → List ℕ → List ℕ → Type 0
-    RowLeft p b′ layers′ = RowPointsLeave a vram k b p b′ × (layers′ ≡ layersUnder (rowLines a vram (length b)) a vram k layers)
+    module _ (least n : ℕ) where
+      pub row-layers-fit : d ≡ dueOf (alsoLayers least n (rowLines s vram size)) s reg raster → Fits s vram (rowSize s) size (d .row)
+      row-layers-fit e = rw e
+          (due-fits (rowSize s) (alsoLayers least n (rowLines s vram size)) (λ p. row-both (p .0, (p .1 .0, tt))))
 
-    abbrev rowSizes : List Line
-    rowSizes = atLeast (rowSize a) (length b)
+      pub frame-layers-fit : d ≡ dueOf (alsoLayers least n (frameLines s vram size)) s reg raster → Fits s vram (frameSize s) size (d .row)
+      frame-layers-fit e = rw e
+          (due-fits (frameSize s) (alsoLayers least n (frameLines s vram size)) (λ p. frame-both (p .0, (p .1 .0, (p .1 .1 .0, tt)))))
 
-    abbrev room : List Line
-    room = layerLine (columns a) (length layers)
+-- ---- the points of what is due, under any lines
+module _ (ls : List Line) (s : Screen) (vram : List ℕ) (k : Reading) {d : Due} (ed : d ≡ dueOf ls s (k .reg) (k .raster)) where
+  -- the row of the answer is the one that was due
+  pub due-row : {p : Points} → p ≡ pointsBy (k .reg) (k .status) (bitsOf (d .row) (duePicture s vram (k .reg) d)) d → p .row ≡ d .row
+  unfolding pointsBy
+  due-row e = ap (λ (p : Points). p .row) e ∙ rw ed
+      (due-map s (k .reg) (k .raster) (λ (x : Due). pointsBy (k .reg) (k .status) (bitsOf (x .row) (duePicture s vram (k .reg) x)) x .row) ls
+      ∙ sym (due-map s (k .reg) (k .raster) (λ (x : Due). x .row) ls))
 
-    pub row-refuses-8 : {p : Points} → length vram ≢ 16384 → p ≡ none VramLength → RowLeft p b layers
-    row-refuses-8 h e = stays (rowLines a vram (length b)) b _ layers VramLength (first-8 vram rowSizes h) (λ z. omega arith) e
+  pub answered : {p : Points} → p ≡ pointsBy (k .reg) (k .status) (bitsOf (d .row) (duePicture s vram (k .reg) d)) d → p ≡ pointsWith ls s vram k
+  unfolding pointsBy pointsOf pointsWith bitsOf
+  answered e = e ∙ rw ed
+      (due-map s (k .reg) (k .raster) (λ (x : Due). pointsBy (k .reg) (k .status) (bitsOf (x .row) (duePicture s vram (k .reg) x)) x) ls)
 
-    pub layers-refuse-8 : {p : Points} → length vram ≢ 16384 → p ≡ none VramLength → RowLayerPointsLeave a vram k b layers p b layers
-    layers-refuse-8 h e = layers-stay (rowLines a vram (length b)) b _ layers VramLength (first-8 vram (rowSizes ++ room) h) (λ z. omega arith) e
+  pub owned : (layers : List ℕ) {layers′ : List ℕ} → layers′ ≡ layersBy (d .row) s (dueLayers s vram (k .reg) d) layers
+      → layers′ ≡ under ls (λ r. layers) (layersBy (takenDue s (k .reg) (k .raster) .row) s
+      (dueLayers s vram (k .reg) (takenDue s (k .reg) (k .raster))) layers)
+  unfolding layersBy
+  owned layers e = e ∙ rw ed (due-map s (k .reg) (k .raster) (λ (x : Due). layersBy (x .row) s (dueLayers s vram (k .reg) x) layers) ls)
 
-    module _ {w : ℕ} (mem : length vram ≡ 16384) (ew : w ≡ rowSize a) where
-      pub row-refuses-9 : {p : Points} → length b < w → p ≡ none PixelLength → RowLeft p b layers
-      row-refuses-9 h e =
-          stays (rowLines a vram (length b)) b _ layers PixelLength
-          (first-size vram rowSizes mem ∙ short-row (rowSize a) (length b) [] (omega arith)) (λ z. omega arith) e
+  -- the colours that it is handed are those of the machine, if a row is drawn; where none is, nothing depends on them
+  module _ {colours : List ℕ} (ec : (y : ℕ) → d .row ≡ Drawn y → colours ≡ k .colours) (b : List ℕ) where
+    row-recoloured : (r : DrawnRow) (picture : ℕ → Row) → ((y : ℕ) → r ≡ Drawn y → colours ≡ k .colours) → rowWith r s colours picture b ≡ rowWith r s
+        (k .colours) picture b
+    unfolding rowWith
+    row-recoloured NoRow picture h = refl
+    row-recoloured (Drawn y) picture h = rw (h y refl)
 
-      pub layers-refuse-9 : {p : Points} → length b < w → p ≡ none PixelLength → RowLayerPointsLeave a vram k b layers p b layers
-      layers-refuse-9 h e =
-          layers-stay (rowLines a vram (length b)) b _ layers PixelLength
-          (first-size vram (rowSizes ++ room) mem ∙ short-row (rowSize a) (length b) room (omega arith)) (λ z. omega arith) e
+    frame-recoloured : (r : DrawnRow) (picture : ℕ → Row) → ((y : ℕ) → r ≡ Drawn y → colours ≡ k .colours) → frameWith r s colours picture b ≡
+        frameWith r s (k .colours) picture b
+    unfolding frameWith
+    frame-recoloured NoRow picture h = refl
+    frame-recoloured (Drawn y) picture h = rw (h y refl)
 
-      pub layers-refuse-16 : {p : Points} → w ≤ length b → length layers < columns a → p ≡ none LayerLength → RowLayerPointsLeave a vram k b layers p
-          b layers
-      layers-refuse-16 h s e =
-          layers-stay (rowLines a vram (length b)) b _ layers LayerLength
-          (first-size vram (rowSizes ++ room) mem ∙ long-row (rowSize a) (length b) room (omega arith) ∙ short-layers (columns a) (length layers) s)
-          (λ z. omega arith) e
+    pub row-filled : {b′ : List ℕ} → b′ ≡ rowWith (d .row) s colours (duePicture s vram (k .reg) d) b
+        → b′ ≡ under ls (λ r. b) (rowWith (takenDue s (k .reg) (k .raster) .row) s (k .colours)
+        (duePicture s vram (k .reg) (takenDue s (k .reg) (k .raster))) b)
+    unfolding rowWith
+    row-filled e = e ∙ row-recoloured (d .row) (duePicture s vram (k .reg) d) ec ∙ rw ed
+        (due-map s (k .reg) (k .raster) (λ (x : Due). rowWith (x .row) s (k .colours) (duePicture s vram (k .reg) x) b) ls)
 
-      -- R4.1 to R4.5, each by itself
-      pub row-accepts :
-          {up after : Raster} {row : DrawnRow} {bits last : ℕ} {b′ layers′ : List ℕ} {i : VdpInt} {report : DisplayRefresh}
-          → w ≤ length b → up ≡ advanced (at (k .reg)) (k .raster) → row ≡ rowOn a (up .«v_counter»)
-          → bits ≡ bitsOf row (pictureOf a (k .reg) (up .«vertical_scroll») vram)
-          → b′ ≡ rowWith row a (k .colours) (pictureOf a (k .reg) (up .«vertical_scroll») vram) b
-          → layers′ ≡ layersBy row a (layersOf a (k .reg) (up .«vertical_scroll») vram) layers → last ≡ endedBy (up .«v_counter»)
-          (bitOr (k .status) bits)
-          → i ≡ interruptBy (k .reg) last up → report ≡ reportBy (k .reg) (up .«v_counter») → after ≡ counted (at (k .reg)) up
-          → RowLeft (record { refusal = Accepted; interrupt = i; report = report; row = row; status = last; raster = after }) b′ layers′
-      unfolding pointsOf
-      row-accepts h eu er es eb eo el ei ep ea =
-          done (rowLines a vram (length b)) b _ layers (row-passes a vram (length b) mem (omega arith)) (rw (ei, ep, ea, el, es, er, eu))
-          (eb ∙ rw (er, eu)) (eo ∙ rw (er, eu))
-
-  -- ---- a frame that is not lent, and one whose layers have no room
-  module _ (f layers : List ℕ) where
-    pub frame-refuses : {r : Refusal} {p : Points} → (first (frameLines a vram (length f)) ≡ r) × (refusalNumber r ≢ 0) → p ≡ none r →
-        FramePointsLeave a vram k f p f
-    frame-refuses {r} q e = stays (frameLines a vram (length f)) f _ layers r (q .0) (q .1) e .0
-
-    pub frame-layers-refuse :
-        {r : Refusal} {p : Points} → (first (frameLines a vram (length f)) ≡ r) × (refusalNumber r ≢ 0) → p ≡ none r → FrameLayerPointsLeave a vram k
-        f layers p f layers
-    frame-layers-refuse {r} q e =
-        let no : first (frameLines a vram (length f)) ≢ Accepted = λ z. refuses r (q .1) (sym (q .0) ∙ z) in
-        layers-stay (frameLines a vram (length f)) f _ layers r (not-last (columns a) (length layers) (frameLines a vram (length f)) no ∙ q .0)
-        (q .1) e
-
-    pub frame-layers-refuse-16 :
-        {p : Points} → length vram ≡ 16384 → length f ≡ frameSize a → length layers < columns a → p ≡ none LayerLength → FrameLayerPointsLeave a vram
-        k f layers p f layers
-    frame-layers-refuse-16 mem h s e =
-        let room = layerLine (columns a) (length layers) in
-        layers-stay (frameLines a vram (length f)) f _ layers LayerLength
-        (first-size vram (exactly (frameSize a) (length f) ++ room) mem ∙ exact-frame (frameSize a) (length f) room (omega arith) (omega arith) ∙
-        short-layers (columns a) (length layers) s)
-        (λ z. omega arith) e
-
--- ---- a frame, by the part of it that is lent
-abbrev pub partOf : Screen → DrawnRow → List ℕ → List ℕ
-partOf a r f = midOf (startOf a r) (startOf a r + rowSize a - startOf a r) f
-
-part-length : (a : Screen) (r : DrawnRow) (f : List ℕ) → length f ≡ frameSize a → RowIn a r → length (partOf a r f) ≡ rowSize a
-part-length a r f exact i = mid-len (startOf a r) (startOf a r + rowSize a) f (omega (arith, part-end a r i)) ∙ omega arith
-
--- the part put back as a row buffer is left
-placed :
-    (a : Screen) (colours : List ℕ) (picture : ℕ → Row) (f : List ℕ) (r : DrawnRow) {ys : List ℕ} → length (partOf a r f) ≡ rowSize a
-    → ys ≡ rowWith r a colours picture (partOf a r f) → putMid (startOf a r) (startOf a r + rowSize a - startOf a r) f ys ≡ frameWith r a colours
-    picture f
-unfolding rowWith frameWith withRow
-placed a colours picture f NoRow n p = rw p (put-same 0 (0 + rowSize a - 0) f)
-placed a colours picture f (Drawn y) {ys} n p =
-    let k : length (partOf a (Drawn y) f) ≤ rowSize a = omega arith in
-    let q : ys ≡ rowBytes colours (columns a) (picture y) = p ∙ rw (drop-of-length-le (partOf a (Drawn y) f) k)
-    (append-nil (rowBytes colours (columns a) (picture y))) in
-    let z : postOf (y * rowSize a) (y * rowSize a + rowSize a - y * rowSize a) f ≡ drop (y * rowSize a + rowSize a) f =
-    post-is (y * rowSize a) (y * rowSize a + rowSize a) f (omega arith) in
-    rw (q, z, mul-comm (rowSize a) y)
-
-module _ (a : Screen) (vram : List ℕ) (k : Reading) (f layers : List ℕ) (mem : length vram ≡ 16384) (exact : length f ≡ frameSize a) where
-  abbrev FrameLeft : Points → List ℕ → List ℕ → Type 0
-  FrameLeft p f′ layers′ = FramePointsLeave a vram k f p f′ × (layers′ ≡ layersUnder (frameLines a vram (length f)) a vram k layers)
-
-  lent :
-      {p : Points} {ys layers′ : List ℕ} → RowLeft a vram k (partOf a (comingRow a k) f) layers p ys layers′
-      → FrameLeft p (putMid (startOf a (comingRow a k)) (startOf a (comingRow a k) + rowSize a - startOf a (comingRow a k)) f ys) layers′
-  lent e =
-      let r = comingRow a k in
-      let n : length (partOf a r f) ≡ rowSize a = part-length a r f exact (row-in a _ refl) in
-      let h : rowSize a ≤ length (partOf a r f) = omega arith in
-      let g = undone a vram k (rowLines a vram (length (partOf a r f))) (partOf a r f) _ layers (row-passes a vram (length (partOf a r f)) mem h) e in
-      done a vram k (frameLines a vram (length f)) f _ layers (frame-passes a vram (length f) mem exact) (g .0)
-      (placed a (k .colours) (comingPicture a vram k) f r n (g .1 .0)) (g .1 .1)
-
-  -- the part of it from s to below t, which is the coming row's
-  pub frame-accepts :
-      {s t : ℕ} → s ≡ startOf a (comingRow a k) → t ≡ s + rowSize a → {p : Points} {ys layers′ : List ℕ} → RowLeft a vram k (midOf s (t - s) f)
-      layers p ys layers′
-      → FrameLeft p (putMid s (t - s) f ys) layers′
-  frame-accepts es et e = rw (et, es) (lent (rw (et, es) at e))
+    pub frame-filled : {b′ : List ℕ} → b′ ≡ frameWith (d .row) s colours (duePicture s vram (k .reg) d) b
+        → b′ ≡ under ls (λ r. b) (frameWith (takenDue s (k .reg) (k .raster) .row) s (k .colours)
+        (duePicture s vram (k .reg) (takenDue s (k .reg) (k .raster))) b)
+    unfolding frameWith
+    frame-filled e = e ∙ frame-recoloured (d .row) (duePicture s vram (k .reg) d) ec ∙ rw ed
+        (due-map s (k .reg) (k .raster) (λ (x : Due). frameWith (x .row) s (k .colours) (duePicture s vram (k .reg) x) b) ls)

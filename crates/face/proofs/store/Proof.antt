@@ -22,11 +22,16 @@ returns c =
     let at-store-colours = at-store-raster .before .before .before .before in
     let at-start = at-store-colours .before .before .before .before in
     λ k s g t q e.
-    let a = at-start .args in
-    let r = a .points .row in
-    let h = rw q at (at-store-colours .store-colours .ensures k s g e) in
-    at-store-raster .store-raster .ensures ∙ raster-stored k (cleaned r s (coloursNow s)) (cleaned-sized r s (coloursNow s) g) _ (a .points .status)
-    (a .points .raster) (t ∙ sym (cleaned-table r s (coloursNow s))) h
+    let r = at-start .args .points .row in
+    at-store-raster .store-raster .ensures ∙ raster-stored k (cleaned r s (coloursNow s)) (cleaned-sized r s (coloursNow s) g) _
+    (at-start .args .points .status) (at-start .args .points .raster)
+    (t ∙ sym (cleaned-table r s (coloursNow s))) (at-store-colours .store-colours .ensures k s g q e)
 
 pub store-spec : {M : Type 1} → statement M
-store-spec = tie.close (tie.spec store-colours-requires store-raster-requires same-length returns)
+store-spec =
+    tie.close
+    (tie.spec
+    store-colours-requires
+    store-raster-requires
+    same-length
+    returns)

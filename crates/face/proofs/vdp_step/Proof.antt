@@ -3,9 +3,13 @@ use borrow.Author.Needs.{needs}
 use mathlib.Core.Path.{refl, sym, _∙_}
 use borrow.Author.Tests.{not-true, not-false}
 use native.Mathlib.Omega.{arith}
+use lib.ListN.{length}
+use Rattle.picture.specs.Area.{areaFrom, screenOf}
 use Rattle.block.specs.Block.{stateOf}
 use Rattle.block.proofs.Whole.{long}
-use Rattle.step.proofs.Steps.{reading-of}
+use Rattle.step.specs.Step.{readingOf}
+use Rattle.points.specs.Points.{frameLines}
+use Rattle.points_run.proofs.Steps.{due-row, answered, frame-filled, frame-due-fits}
 use Rattle.face.proofs.Laws.{step-bad, step-unknown, step-kept}
 use Rattle.face.proofs.vdp_step.Statement.{statement}
 use Rattle.face.proofs.vdp_step.Tie as tie
@@ -40,12 +44,11 @@ returns-2 c =
     step-unknown (at-start .args .state .now) (at-start .args .vram .now) (at-start .args .frame .now) (at-start .args .area)
     (sym (at-well-formed .well-formed .ensures) ∙ not-false _ (at-if1 .if1 .left)) (c .before .if2 .taken) (c .number2 .ensures .0)
 
-colours-of-requires : tie.Need-colours-of-requires
-colours-of-requires c κs =
-    let at-if1 = c .before .before in
-    let at-well-formed = at-if1 .before in
-    let at-start = at-well-formed .before .before .before .before .before in
-    long (at-start .args .state .now) (sym (at-well-formed .well-formed .ensures) ∙ not-false _ (at-if1 .if1 .left))
+area-from-requires : tie.Need-area-from-requires
+area-from-requires c κs = search needs
+
+screen-of-requires : tie.Need-screen-of-requires
+screen-of-requires c κs = search needs
 
 registers-requires : tie.Need-registers-requires
 registers-requires c κs =
@@ -61,26 +64,44 @@ raster-in-requires c κs =
     let at-start = at-well-formed .before .before .before .before .before in
     long (at-start .args .state .now) (sym (at-well-formed .well-formed .ensures) ∙ not-false _ (at-if1 .if1 .left))
 
-slice-read-frame-points : tie.Need-slice-read-frame-points
-slice-read-frame-points c =
-    let at-if1 = c .before .before .before .before .before .before .before .before in
+frame-due-requires : tie.Need-frame-due-requires
+frame-due-requires c κs = search needs
+
+colours-of-requires : tie.Need-colours-of-requires
+colours-of-requires c κs =
+    let at-if1 = c .before .before .before .before .before .before .before .before .before in
+    let at-well-formed = at-if1 .before in
+    let at-start = at-well-formed .before .before .before .before .before in
+    long (at-start .args .state .now) (sym (at-well-formed .well-formed .ensures) ∙ not-false _ (at-if1 .if1 .left))
+
+slice-read-frame-points-due : tie.Need-slice-read-frame-points-due
+slice-read-frame-points-due c =
+    let at-if1 = c .before .before .before .before .before .before .before .before .before .before .before in
     let at-well-formed = at-if1 .before in
     let at-start = at-well-formed .before .before .before .before .before in
     omega (arith, long (at-start .args .state .now) (sym (at-well-formed .well-formed .ensures) ∙ not-false _ (at-if1 .if1 .left)))
 
-area-from-requires : tie.Need-area-from-requires
-area-from-requires c κs = search needs
+slice-aggregate-frame-points-due : tie.Need-slice-aggregate-frame-points-due
+slice-aggregate-frame-points-due c = search needs
 
-screen-of-requires : tie.Need-screen-of-requires
-screen-of-requires c κs = search needs
-
-frame-points-requires : tie.Need-frame-points-requires
-frame-points-requires c κs = search needs
+frame-points-due-requires : tie.Need-frame-points-due-requires
+frame-points-due-requires c κs =
+    let at-frame-due = c .before .before .before .before .before .before in
+    let at-raster-in = at-frame-due .before in
+    let at-registers = at-raster-in .before .before in
+    let at-screen-of = at-registers .before .before in
+    let at-area-from = at-screen-of .before in
+    let at-start = at-area-from .before .before .before .before .before .before .before .before in
+    rw (at-screen-of .screen-of .ensures, at-area-from .area-from .ensures)
+    (frame-due-fits (screenOf (areaFrom (at-start .args .area))) (stateOf (at-start .args .state .now) .reg) (stateOf (at-start .args .state .now) .raster)
+    (at-start .args .vram .now) (length (at-start .args .frame .now))
+    (rw (at-registers .registers .ensures, at-raster-in .raster-in .ensures, at-screen-of .screen-of .ensures, at-area-from .area-from .ensures) at
+    (at-frame-due .frame-due .ensures)))
 
 store-requires : tie.Need-store-requires
 store-requires c κs =
-    let at-if1 = c .before .before .before .before .before .before .before .before .before .before .before .before .before .before .before .before
-    .before in
+    let at-if1 = c .before .before .before .before .before .before .before .before .before .before .before .before .before .before .before .before .before
+    .before .before .before in
     let at-well-formed = at-if1 .before in
     let at-start = at-well-formed .before .before .before .before .before in
     long (at-start .args .state .now) (sym (at-well-formed .well-formed .ensures) ∙ not-false _ (at-if1 .if1 .left))
@@ -98,27 +119,34 @@ returns-3 : tie.Need-returns-3
 unfolding stateOf
 returns-3 c =
     let at-store = c .before .before .before in
-    let at-frame-points = at-store .before .before .before .before .before in
-    let at-screen-of = at-frame-points .before in
-    let at-area-from = at-screen-of .before in
-    let at-raster-in = at-area-from .before .before .before .before in
+    let at-frame-points-due = at-store .before .before .before .before .before .before in
+    let at-colours-of = at-frame-points-due .before .before .before .before .before in
+    let at-frame-due = at-colours-of .before .before in
+    let at-raster-in = at-frame-due .before in
     let at-registers = at-raster-in .before .before in
-    let at-colours-of = at-registers .before .before in
-    let at-if2 = at-colours-of .before .before in
+    let at-screen-of = at-registers .before .before in
+    let at-area-from = at-screen-of .before in
+    let at-if2 = at-area-from .before in
     let at-if1 = at-if2 .before in
     let at-well-formed = at-if1 .before in
     let at-slice-known = at-well-formed .before .before .before .before in
     let at-start = at-slice-known .before in
+    let k = readingOf (stateOf (at-start .args .state .now)) in
+    let ls = (frameLines (screenOf (areaFrom (at-start .args .area))) (at-start .args .vram .now) (length (at-start .args .frame .now))) in
+    let ed = (rw (at-registers .registers .ensures, at-raster-in .raster-in .ensures, at-screen-of .screen-of .ensures, at-area-from .area-from .ensures) at
+    (at-frame-due .frame-due .ensures)) in
+    let p = rw (at-registers .registers .ensures, at-screen-of .screen-of .ensures, at-area-from .area-from .ensures) at
+    (at-frame-points-due .frame-points-due .ensures) in
     step-kept (at-start .args .state .now) (at-start .args .vram .now) (at-start .args .frame .now) (at-start .args .area)
-    (λ i. omega (arith, at-slice-known .slice-known .given i))
-    (sym (at-well-formed .well-formed .ensures) ∙ not-false _ (at-if1 .if1 .left))
-    (at-if2 .if2 .left)
-    (at-area-from .area-from .ensures) (at-screen-of .screen-of .ensures)
-    (reading-of (stateOf (at-start .args .state .now)) (at-registers .registers .ensures) (at-raster-in .raster-in .ensures) refl
-    (at-colours-of .colours-of .ensures))
-    (at-store .store .ensures)
-    (c .word-of .ensures)
-    (at-frame-points .frame-points .ensures)
+    (λ i. omega (arith, at-slice-known .slice-known .given i)) (sym (at-well-formed .well-formed .ensures) ∙ not-false _ (at-if1 .if1 .left))
+    (at-if2 .if2 .left) refl refl refl
+    (λ y e. at-colours-of .colours-of .ensures y (sym (due-row ls (screenOf (areaFrom (at-start .args .area))) (at-start .args .vram .now) k ed (p .0)) ∙ e))
+    (at-store .store .ensures) (c .word-of .ensures)
+    (record {
+      answer = answered ls (screenOf (areaFrom (at-start .args .area))) (at-start .args .vram .now) k ed (p .0);
+      bytes = frame-filled ls (screenOf (areaFrom (at-start .args .area))) (at-start .args .vram .now) k ed (at-colours-of .colours-of .ensures)
+          (at-start .args .frame .now) (p .1 .0);
+    })
 
 pub vdp-step-spec : {M : Type 1} → statement M
 vdp-step-spec =
@@ -131,13 +159,15 @@ vdp-step-spec =
     number-requires-2
     same-length-2
     returns-2
-    colours-of-requires
-    registers-requires
-    raster-in-requires
-    slice-read-frame-points
     area-from-requires
     screen-of-requires
-    frame-points-requires
+    registers-requires
+    raster-in-requires
+    frame-due-requires
+    colours-of-requires
+    slice-read-frame-points-due
+    slice-aggregate-frame-points-due
+    frame-points-due-requires
     store-requires
     word-of-requires
     same-length-3

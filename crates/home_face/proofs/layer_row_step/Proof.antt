@@ -3,10 +3,16 @@ use borrow.Author.Needs.{needs}
 use mathlib.Core.Path.{refl, sym, _∙_}
 use borrow.Author.Tests.{not-true, not-false}
 use native.Mathlib.Omega.{arith}
+use lib.ListN.{length}
+use Rattle.picture.specs.declared.Screen.the-variants.{Home}
 use Rattle.inplace.specs.InPlace.{frontIn}
 use Rattle.home_block.specs.HomeBlock.{stateOf}
 use Rattle.home_block.proofs.Whole.{said}
-use Rattle.home.proofs.Steps.{reading-of}
+use Rattle.home.specs.Step.{readingOf}
+use Rattle.points.specs.Points.{rowLines}
+use Rattle.picture.specs.Screen.{columns}
+use Rattle.points.specs.Bytes.{alsoLayers}
+use Rattle.points_run.proofs.Steps.{due-row, answered, owned, row-filled, row-layers-fit}
 use Rattle.home_face.proofs.Laws.{layer-bad, layer-row-kept}
 use Rattle.home_face.proofs.layer_row_step.Statement.{statement}
 use Rattle.home_face.proofs.layer_row_step.Tie as tie
@@ -27,39 +33,56 @@ returns c =
     layer-bad (at-start .args .state .now) (at-start .args .vram .now) (at-start .args .row .now) _ _ (at-start .args .layers .now)
     (sym (at-well-formed .well-formed .ensures) ∙ not-true _ (c .before .if1 .taken)) (c .number .ensures .0)
 
-colours-of-requires : tie.Need-colours-of-requires
-colours-of-requires c κs =
+registers-requires : tie.Need-registers-requires
+registers-requires c κs =
     let at-well-formed = c .before .before in
     let at-start = at-well-formed .before .before .before .before .before .before in
     said (at-start .args .state .now) (sym (at-well-formed .well-formed .ensures) ∙ not-false _ (c .before .if1 .left)) .long
 
-registers-requires : tie.Need-registers-requires
-registers-requires c κs =
+raster-in-requires : tie.Need-raster-in-requires
+raster-in-requires c κs =
     let at-if1 = c .before .before .before in
     let at-well-formed = at-if1 .before in
     let at-start = at-well-formed .before .before .before .before .before .before in
     said (at-start .args .state .now) (sym (at-well-formed .well-formed .ensures) ∙ not-false _ (at-if1 .if1 .left)) .long
 
-raster-in-requires : tie.Need-raster-in-requires
-raster-in-requires c κs =
-    let at-if1 = c .before .before .before .before .before in
+row-due-requires : tie.Need-row-due-requires
+row-due-requires c κs = search needs
+
+layer-due-requires : tie.Need-layer-due-requires
+layer-due-requires c κs = search needs
+
+colours-of-requires : tie.Need-colours-of-requires
+colours-of-requires c κs =
+    let at-if1 = c .before .before .before .before .before .before .before in
     let at-well-formed = at-if1 .before in
     let at-start = at-well-formed .before .before .before .before .before .before in
     said (at-start .args .state .now) (sym (at-well-formed .well-formed .ensures) ∙ not-false _ (at-if1 .if1 .left)) .long
 
-slice-read-layer-row-points : tie.Need-slice-read-layer-row-points
-slice-read-layer-row-points c =
-    let at-if1 = c .before .before .before .before .before .before .before in
+slice-read-row-points-due : tie.Need-slice-read-row-points-due
+slice-read-row-points-due c =
+    let at-if1 = c .before .before .before .before .before .before .before .before .before in
     let at-well-formed = at-if1 .before in
     let at-start = at-well-formed .before .before .before .before .before .before in
     omega (arith, said (at-start .args .state .now) (sym (at-well-formed .well-formed .ensures) ∙ not-false _ (at-if1 .if1 .left)) .long)
 
-layer-row-points-requires : tie.Need-layer-row-points-requires
-layer-row-points-requires c κs = search needs
+row-points-due-requires : tie.Need-row-points-due-requires
+row-points-due-requires c κs =
+    let at-layer-due = c .before .before .before .before .before .before in
+    let at-row-due = at-layer-due .before in
+    let at-raster-in = at-row-due .before in
+    let at-registers = at-raster-in .before .before in
+    let at-start = at-registers .before .before .before .before .before .before .before .before .before in
+    row-layers-fit Home (stateOf (at-start .args .state .now) .front .reg) (stateOf (at-start .args .state .now) .raster) (at-start .args .vram .now)
+    (length (at-start .args .row .now)) (columns Home) (length (at-start .args .layers .now))
+    ((rw (at-raster-in .raster-in .ensures) at (at-layer-due .layer-due .ensures .1
+    (rowLines Home (at-start .args .vram .now) (length (at-start .args .row .now))) (stateOf (at-start .args .state .now) .front .reg)))
+    (rw (at-registers .registers .ensures, at-raster-in .raster-in .ensures) at (at-row-due .row-due .ensures)))
 
 store-requires : tie.Need-store-requires
 store-requires c κs =
-    let at-if1 = c .before .before .before .before .before .before .before .before .before .before .before .before .before .before .before .before .before in
+    let at-if1 = c .before .before .before .before .before .before .before .before .before .before .before .before .before .before .before .before .before
+    .before .before in
     let at-well-formed = at-if1 .before in
     let at-start = at-well-formed .before .before .before .before .before .before in
     said (at-start .args .state .now) (sym (at-well-formed .well-formed .ensures) ∙ not-false _ (at-if1 .if1 .left)) .long
@@ -80,19 +103,34 @@ returns-2 : tie.Need-returns-2
 unfolding stateOf frontIn
 returns-2 c =
     let at-store = c .before .before .before in
-    let at-layer-row-points = at-store .before .before .before .before .before .before .before in
-    let at-raster-in = at-layer-row-points .before .before .before .before .before in
+    let at-row-points-due = at-store .before .before .before .before .before .before .before in
+    let at-colours-of = at-row-points-due .before .before .before .before .before in
+    let at-layer-due = at-colours-of .before .before in
+    let at-row-due = at-layer-due .before in
+    let at-raster-in = at-row-due .before in
     let at-registers = at-raster-in .before .before in
-    let at-colours-of = at-registers .before .before in
-    let at-if1 = at-colours-of .before .before in
+    let at-if1 = at-registers .before .before in
     let at-well-formed = at-if1 .before in
     let at-slice-known = at-well-formed .before .before .before .before .before in
     let at-start = at-slice-known .before in
+    let k = readingOf (stateOf (at-start .args .state .now)) in
+    let ls = (alsoLayers (columns Home) (length (at-start .args .layers .now)) (rowLines Home (at-start .args .vram .now) (length (at-start .args .row .now))))
+    in
+    let ed = (rw (at-raster-in .raster-in .ensures) at (at-layer-due .layer-due .ensures .1
+    (rowLines Home (at-start .args .vram .now) (length (at-start .args .row .now))) (stateOf (at-start .args .state .now) .front .reg)))
+    (rw (at-registers .registers .ensures, at-raster-in .raster-in .ensures) at (at-row-due .row-due .ensures)) in
+    let p = rw (at-registers .registers .ensures) at (at-row-points-due .row-points-due .ensures) in
     layer-row-kept (at-start .args .state .now) (at-start .args .vram .now) (at-start .args .row .now)
-    (λ i. omega (arith, at-slice-known .slice-known .given i)) (sym (at-well-formed .well-formed .ensures) ∙ not-false _ (at-if1 .if1 .left))
-    (reading-of (stateOf (at-start .args .state .now)) (at-registers .registers .ensures) (at-raster-in .raster-in .ensures) refl
-    (at-colours-of .colours-of .ensures)) (at-store .store .ensures) (c .word-of .ensures) (at-start .args .layers .now)
-    (at-layer-row-points .layer-row-points .ensures)
+    (λ i. omega (arith, at-slice-known .slice-known .given i)) (sym (at-well-formed .well-formed .ensures) ∙ not-false _ (at-if1 .if1 .left)) refl
+    (λ y e. at-colours-of .colours-of .ensures y (sym (due-row ls Home (at-start .args .vram .now) k ed (p .0)) ∙ e)) (at-store .store .ensures)
+    (c .word-of .ensures) (at-start .args .layers .now)
+    (record {
+      points = record {
+        answer = answered ls Home (at-start .args .vram .now) k ed (p .0);
+        bytes = row-filled ls Home (at-start .args .vram .now) k ed (at-colours-of .colours-of .ensures) (at-start .args .row .now) (p .1 .0);
+      };
+      owners = owned ls Home (at-start .args .vram .now) k ed (at-start .args .layers .now) (p .1 .1);
+    })
 
 pub layer-row-step-spec : {M : Type 1} → statement M
 layer-row-step-spec =
@@ -102,11 +140,13 @@ layer-row-step-spec =
     number-requires
     same-length
     returns
-    colours-of-requires
     registers-requires
     raster-in-requires
-    slice-read-layer-row-points
-    layer-row-points-requires
+    row-due-requires
+    layer-due-requires
+    colours-of-requires
+    slice-read-row-points-due
+    row-points-due-requires
     store-requires
     word-of-requires
     same-length-2

@@ -21,10 +21,11 @@ returns c =
     let at-store-raster = c .before .before in
     let at-store-colours = at-store-raster .before .before .before .before in
     let at-start = at-store-colours .before .before .before .before in
-    λ h g t ec e. at-store-raster .store-raster .ensures
-    ∙ raster-stored (cleaned (at-start .args .points .row) h (coloursNow h)) (cleaned-sized (at-start .args .points .row) h (coloursNow h) g) _
-    (at-start .args .points .status) (at-start .args .points .raster) (t ∙ sym (cleaned-table (at-start .args .points .row) h (coloursNow h)))
-    (rw ec at (at-store-colours .store-colours .ensures h g e))
+    λ h g t q e.
+    let r = at-start .args .points .row in
+    at-store-raster .store-raster .ensures ∙ raster-stored (cleaned r h (coloursNow h)) (cleaned-sized r h (coloursNow h) g) _ (at-start .args .points .status)
+    (at-start .args .points .raster)
+    (t ∙ sym (cleaned-table r h (coloursNow h))) (at-store-colours .store-colours .ensures h g q e)
 
 pub store-spec : {M : Type 1} → statement M
 store-spec = tie.close (tie.spec store-colours-requires store-raster-requires same-length returns)

@@ -1,8 +1,8 @@
 -- `points_run::draw` meets its contract: the row drawn into the buffer, and its layers told where they are asked for.
 use borrow.Author.Needs.{needs}
-use Rattle.points_run.proofs.Steps.{drawn-none, drawn-one}
 use Rattle.picture.specs.Screen.{pictureOf}
 use Rattle.picture.specs.Layers.{layersOf}
+use Rattle.points_run.proofs.Steps.{drawn-none, drawn-one}
 use Rattle.points_run.proofs.draw.Statement.{statement}
 use Rattle.points_run.proofs.draw.Tie as tie
 
@@ -24,7 +24,7 @@ render-line-requires : tie.Need-render-line-requires
 render-line-requires c κs =
     let at-drawn = c .before .before .before in
     let at-start = at-drawn .before .before .before .before .before in
-    (at-start .pre .0, at-start .pre .1, at-start .pre .2 _ (at-drawn .drawn .given .1))
+    let f = at-start .pre _ (at-drawn .drawn .given .1) in (f .0, f .1 .0, f .1 .1)
 
 same-length : tie.Need-same-length
 same-length c = search needs
