@@ -2,12 +2,11 @@
 -- Assumes nothing.
 use mathlib.Core.Path.{_≡_, refl, sym, _∙_}
 use mathlib.Core.List.{List}
-use mathlib.Core.Bool.{Bool, true, false, not}
-use Prim.Native.Nat.{ℕ, _+_, _*_, _/_, _%_, _^_, _<_, _≤_}
+use mathlib.Core.Bool.{Bool, true, false}
+use Prim.Native.Nat.{ℕ, _+_, _*_, _/_, _%_, _^_, _≤_}
 use native.Mathlib.Omega.{arith}
 use lib.Bits.{bitOr, bitAnd, and-mask}
-use lib.Dec.{eqb}
-use borrow.Author.Tests.{lt-ltb, le-ltb}
+use borrow.Author.Tests.{le-ltb}
 use Rattle.laws.specs.Bits.{bit, digit}
 use Rattle.laws.specs.Lists.{at}
 use Rattle.laws.proofs.Bits.{digit-test}
@@ -60,10 +59,6 @@ pub drawn-past : (vram : List ℕ) (addr start end held taken width x k : ℕ) �
     false
 unfolding lineDrawn
 drawn-past vram addr start end held taken width x k h = rw (marked-past vram addr start end held k h)
-
-pub solid-of : (start end : ℕ) (code : ℕ → ℕ) (k : ℕ) {v : ℕ} → start + k < end → v ≡ code (start + k) → not (eqb v 0) ≡ solid start end code k
-unfolding solid
-solid-of start end code k h e = rw (lt-ltb (start + k) end h, e)
 
 pub held-past : (vram : List ℕ) (addr start end held k : ℕ) → end ≤ start + k → lineHeld vram addr start end held k ≡ false
 unfolding lineHeld

@@ -433,18 +433,12 @@ pub fn character_line_sprite_bitmap(vram: &[u8], addr: usize, start: usize, end:
     requires { ⌜ (end ≤ 8) × (start ≤ 256) × (addr + 4 ≤ length (now vram)) ⌝ }
     ensures { λ r. ⌜ r ≡ byteOf (solid start end (codeAt (at (now (vram .entry))) addr)) ⌝ }
 {
-    let p0 = vram[addr];
-    let p1 = vram[addr + 1];
-    let p2 = vram[addr + 2];
-    let p3 = vram[addr + 3];
-    let mut bits: u8 = 0;
-    let mut i: usize = 0;
-    while start + i < end {
-        let code = color_code(p0, p1, p2, p3, 7 - (start + i));
-        bits = mark(bits, i, code != 0);
-        i += 1;
+    if end <= start {
+        return 0;
     }
-    bits
+    let n = end - start;
+    let p = small::four_at(vram, addr);
+    cut(reversed(solid_of(p)), start, n)
 }
 
 // ---- the layers

@@ -1,110 +1,79 @@
 -- `tile::character_line_sprite_bitmap` meets its contract: the columns of the line at addr, from the tile's pixel start to below end.
 use borrow.Author.Needs.{needs}
-use mathlib.Core.Path.{_≡_, refl, _∙_}
-use Prim.Native.Nat.{_+_, _-_, _≤_, _<_}
+use mathlib.Core.Path.{refl, sym, ap, _∙_}
+use mathlib.Core.Bool.{false}
+use Prim.Native.Nat.{_+_, _-_, _<_, _≤_}
 use native.Mathlib.Omega.{arith}
-use Rattle.laws.specs.Bits.{number}
+use mir.Syntax.{w8}
+use mir.Val.{Fits}
+use Rattle.laws.specs.Bits.{bit, number}
 use Rattle.laws.specs.Lists.{at}
-use Rattle.laws.proofs.Bits.{number-step, number-all}
+use Rattle.laws.proofs.Bits.{number-all, bit-number, byte-is}
 use Rattle.picture.specs.Tile.{codeAt}
 use Rattle.picture.specs.Picture.{solid}
-use Rattle.tile.proofs.Marks.{solid-past, solid-of}
+use Rattle.tile.proofs.Marks.{solid-past}
+use Rattle.tile.proofs.Whole.{line-solid, part-solid}
 use Rattle.tile.proofs.character_line_sprite_bitmap.Statement.{statement}
 use Rattle.tile.proofs.character_line_sprite_bitmap.Tie as tie
 
-abbrev Inv-loop : tie.InvT-loop
-Inv-loop vram addr start end p0 p1 p2 p3 bits₀ i₀ bits i = (i ≤ 8) × (i ≤ end - start) × (bits ≡ number i (solid start end (codeAt (at vram) addr)))
-
-abbrev μ-loop : tie.MeasureT-loop
-μ-loop vram addr start end p0 p1 p2 p3 bits₀ i₀ bits i = end - i
-
-shared-slice-read-p0 : tie.Need-shared-slice-read-p0 Inv-loop μ-loop
-shared-slice-read-p0 c = search needs
-
-add-p1 : tie.Need-add-p1 Inv-loop μ-loop
-add-p1 c = search needs
-
-shared-slice-read-p1 : tie.Need-shared-slice-read-p1 Inv-loop μ-loop
-shared-slice-read-p1 c = search needs
-
-add-p2 : tie.Need-add-p2 Inv-loop μ-loop
-add-p2 c = search needs
-
-shared-slice-read-p2 : tie.Need-shared-slice-read-p2 Inv-loop μ-loop
-shared-slice-read-p2 c = search needs
-
-add-p3 : tie.Need-add-p3 Inv-loop μ-loop
-add-p3 c = search needs
-
-shared-slice-read-p3 : tie.Need-shared-slice-read-p3 Inv-loop μ-loop
-shared-slice-read-p3 c = search needs
-
-loop-holds : tie.Need-loop-holds Inv-loop μ-loop
+returns : tie.Need-returns
 unfolding number
-loop-holds c = (omega arith, omega arith, refl)
-
-add-loop : tie.Need-add-loop Inv-loop μ-loop
-add-loop c = search needs
-
-add-color-code : tie.Need-add-color-code Inv-loop μ-loop
-add-color-code c = search needs
-
-sub-color-code : tie.Need-sub-color-code Inv-loop μ-loop
-sub-color-code c = search needs
-
-color-code-requires : tie.Need-color-code-requires Inv-loop μ-loop
-color-code-requires c κs = search needs
-
-mark-requires : tie.Need-mark-requires Inv-loop μ-loop
-mark-requires c κs = search needs
-
-add-i : tie.Need-add-i Inv-loop μ-loop
-add-i c = search needs
-
-loop-less : tie.Need-loop-less Inv-loop μ-loop
-loop-less c = search needs
-
-loop-again : tie.Need-loop-again Inv-loop μ-loop
-unfolding codeAt
-loop-again c =
-    let at-loop = c .before .before .before in
-    let at-start = at-loop .before .before .before .before .before .before in
-    let v = at-loop .loop .inv in
-    let a = at-start .args in
-    let i = at-loop .loop .i in
-    let h : i < 8 = omega arith in
-    let l : a .start + i < a .end = omega arith in
-    let q : c .before .color-code .result ≡ codeAt (at (a .vram .now)) (a .addr) (a .start + i) = c .before .color-code .ensures .0 in
-    (omega arith, omega arith, number-step _ i h (v .2) (solid-of (a .start) (a .end) _ i l q) (c .mark .ensures))
-
-returns : tie.Need-returns Inv-loop μ-loop
 returns c =
-    let at-start = c .before .before .before .before .before .before .before in
-    let v = c .before .loop .inv in
+    let at-start = c .before .before in
     let a = at-start .args in
-    let i = c .before .loop .i in
-    v .2 ∙ number-all _ i (v .0) (λ k h. solid-past (a .start) (a .end) _ k (omega arith))
+    let h : a .end ≤ a .start = c .if1 .taken in
+    number-all (solid (a .start) (a .end) (codeAt (at (a .vram .now)) (a .addr))) 0 (omega arith)
+    (λ k g. solid-past (a .start) (a .end) _ k (omega (arith, h)))
+
+sub-n : tie.Need-sub-n
+sub-n c = search needs
+
+four-at-requires : tie.Need-four-at-requires
+four-at-requires c κs = search needs
+
+solid-of-requires : tie.Need-solid-of-requires
+solid-of-requires c κs = search needs
+
+reversed-requires : tie.Need-reversed-requires
+reversed-requires c κs = search needs
+
+cut-requires : tie.Need-cut-requires
+cut-requires c κs = search needs
+
+returns-2 : tie.Need-returns-2
+returns-2 c =
+    let at-reversed = c .before in
+    let at-solid-of = at-reversed .before in
+    let at-four-at = at-solid-of .before in
+    let at-if1 = at-four-at .before in
+    let at-shared-slice-known = at-if1 .before in
+    let at-start = at-shared-slice-known .before in
+    let a = at-start .args in
+    let v = a .vram .now in
+    let x = at-four-at .four-at .result in
+    let b = c .cut .result in
+    let small : (k : _) → at v k < 256 = λ k. omega (arith, at-shared-slice-known .shared-slice-known .given k) in
+    let l : a .start < a .end = omega (arith, at-if1 .if1 .left) in
+    let n8 : a .end ≤ 8 = at-start .pre .0 in
+    let small8 : Fits w8 b = search needs in
+    byte-is b (solid (a .start) (a .end) (codeAt (at v) (a .addr))) (small8 .fits)
+    (λ k h.
+    sym (ap (λ n. bit n k) (c .cut .ensures)
+    ∙ part-solid v (a .addr) (a .start) (a .end) (a .end - a .start) k _ l n8 refl
+    (λ i g.
+    ap (λ n. bit n (a .start + i)) (at-reversed .reversed .ensures)
+    ∙ bit-number 8 _ (a .start + i) g
+    ∙ ap (λ n. bit n (7 - (a .start + i))) (at-solid-of .solid-of .ensures)
+    ∙ line-solid v (a .addr) x small (at-four-at .four-at .ensures) false (a .start) i)))
 
 pub character-line-sprite-bitmap-spec : {M : Type 1} → statement M
 character-line-sprite-bitmap-spec =
     tie.close
     (tie.spec
-    Inv-loop
-    μ-loop
-    shared-slice-read-p0
-    add-p1
-    shared-slice-read-p1
-    add-p2
-    shared-slice-read-p2
-    add-p3
-    shared-slice-read-p3
-    loop-holds
-    add-loop
-    add-color-code
-    sub-color-code
-    color-code-requires
-    mark-requires
-    add-i
-    loop-less
-    loop-again
-    returns)
+    returns
+    sub-n
+    four-at-requires
+    solid-of-requires
+    reversed-requires
+    cut-requires
+    returns-2)
