@@ -1,7 +1,7 @@
 //! Holds the library beside the published Rust and beside the model, call by call.
 //!
 //!   compare CALLS SEED [OURS]    random sessions from fresh devices, and states made by hand
-//!   compare rows SEED [OURS]     rows made to meet every rule of the picture, through the row step
+//!   compare rows SEED [EVERY] [OURS] rows made to meet every rule of the picture, through the row step; with EVERY each EVERYth of them, of refusals too
 //!   compare refusals SEED [OURS] every length near a right one, every area, every table, every way to damage a block
 //!   compare vectors COUNT SEED   writes the list of the Rust's answers that `replay` holds (see VECTORS.md)
 //!
@@ -188,7 +188,7 @@ fn hand_session(world: &mut World, counts: &mut Counts, left: u64, random: &mut 
 }
 
 fn usage() -> ! {
-    eprintln!("usage: compare CALLS SEED [--model|--tight] | compare rows|refusals SEED [--model|--tight] | compare vectors COUNT SEED");
+    eprintln!("usage: compare CALLS SEED [--model|--tight] | compare rows|refusals SEED [EVERY] [--model|--tight] | compare vectors COUNT SEED");
     std::process::exit(2)
 }
 
@@ -206,8 +206,10 @@ fn main() {
     let words: Vec<&str> = words.iter().map(|word| word.as_str()).collect();
     let number = |word: &str| word.parse::<u64>().unwrap_or_else(|_| usage());
     let differences = match words[..] {
-        ["rows", seed] => rows::run(number(seed), side),
-        ["refusals", seed] => refusals::run(number(seed), side),
+        ["rows", seed] => rows::run(number(seed), 1, side),
+        ["rows", seed, every] => rows::run(number(seed), number(every).max(1), side),
+        ["refusals", seed] => refusals::run(number(seed), 1, side),
+        ["refusals", seed, every] => refusals::run(number(seed), number(every).max(1), side),
         ["vectors", count, seed] => vectors::write(number(count), number(seed)),
         [calls, seed] => sessions(number(calls), number(seed), side),
         _ => usage(),

@@ -1,10 +1,11 @@
 //! Holds the home machine's calls for C beside the rules written a second time (dock.rs, home.rs); needs the library, and not the published Rust.
 //!
-//!   docks CALLS SEED [--tight]    the calls that are always made (lengths of every kind, blocks with each byte set to each value, blocks of the other machine,
+//!   docks CALLS SEED [--tight|--short] the calls that are always made (lengths of every kind, blocks with each byte set to each value, blocks of the other machine,
 //!                                 each scroll, X and palette byte, passes by both tables), then so many from states made by hand and from fresh devices
 //!   docks pixels STATES SEED      on so many states every pixel beside the library's own row step, and each row beside the second writing
 //!
-//! Compared are the answer, and every byte that was lent, with those around it. With --tight each buffer is lent as memory of its own (for a memory checker).
+//! Compared are the answer, and every byte that was lent, with those around it. With --tight each buffer is lent as memory of its own (for a memory checker); with
+//! --short only the memories and the passes of the calls that are always made are (for an emulator).
 //! Exit status 1 on any difference, and where an edge of the list (`due`) was not met; 2 on bad usage.
 
 #[allow(dead_code)]
@@ -1027,14 +1028,14 @@ fn passes(world: &mut World, random: &mut Random) -> Result<(), String> {
 const LONG_RUN: u64 = 50_000;
 
 /// The calls that are always made, and so many more; answers the exit status.
-fn run(calls: u64, seed: u64, tight: bool) -> i32 {
+fn run(calls: u64, seed: u64, tight: bool, short: bool) -> i32 {
     let mut world = World::new(seed, tight);
     let mut random = Random::new(seed);
     let parts: [(&str, fn(&mut World, &mut Random) -> Result<(), String>); 6] =
         [("lengths", lengths), ("damaged blocks", damaged), ("foreign blocks", foreign), ("sweeps", sweeps), ("memories", memories), ("passes", passes)];
     let mut done = Ok(());
     // (a memory checker is slow: there the calls that follow are enough)
-    for (name, part) in parts.iter().filter(|_| !tight) {
+    for (name, part) in parts.iter().filter(|(name, _)| !tight && (!short || ["memories", "passes"].contains(name))) {
         let before = world.calls;
         done = done.and_then(|()| part(&mut world, &mut random).map_err(|text| format!("{}: {}", name, text)));
         println!("{:>10}  {}", world.calls - before, name);
@@ -1054,7 +1055,7 @@ fn run(calls: u64, seed: u64, tight: bool) -> i32 {
         return 1;
     }
     let summed = format!("docks: {} calls that are always made and {} more, seed {}, 0 differences", always, world.calls - always, seed);
-    if calls < LONG_RUN || tight {
+    if calls < LONG_RUN || tight || short {
         println!("{}", summed);
         return 0;
     }
@@ -1115,7 +1116,7 @@ fn pixels(states: u64, seed: u64) -> i32 {
 }
 
 fn usage() -> ! {
-    eprintln!("usage: docks CALLS SEED [--tight] | docks pixels STATES SEED");
+    eprintln!("usage: docks CALLS SEED [--tight|--short] | docks pixels STATES SEED");
     std::process::exit(2)
 }
 
@@ -1125,8 +1126,9 @@ fn main() {
     let number = |word: &str| word.parse::<u64>().unwrap_or_else(|_| usage());
     std::process::exit(match words[..] {
         ["pixels", states, seed] => pixels(number(states), number(seed)),
-        [calls, seed] => run(number(calls), number(seed), false),
-        [calls, seed, "--tight"] => run(number(calls), number(seed), true),
+        [calls, seed] => run(number(calls), number(seed), false, false),
+        [calls, seed, "--tight"] => run(number(calls), number(seed), true, false),
+        [calls, seed, "--short"] => run(number(calls), number(seed), false, true),
         _ => usage(),
     });
 }

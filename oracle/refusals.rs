@@ -125,12 +125,12 @@ fn spoiled_calls() -> Vec<Call> {
     calls
 }
 
-/// Makes each call from a state made by hand of each shape; answers the number of differences (it stops at the first).
-pub fn run(seed: u64, side: Ours) -> u64 {
+/// Makes each call, or each `every`th, from a state made by hand of each shape; answers the number of differences (it stops at the first).
+pub fn run(seed: u64, every: u64, side: Ours) -> u64 {
     let mut random = Random::new(seed);
     let mut world = World::new(side, seed);
     let mut counts = Counts::default();
-    let calls = spoiled_calls();
+    let calls: Vec<Call> = spoiled_calls().into_iter().skip((seed % every) as usize).step_by(every as usize).collect();
     for some in calls.chunks(64) {
         for shape in SHAPES {
             let (block, video) = made_by_hand(&mut random, shape);

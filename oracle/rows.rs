@@ -10,12 +10,13 @@ use rules::call::Call;
 use crate::world::{Ours, World};
 use crate::Counts;
 
-/// Draws all the rows; answers the number of differences (it stops at the first).
-pub fn run(seed: u64, side: Ours) -> u64 {
+/// Draws all the rows, or each `every`th of them; answers the number of differences (it stops at the first).
+pub fn run(seed: u64, every: u64, side: Ours) -> u64 {
     let mut random = Random::new(seed);
     let mut world = World::new(side, seed);
     let mut counts = Counts::default();
-    let total = 2 * (3 * 256 * 2 * 2 * 2 * 8 / 4 * 5);
+    let total = 2 * (3 * 256 * 2 * 2 * 2 * 8 / 4 * 5) / every;
+    let mut turn = seed;
     for area in [Area::Visible, Area::Effective, Area::TrueEdges] {
         for x in 0..=255u8 {
             for shape in 0..64u8 {
@@ -23,6 +24,10 @@ pub fn run(seed: u64, side: Ours) -> u64 {
                 let one = &SHAPES[random.below(2)..][..1];
                 let other = if x.wrapping_add(shape) % 4 == 0 { &SHAPES[2..] } else { &[] };
                 for kind in one.iter().chain(other) {
+                    turn += 1;
+                    if turn % every != 0 {
+                        continue;
+                    }
                     let (block, video) = scene(&mut random, *kind, area, x, [early, tall, high, scroll]);
                     let plain = Call::row_step(area, 0);
                     for call in [plain.clone(), plain.with_layers(area.width())] {

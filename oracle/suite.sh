@@ -1,7 +1,7 @@
 #!/usr/bin/env bash
 # suite.sh: what stands outside the proofs, beside the rules written a second time and beside the published Rust: the player's file, the trace
 # programs, the library as it is shipped and as `make native` makes it. Needs what `make build native` builds.
-# CALLS, SEED and TRACES may be set. Last line: 'N passed, M failed', with ', K skipped' where the published Rust is not at hand.
+# CALLS, HOME_CALLS, SEED and TRACES may be set. Last line: 'N passed, M failed', with ', K skipped' where the published Rust is not at hand.
 set -u
 cd "$(dirname "$0")/.."
 . tools/cross.sh
@@ -9,6 +9,14 @@ cd "$(dirname "$0")/.."
 out=build/outside
 mkdir -p $out
 . tools/tell.sh
+
+# The library as it is shipped is x86-64 code. Where an emulator runs that, it takes a share, and the library for this machine, of the same module, the rest:
+# as many calls in all, and the sweeps whole. The shares are a seventh, a tenth and a sixteenth.
+calls=${CALLS:-350000} here=${CALLS:-350000} homes=${HOME_CALLS:-50000} homes_here=${HOME_CALLS:-50000} every=1 short=
+if [ -n "$RUN" ]; then
+    here=$((2 * calls - calls / 7)) homes_here=$((2 * homes - homes / 10)) every=16 short=--short
+    calls=$((calls / 7)) homes=$((homes / 10))
+fi
 
 # The player's file.
 $RUSTC --edition 2021 -O --test player/tests.rs -L native=build -o $out/player && $RUN $out/player
@@ -35,12 +43,12 @@ build/oracle/homes snapshot $((${TRACES:-1000} / 10)) "${SEED:-1}" build/bin/hom
 tell "the home machine: snapshots beside them" $?
 
 # Its calls for C beside the same, on the library for this machine and as it is shipped; and the second writing beside itself.
-HERE_LIB=build/native/libvdp.a sh oracle/build.sh docks-here && build/oracle/here/docks "${HOME_CALLS:-50000}" "${SEED:-1}"
-tell "the home machine: ${HOME_CALLS:-50000} calls for C beside its rules written a second time, the library for this machine" $?
+HERE_LIB=build/native/libvdp.a sh oracle/build.sh docks-here && build/oracle/here/docks $homes_here "${SEED:-1}"
+tell "the home machine: $homes_here calls for C beside its rules written a second time, the library for this machine" $?
 build/oracle/here/docks pixels "${HOME_STATES:-20}" "${SEED:-1}"
 tell "the home machine: every pixel of ${HOME_STATES:-20} states beside the row step" $?
-sh oracle/build.sh docks && $RUN build/oracle/docks "${HOME_CALLS:-50000}" "${SEED:-1}"
-tell "the home machine: the same calls, the library as it is shipped" $?
+sh oracle/build.sh docks && $RUN build/oracle/docks $homes "${SEED:-1}" $short
+tell "the home machine: $homes of the same calls, the library as it is shipped" $?
 HERE_LIB= sh oracle/build.sh docks-here && build/oracle/here/docks 1000 "${SEED:-1}"
 tell "the home machine: the second writing beside itself" $?
 # The C example with the library and with the second writing in its place; and the second writing's picture of its recording.
@@ -63,14 +71,16 @@ tell "the library for this machine: the same repairs" $?
 
 # The library beside the published Rust.
 if has_gears; then
-    sh oracle/build.sh compare && $RUN build/oracle/compare rows "${SEED:-1}"
+    sh oracle/build.sh compare && $RUN build/oracle/compare rows "${SEED:-1}" $every
     tell "rows beside the Rust" $?
-    $RUN build/oracle/compare refusals "${SEED:-1}"
+    $RUN build/oracle/compare refusals "${SEED:-1}" $every
     tell "lengths, areas and damaged blocks of every kind" $?
-    $RUN build/oracle/compare "${CALLS:-350000}" "${SEED:-1}"
-    tell "calls beside the Rust" $?
-    HERE_LIB=build/native/libvdp.a sh oracle/build.sh here && build/oracle/here/compare rows "${SEED:-1}" && build/oracle/here/compare "${CALLS:-350000}" "${SEED:-1}"
-    tell "the library for this machine: rows and calls beside the Rust" $?
+    $RUN build/oracle/compare $calls "${SEED:-1}"
+    tell "$calls calls beside the Rust" $?
+    HERE_LIB=build/native/libvdp.a sh oracle/build.sh here && build/oracle/here/compare rows "${SEED:-1}" && build/oracle/here/compare $here "${SEED:-1}"
+    tell "the library for this machine: rows and $here calls beside the Rust" $?
+    build/oracle/here/compare refusals "${SEED:-1}"
+    tell "the library for this machine: lengths, areas and damaged blocks of every kind" $?
     $RUN build/oracle/compare vectors 65536 1 | cmp - crates/replay/stdin
     tell "the list that replay holds is the Rust's, made anew" $?
     $RUSTC --edition 2021 -O player/swap.rs -L native=build -o $out/swap && $RUN $out/swap
