@@ -1,7 +1,7 @@
 #!/usr/bin/env bash
 # run.sh: every test there is, and their sum. Each suite is a command whose last line is 'N passed, M failed' (', K skipped' may follow).
-# First the proofs, from nothing, on all processors; then everything is built, once; then the suites, side by side, each shown whole when it has ended. A
-# table then says where the time went. The last line is the sum of all; the exit status is 0 only where nothing failed and every suite said so itself.
+# First the proofs, from nothing, on all processors; beside the edits, with which these end, everything is built, once; then the suites, side by side, each
+# shown whole when it has ended. A table then says where the time went. The last line is the sum of all; the exit status is 0 only where nothing failed and every suite said so itself.
 set -u
 cd "$(dirname "$0")/.."
 logs=build/test
@@ -68,24 +68,34 @@ fi
 rm -rf build/bin build/libvdp.a build/native build/modules build/cross build/toolchain build/oracle $logs
 mkdir -p $logs
 
+# What the suites test, made once, in a copy of the project beside the edits: rt has proved every crate when it begins with these, and leaves a processor idle
+# now and then. What was made comes here when both have ended. A suite that is run by itself makes what it tests.
+copy=$(mktemp -d)
+chmod 755 "$copy"
+bash tools/whole.sh bash tools/make-copy.sh "$copy" "$logs" build native desk page &
+beside=$!
+trap 'kill "$beside" 2>/dev/null; wait "$beside" 2>/dev/null; rm -rf "$copy"' EXIT
+trap 'exit 130' INT
+trap 'exit 143' TERM
+
 printf '\n== proofs\n'
 began=$(date +%s)
 RT_JOBS=${RT_JOBS:-$(sh tools/jobs.sh)} rt ci 2>&1 </dev/null | tee $logs/proofs.log
 echo "${PIPESTATUS[0]} $(($(date +%s) - began))" >$logs/proofs.end
 count proofs
 
-# What the suites test, made once; a suite that is run by itself makes it.
 printf '\n== make\n'
-try make make --no-print-directory build native desk page
+wait "$beside"
 cat $logs/make.log
+cp -a "$copy/build/." build/
 read -r status seconds <$logs/make.end
-tell "make build native desk page ($seconds s)" "$status"
+tell "make build native desk page ($seconds s, beside the edits)" "$status"
 export BUILT=1
 
-# The longest first, so that none of them is left alone at the end.
+# The longest first, so that none of them is left alone at the end; one more at a time than there are processors, since some wait.
 running=
 for name in outside page desk targets bus $(basename -s .sh tests/[a-z]*.sh | grep -vxE 'run|begin|outside|page|desk|targets|bus'); do
-    while [ "$(wc -w <<<"$running")" -ge "$processors" ]; do
+    while [ "$(wc -w <<<"$running")" -gt "$processors" ]; do
         wait -n
         show
     done
