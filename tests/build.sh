@@ -84,7 +84,7 @@ later crates/trace/src/main.rt
 made "after a change of a program: the library stays" "check " build
 later crates/face/specs/Face.antt
 made "after a change of the library: the programs stay" "check staticlib " build
-later crates/demands/specs/Pass.antt
+later crates/passes/specs/Pass.antt
 made "after a change of neither: nothing is made" "" build
 later crates.txt
 made "after a change of crates.txt" "check check staticlib " build

@@ -38,27 +38,27 @@ sh $work/shown.sh | cmp $work/1.trace -
 tell 'the trace that is shown with printf is the first' $?
 
 # The theorems, each on one line.
-theorems=$(for file in crates/demands*/proofs/*.antt; do awk '/^ / { sub(/^ +/, " "); printf "%s", $0; next } { printf "\n%s", $0 }' "$file"; done)
+theorems=$(for file in crates/passes/proofs/*.antt crates/demands*/proofs/*.antt; do awk '/^ / { sub(/^ +/, " "); printf "%s", $0; next } { printf "\n%s", $0 }' "$file"; done)
 # proved THEOREM STATEMENT: there is one of this name, of this statement.
 proved() { grep -qE "^pub $1 : .*→ $2 " <<<"$theorems"; }
 
 # The theorems by which 7 is struck.
 for both in 'never-seven NeverSeven' 'face-never-seven FaceNeverSeven' 'never-seven-home NeverSeven' 'face-never-seven-home FaceNeverSeven'; do
     read -r theorem statement <<<"$both"
-    grep -q "\`$theorem\`" $book && proved "$theorem" "$statement" && grep -q "^ *pub record $statement " crates/demands*/specs/Seven.antt
+    grep -q "\`$theorem\`" $book && proved "$theorem" "$statement" && grep -q "^ *pub record $statement " crates/passes/specs/Seven.antt crates/demands*/specs/Seven.antt
     tell "$theorem is proved by that name" $?
 done
 
 # When a write shows: what stands in brackets on that part of the page is a theorem, a field of one, or a definition.
 for both in 'write-shows-visible WriteShows' 'count-waits CountWaits'; do
     read -r theorem statement <<<"$both"
-    grep -q "(\`$theorem\`" $book && proved "$theorem" "$statement" && grep -q "^pub record $statement " crates/demands/specs/Shows.antt
+    grep -q "(\`$theorem\`" $book && proved "$theorem" "$statement" && grep -q "^pub record $statement " crates/passes/specs/Shows.antt
     tell "$theorem is proved by that name" $?
 done
 names=$(sed -n '/^## When does each write show/,/^## On other players/p' $book | grep -oE '\([^()]*`[^()]*\)' | grep -oE '`[A-Za-z0-9-]+`' | tr -d '`' | sort -u)
 status=0
 for name in $names; do
-    grep -rqE --include='*.antt' "^ *((unfoldable|abbrev) )?pub $name( |\$)" crates/*/specs crates/demands/proofs || { echo "no such theorem or definition: $name"; status=1; }
+    grep -rqE --include='*.antt' "^ *((unfoldable|abbrev) )?pub $name( |\$)" crates/*/specs crates/passes/proofs crates/demands/proofs || { echo "no such theorem or definition: $name"; status=1; }
 done
 [ "$(wc -w <<<"$names")" -ge 20 ] && [ $status -eq 0 ]
 tell "what is cited in brackets is there: $(wc -w <<<"$names") names" $?

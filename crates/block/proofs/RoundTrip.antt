@@ -17,9 +17,9 @@ use Rattle.raster.specs.declared.LineTable.{LineTable}
 use Rattle.raster.specs.declared.LineTable.the-variants.{Steps261, Steps262}
 use Rattle.raster.specs.Raster.{lineTableNumber, lineTableFrom}
 use Rattle.vdp.specs.declared.VdpState.{VdpState}
-use Rattle.inplace.specs.Fields.{flagFrom, chosenFrom, latchFlag, latchFrom, latchFits}
-use Rattle.inplace.proofs.Fields.{flag-back, flag-ok, flag-in, chosen-back, chosen-ok, chosen-in, latch-back, latch-ok, latch-flag-in, latch-byte-in}
-use Rattle.inplace.proofs.Fields.{byte-ok, address-back}
+use Rattle.fields.specs.Fields.{flagFrom, chosenFrom, latchFlag, latchFrom, latchFits}
+use Rattle.fields.proofs.Fields.{flag-back, flag-ok, flag-in, chosen-back, chosen-ok, chosen-in, latch-back, latch-ok, latch-flag-in, latch-byte-in}
+use Rattle.fields.proofs.Fields.{byte-ok, address-back}
 use Rattle.block_parts.specs.Parts.{registersIn, colourBytes, coloursFrom, fieldsFit}
 use Rattle.block_parts.proofs.Copies.{length-colourBytes, colours-back, colours-in}
 use Rattle.block_parts.proofs.Fields.{fit}

@@ -24,7 +24,7 @@ use Rattle.vdp.specs.Device.{device, made, frontOf, withFront, withPaletteByte,
 use Rattle.front.specs.Ports.{frontWrite, frontRead}
 use Rattle.vdp.specs.Ports.{oddPalette, paletteWrite, portWrite, portRead}
 use Rattle.front.proofs.Kept.{write-kept, read-registers}
-use Rattle.inplace.specs.Fields.{latchByte, latchFrom}
+use Rattle.fields.specs.Fields.{latchByte, latchFrom}
 use Rattle.block_parts.proofs.Copies.{length-coloursFrom, colour-low}
 use Rattle.block.specs.Block.{wellFormed, stateOf, Shape}
 use Rattle.block.proofs.Whole.{long}

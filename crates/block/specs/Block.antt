@@ -13,8 +13,8 @@ use Rattle.raster.specs.declared.LineTable.the-variants.{Steps261, Steps262}
 use Rattle.raster.specs.Raster.{lineTableNumber, lineTableFrom}
 use Rattle.vdp.specs.declared.VdpState.{VdpState}
 use Rattle.vdp.specs.Device.{made}
-use Rattle.inplace.specs.Fields.{flagOf, flagFrom, chosenOf, chosenFrom, latchFlag, latchByte, latchFrom, latchFits}
-use Rattle.inplace.specs.InPlace.{addressIn}
+use Rattle.fields.specs.Fields.{flagOf, flagFrom, chosenOf, chosenFrom, latchFlag, latchByte, latchFrom, latchFits}
+use Rattle.fields.specs.Stored.{addressIn}
 use Rattle.block_parts.specs.Parts.{registersIn, rasterIn, colourBytes, coloursFrom, fieldsFit}
 
 -- R7.5: the bytes of the first version, which knows table 0 alone, and of the second; so its length n tells a block's version, and its mark

@@ -5,9 +5,9 @@ ghost use Rattle.laws.specs.Lists.{at};
 ghost use lib.ListN.{length};
 ghost use Rattle.block_parts.specs.Parts.{rasterStored, cacheStored};
 ghost use Rattle.block.specs.Block.{oldSize, markOf, fits, freshIn, stateOf, wellFormed};
-use inplace::MARK;
-use inplace::MARK_FIRST;
-use inplace::MARK_SECOND;
+use fields::MARK;
+use fields::MARK_FIRST;
+use fields::MARK_SECOND;
 use raster::LineTable;
 use raster::Raster;
 

@@ -8,7 +8,7 @@ use borrow.Author.Tests.{leb-true}
 use lib.Dec.{leb}
 use Rattle.laws.specs.Lists.{at}
 use Rattle.laws.proofs.Tests.{both}
-use Rattle.inplace.specs.Fields.{latchFits}
+use Rattle.fields.specs.Fields.{latchFits}
 use Rattle.block_parts.specs.Parts.{fieldsFit}
 
 pub record Fit (b : List ℕ) : Type 0 where

@@ -9,8 +9,8 @@ use lib.Seq.{drop-at, drop-drop}
 use Rattle.laws.specs.Lists.{at}
 use Rattle.laws.proofs.Parts.{at-past, set-past}
 use Rattle.front.specs.declared.Front.{Front}
-use Rattle.inplace.specs.Fields.{chosenOf, latchFlag, latchByte}
-use Rattle.inplace.specs.InPlace.{frontEnd, frontStored, addressStored, FrontFormed}
+use Rattle.fields.specs.Fields.{chosenOf, latchFlag, latchByte}
+use Rattle.fields.specs.Stored.{frontEnd, addressStored, frontStored, FrontFormed}
 use Rattle.block_parts.specs.Parts.{fieldsFit}
 use Rattle.block_parts.proofs.Fields.{fit}
 

@@ -12,7 +12,7 @@ use Rattle.laws.specs.Paint.{byteOfColour, fourAt}
 use Rattle.laws.specs.Table.{table}
 use Rattle.raster.specs.declared.Raster.{Raster}
 use Rattle.raster.specs.declared.LineTable.{LineTable}
-use Rattle.inplace.specs.Fields.{flagOf, flagFrom, latchFits}
+use Rattle.fields.specs.Fields.{flagOf, flagFrom, latchFits}
 
 -- ---- what is read
 abbrev pub registersIn : List ℕ → List ℕ

@@ -4,19 +4,19 @@ ghost use Prim.Native.Nat.{_+_, _≤_, _<_};
 ghost use Rattle.laws.specs.Lists.{at};
 ghost use lib.ListN.{length, drop, replicate};
 ghost use lib.Seq.{paste};
-ghost use Rattle.inplace.specs.InPlace.{frontEnd};
+ghost use Rattle.fields.specs.Stored.{frontEnd};
 ghost use Rattle.block_parts.specs.Parts.{registersIn, rasterIn, colourBytes, colourAt, coloursFrom, fieldsFit, rasterStored, cacheStored, stamped};
-use inplace::CHOSEN;
-use inplace::COMMAND_BYTE;
-use inplace::COMMAND_LATCHED;
-use inplace::COUNTER;
-use inplace::JUMPED;
-use inplace::LINE_COUNT;
-use inplace::MARK;
-use inplace::MARK_FIRST;
-use inplace::MARK_SECOND;
-use inplace::REGISTERS;
-use inplace::STATUS;
+use fields::CHOSEN;
+use fields::COMMAND_BYTE;
+use fields::COMMAND_LATCHED;
+use fields::COUNTER;
+use fields::JUMPED;
+use fields::LINE_COUNT;
+use fields::MARK;
+use fields::MARK_FIRST;
+use fields::MARK_SECOND;
+use fields::REGISTERS;
+use fields::STATUS;
 use raster::LineTable;
 use raster::Raster;
 
@@ -167,7 +167,7 @@ pub fn store_raster(block: &mut [u8], scroll: usize, status: u8, raster: Raster)
 {
     block[STATUS] = status;
     block[COUNTER] = raster.v_counter;
-    block[JUMPED] = inplace::flag_of(raster.v_counter_jumped);
+    block[JUMPED] = fields::flag_of(raster.v_counter_jumped);
     block[LINE_COUNT] = raster.line_interrupt_counter;
     block[scroll] = raster.vertical_scroll;
 }

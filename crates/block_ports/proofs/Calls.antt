@@ -15,7 +15,8 @@ use Rattle.vdp.specs.Ports.{portWrite, portRead}
 use Rattle.front.proofs.Kept.{write-kept, inside}
 use Rattle.inplace.specs.declared.Sent.{Sent}
 use Rattle.inplace.specs.declared.Got.{Got}
-use Rattle.inplace.specs.InPlace.{addressIn, frontIn, SentInPlace, GotInPlace}
+use Rattle.fields.specs.Stored.{addressIn, frontIn}
+use Rattle.inplace.specs.InPlace.{SentInPlace, GotInPlace}
 use Rattle.block.specs.Block.{stateOf, blockOf, wellFormed, Sized}
 use Rattle.block.proofs.Whole.{long}
 use Rattle.block.proofs.Stores.{sized-state}

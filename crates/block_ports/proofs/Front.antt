@@ -10,7 +10,7 @@ use Rattle.laws.specs.Lists.{at}
 use Rattle.front.specs.declared.Front.{Front}
 use Rattle.vdp.specs.declared.VdpState.{VdpState}
 use Rattle.vdp.specs.Device.{frontOf, withFront}
-use Rattle.inplace.specs.InPlace.{frontIn, frontStored, FrontFormed}
+use Rattle.fields.specs.Stored.{frontIn, frontStored, FrontFormed}
 use Rattle.block_parts.proofs.Front as in-block
 use Rattle.block.specs.Block.{head, small, last, blockOf, stateOf, wellFormed, Sized}
 use Rattle.block.proofs.Whole.{long}

@@ -17,9 +17,9 @@ use Rattle.front.specs.declared.Latch.the-variants.{Empty, Held}
 use Rattle.refusal.specs.declared.Refusal.the-variants.{Accepted, NoPaletteByte}
 use Rattle.vdp.specs.Device.{withPaletteByte, withAddr, withPalette}
 use Rattle.front.specs.Front.{changed}
-use Rattle.inplace.specs.Fields.{flagOf, latchFrom}
-use Rattle.inplace.specs.InPlace.{addressIn, latchStored, addressStored, colourStored}
-use Rattle.inplace.proofs.Fields.{flag-back, latch-back, address-back}
+use Rattle.fields.specs.Fields.{flagOf, latchFrom}
+use Rattle.fields.specs.Stored.{addressIn, latchStored, addressStored, colourStored}
+use Rattle.fields.proofs.Fields.{flag-back, latch-back, address-back}
 use Rattle.block_parts.specs.Parts.{colourBytes}
 use Rattle.block_parts.proofs.Copies.{length-colourBytes}
 use Rattle.block_parts.proofs.Format.{palette-at, palette-set}

@@ -6,7 +6,7 @@ ghost use Prim.Native.Nat.{ℕ, _≤_, _<_};
 ghost use lib.ListN.{length};
 ghost use Rattle.laws.specs.Sizes.{cramSize};
 ghost use Rattle.vdp.specs.declared.VdpState.{VdpState};
-ghost use Rattle.inplace.specs.InPlace.{addressIn};
+ghost use Rattle.fields.specs.Stored.{addressIn};
 ghost use Rattle.block.specs.Block.{oldSize, blockOf, wellFormed, Sized};
 ghost use Rattle.block_ports.specs.InPlace.{PaletteInPlace, OutInPlace, InputInPlace};
 use block::DIRTY;
@@ -22,21 +22,21 @@ fn write_palette(block: &mut [u8], val: u8) -> Refusal
     requires { ⌜ (oldSize ≤ length (now block)) × (addressIn (now block) < cramSize) ⌝ }
     ensures { λ r. ⌜ ((n : ℕ) (s : VdpState) → Sized s → now (block .entry) ≡ blockOf n s → PaletteInPlace n s val r (now (block .exit))) ⌝ }
 {
-    let addr = inplace::address_in(block);
+    let addr = fields::address_in(block);
     let next = (addr + 1) % CRAM_SIZE;
     if addr % 2 == 0 {
-        inplace::store_latch(block, PALETTE_LATCHED, Latch::Held(val));
-        inplace::store_address(block, next);
+        fields::store_latch(block, PALETTE_LATCHED, Latch::Held(val));
+        fields::store_address(block, next);
         return Refusal::Accepted;
     }
-    let latch = inplace::latch_in(block, PALETTE_LATCHED);
+    let latch = fields::latch_in(block, PALETTE_LATCHED);
     let Latch::Held(low) = latch else {
         return Refusal::NoPaletteByte;
     };
     let here = addr as usize;
-    inplace::store_colour(block, PALETTE, DIRTY, here - 1, low);
-    inplace::store_colour(block, PALETTE, DIRTY, here, val % 16);
-    inplace::store_address(block, next);
+    fields::store_colour(block, PALETTE, DIRTY, here - 1, low);
+    fields::store_colour(block, PALETTE, DIRTY, here, val % 16);
+    fields::store_address(block, next);
     Refusal::Accepted
 }
 

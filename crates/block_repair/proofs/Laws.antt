@@ -20,7 +20,7 @@ use Rattle.laws.proofs.Tests.{split, clash, either}
 use Rattle.colour.specs.Colour.{coloursOf}
 use Rattle.refusal.specs.declared.Refusal.the-variants.{Accepted, BlockMalformed, ListLength}
 use Rattle.vdp.specs.Refusals.{size}
-use Rattle.inplace.specs.Fields.{chosenFrom}
+use Rattle.fields.specs.Fields.{chosenFrom}
 use Rattle.block.specs.Block.{sized, stateOf}
 use Rattle.block_repair.specs.declared.Repaired.{Repaired}
 use Rattle.block_repair.specs.Repair.{within, matching, mendedAt, mended, differing, changes, RepairLeaves}

@@ -19,7 +19,7 @@ use Rattle.front.specs.declared.WriteDest.{WriteDest}
 use Rattle.front.specs.declared.WriteDest.the-variants.{None, Vram, Cram}
 use Rattle.vdp.specs.Refusals.{size}
 use Rattle.block.specs.Block.{sized, markOf, stateOf, wellFormed}
-use Rattle.inplace.specs.Fields.{flagFrom, chosenFrom, latchFits}
+use Rattle.fields.specs.Fields.{flagFrom, chosenFrom, latchFits}
 use Rattle.block_parts.specs.Parts.{colourAt, coloursFrom}
 use Rattle.block.proofs.Whole.{sized-low}
 use Rattle.block.proofs.RoundTrip.{Said, said}

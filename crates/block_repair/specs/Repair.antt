@@ -13,7 +13,7 @@ use Rattle.colour.specs.Colour.{coloursOf}
 use Rattle.refusal.specs.declared.Refusal.the-variants.{BlockMalformed, ListLength}
 use Rattle.vdp.specs.Refusals.{size}
 use Rattle.refusal.specs.Refusals.{Line, line, first, under}
-use Rattle.inplace.specs.Fields.{chosenFrom}
+use Rattle.fields.specs.Fields.{chosenFrom}
 use Rattle.block.specs.Block.{blockSize, sized, markOf, stateOf}
 use Rattle.block_repair.specs.declared.Repaired.{Repaired}
 

@@ -36,17 +36,17 @@ use Rattle.vdp.specs.Ports.{stored, writtenBy, portWrite}
 use Rattle.points.specs.declared.DrawnRow.the-variants.{Drawn}
 use Rattle.step.specs.Step.{frameLines, frameStep}
 use Rattle.demands.specs.Handheld.{after, handheld}
-use Rattle.demands.specs.Pass.{Run, watched, deviceAfter, then, until, ready, answer, frameAt, pass, lineSet, pictureAt}
-use Rattle.demands.specs.Split.{New, Split, pixelAtEnd, Twins, Changed}
+use Rattle.passes.specs.Pass.{Run, watched, deviceAfter, then, until, ready, answer, frameAt, pass, lineSet, pictureAt}
+use Rattle.passes.specs.Split.{New, Split, pixelAtEnd, Twins, Changed}
 use Rattle.demands.specs.Author.{recoloured, Asks, AsksNot, newPalette, Answered, numberAt, WhichBytes, asked, unasked}
 use Rattle.points.proofs.Laws.{frame-passes, frame-memory}
 use Rattle.step.proofs.Laws.{stepped-reg, stepped-cram, stepped-command}
 use Rattle.demands.proofs.Steps.{frame-taken, accepts}
-use Rattle.demands.proofs.Lines.{line-next}
-use Rattle.demands.proofs.Demand3.{after-step, line-of, scroll-at}
-use Rattle.demands.proofs.Chart.{own-place}
-use Rattle.demands.proofs.Split.{rising, set-row, four-at}
-use Rattle.demands.proofs.Shows.{scroll-waits}
+use Rattle.passes.proofs.Lines.{line-next}
+use Rattle.passes.proofs.Demand3.{after-step, line-of, scroll-at}
+use Rattle.passes.proofs.Chart.{own-place}
+use Rattle.passes.proofs.Split.{rising, set-row, four-at}
+use Rattle.passes.proofs.Shows.{scroll-waits}
 use Rattle.demands.proofs.Handheld.{handheld-lawful, steps, other-colours, new-rows-visible, changed-visible}
 
 -- the palette, the registers of a fresh device, and that no command byte is latched

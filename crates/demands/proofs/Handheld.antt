@@ -49,22 +49,22 @@ use Rattle.points.proofs.Laws.{row-refusing, frame-refusing, frame-fits, frame-
 use Rattle.step.proofs.Pixels.{pixel-exact}
 use Rattle.face.proofs.Exact.{none}
 use Rattle.tile_codes.specs.Calls.{readTileLines, writeTileLines, readTileRefusal, writeTileRefusal}
-use Rattle.demands.specs.Machine.{Told}
+use Rattle.passes.specs.Machine.{Told}
 use Rattle.demands.specs.Handheld.{Call, out, input, frame-step, row-step, layer-frame-step, layer-row-step, dump-tileset, pixel-at, write-tile}
 use Rattle.demands.specs.Handheld.{read-tile, layerFrameStep, layerRowStep, after, refusalOf, told, Steps, handheld}
-use Rattle.demands.specs.Pass.{History, NoStepOn, Run, watched, pass, ready, answer, lineSet, frameAt, rowAtEnd, pictureAt, Demand3}
-use Rattle.demands.specs.Chart.{chartLine, Charted, comesAt, placeSet}
-use Rattle.demands.specs.Rows.{lastTwice, EffectiveRows}
-use Rattle.demands.specs.Split.{Moment, NewRows, Split, ColourSplit, Ninety, OnlyColour, Twins, Changed}
-use Rattle.demands.specs.Shows.{SameUntil, WriteShows}
-use Rattle.demands.proofs.Counter.{line}
-use Rattle.demands.proofs.Lines.{line-next}
-use Rattle.demands.proofs.Lawful.{stays, ticks, Clean, Left, Lawful}
+use Rattle.passes.specs.Pass.{History, NoStepOn, Run, watched, pass, ready, answer, lineSet, frameAt, rowAtEnd, pictureAt, Demand3}
+use Rattle.passes.specs.Chart.{chartLine, Charted, comesAt, placeSet}
+use Rattle.demands.specs.Numbers.{lastTwice, EffectiveRows, Ninety}
+use Rattle.passes.specs.Split.{Moment, NewRows, Split, ColourSplit, OnlyColour, Twins, Changed}
+use Rattle.passes.specs.Shows.{SameUntil, WriteShows}
+use Rattle.passes.proofs.Counter.{line}
+use Rattle.passes.proofs.Lines.{line-next}
+use Rattle.passes.proofs.Lawful.{stays, ticks, Clean, Left, Lawful}
 use Rattle.demands.proofs.Answers.{NotSeven, without, line-alone, end-line}
-use Rattle.demands.proofs.Demand3.{line-of, same-length, rows-drawn, demand3}
-use Rattle.demands.proofs.Chart.{charted, in-chart, order, own-place, in-order}
-use Rattle.demands.proofs.Split.{set-row, later, drawn-later, new-rows, colour-split, changed}
-use Rattle.demands.proofs.Shows.{write-shows}
+use Rattle.passes.proofs.Demand3.{line-of, same-length, rows-drawn, demand3}
+use Rattle.passes.proofs.Chart.{charted, in-chart, order, own-place, in-order}
+use Rattle.passes.proofs.Split.{set-row, later, drawn-later, new-rows, colour-split, changed}
+use Rattle.passes.proofs.Shows.{write-shows}
 use Rattle.demands.proofs.Steps.{colours-now, stepped-clean, is-stepped, refused-raster, frame-taken}
 
 -- ---- a call

@@ -1,7 +1,7 @@
 -- The home machine is a lawful machine, and what the demands say of it.
 -- Assumes nothing.
 use mathlib.Core.Path.{_≡_, refl, sym, _∙_, ap, subst}
-use mathlib.Core.Logic.{_↔_, _≢_, inl, inr, ⊎-elim}
+use mathlib.Core.Logic.{_↔_, _≢_}
 use mathlib.Core.Bool.{true, false}
 use mathlib.Core.List.{List}
 use Prim.Native.Nat.{ℕ, suc, _+_, _≤_, _<_}
@@ -9,7 +9,7 @@ use native.Mathlib.Omega.{arith}
 use lib.Dec.{ltb}
 use lib.ListN.{length, set, List·getD-eq-default}
 use lib.Seq.{getD-set-other}
-use borrow.Author.Tests.{lt-ltb, ltb-true, ltb-false}
+use borrow.Author.Tests.{ltb-true, ltb-false}
 use Rattle.laws.specs.Bits.{bit}
 use Rattle.laws.specs.Lists.{at, rowOf}
 use Rattle.laws.proofs.Tests.{split}
@@ -41,23 +41,23 @@ use Rattle.home.proofs.Laws.{step-exact, step-either, is-stepped, refused-raste
 use Rattle.home.proofs.Laws.{stepped-aimed, stepped-clean, stepped-interrupt, colours-now, frame-step-length, frame-step-other, frame-step-here}
 use Rattle.tile_codes.specs.Calls.{readTileLines, writeTileLines, readTileRefusal, writeTileRefusal}
 use Rattle.face.proofs.Exact.{none, never}
-use Rattle.demands.specs.Machine.{Told}
+use Rattle.passes.specs.Machine.{Told}
 use Rattle.demands.specs.Home.{Call, out, input, frame-step, row-step, dump-tileset, write-tile, read-tile, after, refusalOf, told, Steps, home, NeverSix}
-use Rattle.demands.specs.Pass.{History, NoStepOn, Run, watched, pass, ready, answer, frameAt, Demand3}
-use Rattle.demands.specs.Chart.{TableKept, Charted}
-use Rattle.demands.specs.Rows.{RowsDrawn}
-use Rattle.demands.specs.Interrupts.{FromLine0, FirstPass}
-use Rattle.demands.specs.Split.{Moment, firstNew, NewRows, Split, ColourSplit, FirstAtHome, OnlyColour, Twins, Changed}
-use Rattle.demands.specs.Shows.{SameUntil, WriteShows}
-use Rattle.demands.proofs.Counter.{line}
-use Rattle.demands.proofs.Lawful.{stays, ticks, Clean, Left, Lawful}
+use Rattle.passes.specs.Pass.{History, NoStepOn, Run, watched, pass, ready, answer, frameAt, Demand3}
+use Rattle.passes.specs.Chart.{TableKept, Charted}
+use Rattle.passes.specs.Rows.{RowsDrawn}
+use Rattle.passes.specs.Interrupts.{FromLine0, FirstPass}
+use Rattle.passes.specs.Split.{Moment, NewRows, Split, ColourSplit, OnlyColour, Twins, Changed}
+use Rattle.passes.specs.Shows.{SameUntil, WriteShows}
+use Rattle.passes.proofs.Counter.{line}
+use Rattle.passes.proofs.Lawful.{stays, ticks, Clean, Left, Lawful}
 use Rattle.demands.proofs.Answers.{NotSeven, without, line-alone, end-line}
-use Rattle.demands.proofs.Sound.{table-kept}
-use Rattle.demands.proofs.Interrupts.{from-line-0, first-pass}
-use Rattle.demands.proofs.Demand3.{same-length, rows-drawn, demand3}
-use Rattle.demands.proofs.Chart.{charted}
-use Rattle.demands.proofs.Split.{new-rows, colour-split, changed}
-use Rattle.demands.proofs.Shows.{write-shows}
+use Rattle.passes.proofs.Sound.{table-kept}
+use Rattle.passes.proofs.Interrupts.{from-line-0, first-pass}
+use Rattle.passes.proofs.Demand3.{same-length, rows-drawn, demand3}
+use Rattle.passes.proofs.Chart.{charted}
+use Rattle.passes.proofs.Split.{new-rows, colour-split, changed}
+use Rattle.passes.proofs.Shows.{write-shows}
 
 -- ---- a call
 -- what only reads the device leaves it
@@ -230,26 +230,6 @@ rows-home r = rows-drawn home-lawful r
 -- which rows a change at any place of any pass reaches; from line 0, and from line 1
 pub new-rows-home : (t : LineTable) → NewRows t Home
 new-rows-home t = new-rows t Home home-once
-
-pub first-new-home : FirstAtHome
-first-new-home =
-    record {
-      next-row = λ L h. rw (lt-ltb L 192 (omega arith)) (omega arith);
-      none = λ L h. split (ltb L 192) (λ t. rw t (omega (arith, ltb-true L 192 t))) (λ t. rw t);
-      from-0 = λ t L y l h.
-          let b = new-rows-home t .from-top 0 L y (omega arith) (omega arith) l h in
-          (λ n. below L y h .0 (b .0 n), λ f. b .1 (below L y h .1 f));
-      first-pass = λ t L y o l h.
-          let b = new-rows-home t .begun 1 L y o l h in (
-            λ n. ⊎-elim (λ f. inl (below L y h .0 f)) (λ f. inr (omega arith)) (b .0 n),
-            λ f. b .1 (⊎-elim (λ g. inl (below L y h .1 g)) (λ g. inr (omega arith)) f),
-          );
-    }
-  where
-    below : (L y : ℕ) → y < 192 → (firstNew Home L ≤ y) ↔ (L < y)
-    below L y h =
-        split (ltb L 192) (λ t. rw t (λ f. omega arith, λ f. omega arith))
-        (λ t. rw t (λ f. absurd (omega arith), λ f. absurd (omega (arith, ltb-false L 192 t))))
 
 pub colour-split-home : (r : Run home tt) {L : ℕ} {old new : List ℕ} (s : Split (watched r) L old new) → ColourSplit s
 colour-split-home r s = colour-split home-lawful r s home-once

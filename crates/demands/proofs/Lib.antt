@@ -1,13 +1,4 @@
 -- The demands, proved.
-pub mod Counter
-pub mod Lines
-pub mod Lawful
-pub mod Sound
-pub mod Interrupts
-pub mod Demand3
-pub mod Chart
-pub mod Split
-pub mod Shows
 pub mod Steps
 pub mod Answers
 pub mod Handheld

@@ -1,10 +1,11 @@
 -- One outcome for every public contract: each theorem names the contract that the toolchain generates from the function's own clauses.
 -- Assumes nothing.
 use mathlib.Core.Path.{_≡_, refl, sym, ap, _∙_}
-use Prim.Native.Nat.{ℕ, _-_, _≤_}
+use Prim.Native.Nat.{ℕ, _+_, _-_, _%_, _≤_}
 use native.Mathlib.Decide.{decLt}
 use native.Mathlib.Omega.{arith}
 use denote.Ref.{now}
+use Rattle.laws.specs.Lists.{at}
 use Rattle.picture.specs.Picture.{topOf}
 use Rattle.sprites.specs.Sprites.{Follows}
 use Rattle.demands.specs.Outcome.{OneOutcome, OneOutcomeSeen, PaintedRow}
@@ -55,6 +56,9 @@ use Rattle.sprites.proofs.table_at
 use Rattle.sprites.proofs.height
 use Rattle.sprites.proofs.line_at as sprite-line-at
 use Rattle.sprites.proofs.next_sprite
+use Rattle.picture.specs.Tile.{mapColour}
+use Rattle.pixel_column.specs.Column.{lineAt}
+use Rattle.pixel_column.proofs.column_at
 use Rattle.pixel.proofs.spot_at
 use Rattle.row.proofs.render_line
 use Rattle.refusal.proofs.refusal_number
@@ -103,12 +107,14 @@ use Rattle.home.proofs.dump_tileset as home-dump-tileset
 use Rattle.tile_codes.proofs.write_tile
 use Rattle.tile_codes.proofs.read_tile
 use Rattle.tile_codes.proofs.sheet
-use Rattle.inplace.proofs.flag_of
-use Rattle.inplace.proofs.latch_in
-use Rattle.inplace.proofs.address_in
-use Rattle.inplace.proofs.store_latch
-use Rattle.inplace.proofs.store_address
-use Rattle.inplace.proofs.store_colour
+use Rattle.fields.proofs.flag_of
+use Rattle.fields.proofs.chosen_of
+use Rattle.fields.proofs.chosen_from
+use Rattle.fields.proofs.latch_in
+use Rattle.fields.proofs.address_in
+use Rattle.fields.proofs.store_latch
+use Rattle.fields.proofs.store_address
+use Rattle.fields.proofs.store_colour
 use Rattle.inplace.proofs.write as write-in-place
 use Rattle.inplace.proofs.read as read-in-place
 use Rattle.block_ports.proofs.out as out-in-place
@@ -150,6 +156,9 @@ use Rattle.face.proofs.vdp_record_step
 use Rattle.face.proofs.vdp_record_next
 use Rattle.trace_run.proofs.Device.handheld as device-handheld
 use Rattle.trace_run.proofs.Device.home as device-home
+use Rattle.trace_end.proofs.put_last
+use Rattle.trace_end.proofs.pixel_count
+use Rattle.trace_end.proofs.put_picture
 use Rattle.trace_output.proofs.trace
 use Rattle.trace_output.proofs.snapshot
 use Rattle.trace_output.proofs.layers
@@ -380,6 +389,14 @@ render-sprites-line-once κs a q z z′ w w′ e f =
     )
 
 -- ---- pixel
+-- of any marks and any map that agree with the scene's at the column, its own among them
+pub column-at-once : OneOutcome 1 column_at.Kinds.ps column_at.Kinds.r column_at.Reads.Asked column_at.Reads.Learnt
+column-at-once κs a q z z′ w w′ e f =
+    let b = a .1 .1 .1 .0 in
+    let col = a .1 .1 .1 .1 .1 .0 in
+    let m : ℕ → ℕ = λ x. mapColour (at (now (a .0))) (b .names) ((b .sx + col) % 256) (lineAt b col) in
+    (e _ m (λ i h. refl) refl ∙ sym (f _ m (λ i h. refl) refl), refl)
+
 pub spot-at-once : OneOutcome 1 spot_at.Kinds.ps spot_at.Kinds.r spot_at.Reads.Asked spot_at.Reads.Learnt
 spot-at-once κs a q z z′ w w′ e f = (e .0 ∙ sym (f .0), refl)
 
@@ -579,9 +596,15 @@ store-raster-once κs a q z z′ w w′ e f = (refl, λ i. ((e ∙ sym f) i, w .
 pub store-cache-once : OneOutcome 2 store_cache.Kinds.ps store_cache.Kinds.r store_cache.Reads.Asked store_cache.Reads.Learnt
 store-cache-once κs a q z z′ w w′ e f = (refl, λ i. ((e ∙ sym f) i, w .1))
 
--- ---- the ports in place
+-- ---- the fields of a block, and the ports in place
 pub flag-of-once : OneOutcome 0 flag_of.Kinds.ps flag_of.Kinds.r flag_of.Reads.Asked flag_of.Reads.Learnt
 flag-of-once κs a q z z′ w w′ e f = (e ∙ sym f, refl)
+
+pub chosen-of-once : OneOutcome 0 chosen_of.Kinds.ps chosen_of.Kinds.r chosen_of.Reads.Asked chosen_of.Reads.Learnt
+chosen-of-once κs a q z z′ w w′ e f = (e ∙ sym f, refl)
+
+pub chosen-from-once : OneOutcome 0 chosen_from.Kinds.ps chosen_from.Kinds.r chosen_from.Reads.Asked chosen_from.Reads.Learnt
+chosen-from-once κs a q z z′ w w′ e f = (e ∙ sym f, refl)
 
 pub latch-in-once : OneOutcome 1 latch_in.Kinds.ps latch_in.Kinds.r latch_in.Reads.Asked latch_in.Reads.Learnt
 latch-in-once κs a q z z′ w w′ e f = (e ∙ sym f, refl)
@@ -719,6 +742,15 @@ word-of-once κs a q z z′ w w′ e f = (e ∙ sym f, refl)
 -- ---- a trace
 pub put-numbered-once : OneOutcome 2 put_numbered.Kinds.ps put_numbered.Kinds.r put_numbered.Reads.Asked put_numbered.Reads.Learnt
 put-numbered-once κs a q z z′ w w′ e f = (e .0 ∙ sym (f .0), λ i. ((e .1 ∙ sym (f .1)) i, w .1))
+
+pub put-last-once : OneOutcome 2 put_last.Kinds.ps put_last.Kinds.r put_last.Reads.Asked put_last.Reads.Learnt
+put-last-once κs a q z z′ w w′ e f = (e .0 ∙ sym (f .0), λ i. ((e .1 ∙ sym (f .1)) i, w .1))
+
+pub pixel-count-once : OneOutcome 0 pixel_count.Kinds.ps pixel_count.Kinds.r pixel_count.Reads.Asked pixel_count.Reads.Learnt
+pixel-count-once κs a q z z′ w w′ e f = (e .0 ∙ sym (f .0), refl)
+
+pub put-picture-once : OneOutcome 3 put_picture.Kinds.ps put_picture.Kinds.r put_picture.Reads.Asked put_picture.Reads.Learnt
+put-picture-once κs a q z z′ w w′ e f = (e .0 ∙ sym (f .0), λ i. ((e .1 ∙ sym (f .1)) i, w .1))
 
 pub put-answer-once : OneOutcome 1 put_answer.Kinds.ps put_answer.Kinds.r put_answer.Reads.Asked put_answer.Reads.Learnt
 put-answer-once κs a q z z′ w w′ e f = (e .0 ∙ sym (f .0), λ i. ((e .1 ∙ sym (f .1)) i, w .1))

@@ -19,8 +19,8 @@ use Rattle.refusal.specs.declared.Refusal.the-variants.{Accepted}
 use Rattle.vdp.specs.Device.{made}
 use Rattle.step.specs.Step.{frameStep}
 use Rattle.demands.specs.Handheld.{out, after, handheld}
-use Rattle.demands.specs.Pass.{Between, Run, Watched, pass}
-use Rattle.demands.specs.Split.{New, Split, Changed}
+use Rattle.passes.specs.Pass.{Between, Run, Watched, pass}
+use Rattle.passes.specs.Split.{New, Split, Changed}
 
 -- ---- what is watched of it
 -- the device after BF 06, BF C0, and the two bytes of colour 3

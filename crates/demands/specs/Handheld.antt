@@ -19,7 +19,7 @@ use Rattle.points.specs.Bytes.{alsoLayers}
 use Rattle.dump.specs.Sheet.{dumpRefusal}
 use Rattle.step.specs.Pixel.{pixelOf}
 use Rattle.tile_codes.specs.Calls.{readTileRefusal, writeTileRefusal}
-use Rattle.demands.specs.Machine.{Told, Machine}
+use Rattle.passes.specs.Machine.{Told, Machine}
 
 -- A call, with the video memory lent to it; `size` is the length of the pixel buffer lent to it (of a tile read, of the buffer for the codes), and
 -- `layers` that of the layer buffer. (Nothing is assumed of how the memory lent to one call is related to that lent to the next.)

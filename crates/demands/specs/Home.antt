@@ -17,7 +17,7 @@ use Rattle.home.specs.Home.{paletteSize, made}
 use Rattle.home.specs.Ports.{portWrite, portRead}
 use Rattle.home.specs.Step.{rowStep, frameStep, frameAfter}
 use Rattle.tile_codes.specs.Calls.{readTileRefusal, writeTileRefusal}
-use Rattle.demands.specs.Machine.{Told, Machine}
+use Rattle.passes.specs.Machine.{Told, Machine}
 
 -- R20.8: a call, said as the handheld's are (Handheld.antt), in the one area that there is: it tells no layers, and is asked for no single pixel. The other
 -- public functions:

@@ -25,7 +25,7 @@ use Rattle.step.specs.Step.{rowLines, frameLines, readingOf, stepWith, rowStep,
 use Rattle.points.specs.Bytes.{rowFilled, frameFilled, alsoLayers}
 use Rattle.step.specs.Frame.{rowAfter, frameAfter}
 use Rattle.step.specs.Layers.{layersAfter}
-use Rattle.demands.specs.Machine.{Machine}
+use Rattle.passes.specs.Machine.{Machine}
 
 -- ---- one column
 module _ (m g : ℕ → ℕ) (v : View) where

@@ -26,7 +26,7 @@ use Rattle.vdp.specs.Ports.{portWrite, portRead}
 use Rattle.vdp.specs.Calls.{Call, write, read, Answer, w, r, after, answer, afterAll, answers, start}
 use Rattle.points.specs.Points.{rowOn, bitsOf, endedBy, reportBy, interruptBy, pointsOf, interruptNumber}
 use Rattle.step.specs.Step.{lineOf, stepped, stepWith, frameStep}
-use Rattle.demands.specs.Split.{fourBytes}
+use Rattle.passes.specs.Split.{fourBytes}
 
 -- ---- port calls on a fresh device with zeroed memory: the bytes that they read, and the numbers of their refusals
 abbrev bytesRead : List Answer → List ℕ

@@ -25,7 +25,7 @@ use Rattle.points.specs.declared.DrawnRow.{DrawnRow}
 use Rattle.points.specs.declared.DrawnRow.the-variants.{NoRow, Drawn}
 use Rattle.points.specs.Points.{rowOn, bitsOf, endedBy, interruptBy, pointsOf}
 use Rattle.step.specs.Step.{stepped}
-use Rattle.demands.specs.Split.{firstNew}
+use Rattle.passes.specs.Split.{firstNew}
 use Rattle.demands_examples.specs.Examples.{zeroed, stepsOn, interruptLines, every, beforeLine0}
 
 -- ---- the lines that interrupt, with line interrupts on and register 10 at N before the first step of a fresh device

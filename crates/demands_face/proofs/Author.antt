@@ -13,7 +13,7 @@ use Rattle.vdp.specs.Device.{made}
 use Rattle.block.specs.Block.{stateOf}
 use Rattle.face.specs.Face.{outCall}
 use Rattle.demands.specs.Handheld.{handheld}
-use Rattle.demands.specs.Pass.{deviceAfter}
+use Rattle.passes.specs.Pass.{deviceAfter}
 use Rattle.demands.specs.Author.{recoloured, Asks, AsksNot, Answered, WhichBytes}
 use Rattle.demands.proofs.Handheld.{handheld-lawful}
 use Rattle.demands.proofs.Author.{answered, which-bytes}

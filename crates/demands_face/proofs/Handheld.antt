@@ -26,13 +26,13 @@ use Rattle.face.specs.Layers.{layerOn, frameTable, frameFills}
 use Rattle.face.specs.Refused.{refusalIn}
 use Rattle.face.proofs.Shapes.{with-shape}
 use Rattle.face.proofs.Exact.{step-byte}
-use Rattle.demands.specs.Pass.{Demand3}
+use Rattle.passes.specs.Pass.{Demand3}
 use Rattle.demands.proofs.Steps.{frame-taken, accepts}
 use Rattle.demands.proofs.Layers.{aside}
-use Rattle.demands.specs.Rows.{EffectiveRows}
-use Rattle.demands.specs.Chart.{InOrder}
-use Rattle.demands.specs.Split.{Split, ColourSplit}
-use Rattle.demands.proofs.Chart.{in-order}
+use Rattle.demands.specs.Numbers.{EffectiveRows}
+use Rattle.passes.specs.Chart.{InOrder}
+use Rattle.passes.specs.Split.{Split, ColourSplit}
+use Rattle.passes.proofs.Chart.{in-order}
 use Rattle.demands.proofs.Handheld.{handheld-lawful, demand3-visible, demand3-edges, effective-rows, colour-split-visible}
 use Rattle.demands_face.specs.Face.{Way, plain, with-layers, FaceRun, Goes, watchedBy, Through}
 use Rattle.demands_face.specs.Calls.{called, on-frame, face}

@@ -23,10 +23,10 @@ use Rattle.home_block.specs.HomeBlock.{blockOf}
 use Rattle.home_face.specs.HomeFace.{steppedTo, stepOn}
 use Rattle.home_face.specs.Layers.{layerLines, layerOn}
 use Rattle.demands.specs.Home.{home}
-use Rattle.demands.specs.Pass.{Demand3, pass}
-use Rattle.demands.specs.Chart.{InOrder}
-use Rattle.demands.specs.Split.{Split, ColourSplit, OnlyColour, Twins, Changed}
-use Rattle.demands.proofs.Chart.{in-order}
+use Rattle.passes.specs.Pass.{Demand3, pass}
+use Rattle.passes.specs.Chart.{InOrder}
+use Rattle.passes.specs.Split.{Split, ColourSplit, OnlyColour, Twins, Changed}
+use Rattle.passes.proofs.Chart.{in-order}
 use Rattle.demands.proofs.Home.{home-lawful, demand3-home, colour-split-home, changed-home}
 use Rattle.demands_face.specs.Face.{Way, plain, with-layers, FaceRun, Goes, watchedBy, Through}
 use Rattle.demands_face.specs.HomeCalls.{HomeCall, homeCalled, MadeHomeBlock, on-home-frame, home-face}

@@ -31,7 +31,7 @@ use Rattle.home_face.specs.HomeFace.{onBlock, newTableCall, outOn, outCall, inp
 use Rattle.home_face.specs.HomeFace.{dumpCall}
 use Rattle.home_face.specs.Layers.{layerLines, layerOn, layerCall}
 use Rattle.demands.specs.Home.{Call, out, input, frame-step, row-step, dump-tileset, refusalOf, home}
-use Rattle.demands.proofs.Lawful.{Aimed}
+use Rattle.passes.proofs.Lawful.{Aimed}
 use Rattle.demands.proofs.Home.{home-lawful, never-six-home}
 use Rattle.demands_face.specs.HomeCalls.{HomeCall, vdp-home-new, vdp-home-new-table, vdp-home-out, vdp-home-input, vdp-home-step, vdp-home-row-step}
 use Rattle.demands_face.specs.HomeCalls.{vdp-home-layer-step, vdp-home-layer-row-step, vdp-home-dump-tileset, vdp-home-pixel, homeCalled}

@@ -23,7 +23,7 @@ use Rattle.home_block.proofs.Shapes.{made-shape, state-shape}
 use Rattle.home_face.specs.HomeFace.{newTableCall, outCall, inputCall, stepCall, rowStepCall, dumpCall}
 use Rattle.home_face.specs.Layers.{layerCall}
 use Rattle.demands.specs.Home.{home}
-use Rattle.demands.proofs.Sound.{table-kept}
+use Rattle.passes.proofs.Sound.{table-kept}
 use Rattle.demands.proofs.Home.{home-lawful}
 use Rattle.demands_face.specs.Face.{makes}
 use Rattle.demands_face.specs.HomeCalls.{HomeCall, vdp-home-new, vdp-home-new-table, vdp-home-out, vdp-home-input, vdp-home-step, vdp-home-row-step}

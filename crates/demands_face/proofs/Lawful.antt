@@ -9,10 +9,10 @@ use lib.ListN.{length}
 use Rattle.raster.specs.declared.LineTable.{LineTable}
 use Rattle.refusal.specs.declared.Refusal.the-variants.{Accepted}
 use Rattle.word.specs.Word.{refusalIn}
-use Rattle.demands.specs.Machine.{Machine}
-use Rattle.demands.specs.Pass.{Between}
-use Rattle.demands.proofs.Lawful.{Clean, Aimed}
-use Rattle.demands.proofs.Sound.{Sound}
+use Rattle.passes.specs.Machine.{Machine}
+use Rattle.passes.specs.Pass.{Between}
+use Rattle.passes.proofs.Lawful.{Clean, Aimed}
+use Rattle.passes.proofs.Sound.{Sound}
 use Rattle.demands_face.specs.Face.{Way, plain, Face, toldBy, makes, steps, Refused}
 
 -- clean colours are the palette's, and the address lies in its memory

@@ -9,10 +9,10 @@ use borrow.Author.Tests.{eqb-true, eqb-false}
 use Rattle.laws.proofs.Tests.{split, clash}
 use Rattle.raster.specs.declared.LineTable.{LineTable}
 use Rattle.word.specs.Word.{refusalIn}
-use Rattle.demands.specs.Machine.{Machine}
-use Rattle.demands.specs.Pass.{History, deviceAfter}
-use Rattle.demands.proofs.Lawful.{Lawful}
-use Rattle.demands.proofs.Sound.{sound}
+use Rattle.passes.specs.Machine.{Machine}
+use Rattle.passes.specs.Pass.{History, deviceAfter}
+use Rattle.passes.proofs.Lawful.{Lawful}
+use Rattle.passes.proofs.Sound.{sound}
 use Rattle.demands_face.specs.Face.{Face, makes, blockAfter}
 use Rattle.demands_face.specs.Seven.{NoSeven, FaceNeverSeven}
 use Rattle.demands_face.proofs.Lawful.{Fine, fine, Does, stays, does, LawfulFace}

@@ -15,9 +15,9 @@ use Rattle.points.specs.Points.{frameLines as linesOf}
 use Rattle.points.proofs.Laws.{frame-passes}
 use Rattle.step.specs.Step.{frameLines}
 use Rattle.word.specs.Word.{refusalIn}
-use Rattle.demands.specs.Machine.{Machine}
-use Rattle.demands.specs.Pass.{deviceAfter}
-use Rattle.demands.proofs.Lawful.{Lawful}
+use Rattle.passes.specs.Machine.{Machine}
+use Rattle.passes.specs.Pass.{deviceAfter}
+use Rattle.passes.proofs.Lawful.{Lawful}
 use Rattle.demands.proofs.Steps.{accepts}
 use Rattle.demands.proofs.Handheld.{handheld-lawful}
 use Rattle.demands.proofs.Home.{home-lawful}

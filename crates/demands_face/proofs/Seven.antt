@@ -20,7 +20,7 @@ use Rattle.raster.specs.declared.LineTable.{LineTable}
 use Rattle.vdp.specs.declared.VdpState.{VdpState}
 use Rattle.vdp.specs.Refusals.{size}
 use Rattle.block.specs.Block.{sized, markOf, wellFormed, stateOf}
-use Rattle.inplace.specs.Fields.{chosenFrom}
+use Rattle.fields.specs.Fields.{chosenFrom}
 use Rattle.block.proofs.Whole.{fits-own, length-of}
 use Rattle.block.proofs.RoundTrip.{block-back}
 use Rattle.block.proofs.Shapes.{state-shape}

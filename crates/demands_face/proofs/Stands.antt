@@ -44,7 +44,7 @@ use Rattle.face.proofs.Shapes.{with-shape}
 use Rattle.face.proofs.Blocks.{out-on, input-on, step-on, row-on, layer-on}
 use Rattle.face.proofs.Exact.{step-byte}
 use Rattle.demands.specs.Handheld.{Call, out, input, frame-step, row-step, layer-frame-step, layer-row-step, after, handheld}
-use Rattle.demands.proofs.Sound.{table-kept}
+use Rattle.passes.proofs.Sound.{table-kept}
 use Rattle.demands.proofs.Handheld.{handheld-lawful}
 use Rattle.demands_face.specs.Face.{makes, steps, Refused}
 use Rattle.demands_face.specs.Calls.{FaceCall, vdp-new, vdp-new-table, vdp-out, vdp-input, vdp-step, vdp-row-step, vdp-layer-step, vdp-layer-row-step}

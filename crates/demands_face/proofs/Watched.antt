@@ -7,11 +7,11 @@ use Prim.Native.Nat.{ℕ, zero, suc}
 use lib.Dec.{eqb}
 use lib.ListN.{length}
 use Rattle.refusal.specs.declared.Refusal.the-variants.{Accepted}
-use Rattle.demands.specs.Machine.{Machine, register, lineOf}
-use Rattle.demands.specs.Pass.{History, deviceAfter, becomesZero, latchedAlong, latched, Between, then, Run, until, through, ready, answer, frameAt, Watched}
-use Rattle.demands.specs.Pass.{watched}
-use Rattle.demands.proofs.Lawful.{Lawful}
-use Rattle.demands.proofs.Sound.{sound}
+use Rattle.passes.specs.Machine.{Machine, register, lineOf}
+use Rattle.passes.specs.Pass.{History, deviceAfter, becomesZero, latchedAlong, latched, Between, then, Run, until, through, ready, answer, frameAt, Watched}
+use Rattle.passes.specs.Pass.{watched}
+use Rattle.passes.proofs.Lawful.{Lawful}
+use Rattle.passes.proofs.Sound.{sound}
 use Rattle.demands_face.specs.Face.{Face, toldBy, makes, steps, blockAfter, RefusedOf, FaceRun, stepAt, steppedAt, point, Goes, watchedBy, Through}
 use Rattle.demands_face.proofs.Lawful.{Fine, fine, Does, stays, does, Quietly, stays-so, does-so, Steps, LawfulFace}
 

@@ -27,9 +27,9 @@ use Rattle.points.specs.Bytes.{alsoLayers}
 use Rattle.points.proofs.Rows.{row-low}
 use Rattle.word.specs.Word.{rowBits, answerWord}
 use Rattle.word.specs.Called.{Called}
-use Rattle.demands.specs.Machine.{Told, Machine}
-use Rattle.demands.proofs.Counter.{line}
-use Rattle.demands.proofs.Lawful.{Lawful}
+use Rattle.passes.specs.Machine.{Told, Machine}
+use Rattle.passes.proofs.Counter.{line}
+use Rattle.passes.proofs.Lawful.{Lawful}
 use Rattle.demands_face.specs.Face.{Way, Face, interruptPart, reportPart, rowPart, drawnPart, toldBy}
 use Rattle.demands_face.proofs.Lawful.{Steps}
 

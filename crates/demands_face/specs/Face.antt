@@ -1,5 +1,5 @@
 -- R7.4, WHAT THE C FACE OF A MACHINE IS, as the demands see it: blocks of bytes, calls on one block, and the words that they answer. What is watched of a
--- run on records (crates/demands/specs/Pass.antt) is watched here of the player's calls, and so each demand is said of both alike.
+-- run on records (crates/passes/specs/Pass.antt) is watched here of the player's calls, and so each demand is said of both alike.
 -- Assumes nothing.
 use mathlib.Core.Path.{_≡_}
 use mathlib.Core.Logic.{_≢_}
@@ -14,8 +14,8 @@ use Rattle.points.specs.declared.DisplayRefresh.the-variants.{NoDisplay, Screen
 use Rattle.points.specs.declared.DrawnRow.the-variants.{NoRow, Drawn}
 use Rattle.word.specs.Word.{refusalIn}
 use Rattle.word.specs.Called.{Called}
-use Rattle.demands.specs.Machine.{Told, Machine}
-use Rattle.demands.specs.Pass.{Run, Watched, watched, latchedAlong}
+use Rattle.passes.specs.Machine.{Told, Machine}
+use Rattle.passes.specs.Pass.{Run, Watched, watched, latchedAlong}
 
 -- what a call is for: it makes a device, steps, repairs the block, or does none of these
 pub data Kind : Type 0 where

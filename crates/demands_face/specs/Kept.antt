@@ -11,7 +11,7 @@ use Rattle.raster.specs.declared.LineTable.{LineTable}
 use Rattle.raster.specs.declared.LineTable.the-variants.{Steps261}
 use Rattle.block.specs.Block.{sized, wellFormed}
 use Rattle.block_repair.specs.Repair.{mended}
-use Rattle.demands.specs.Machine.{Machine}
+use Rattle.passes.specs.Machine.{Machine}
 use Rattle.demands_face.specs.Face.{Face, makes}
 use Rattle.demands_face.specs.Calls.{FaceCall, vdp-new-table, repairs, face}
 use Rattle.demands_face.specs.HomeCalls.{HomeCall, vdp-home-new-table, home-face}

@@ -11,8 +11,8 @@ use Rattle.raster.specs.declared.LineTable.{LineTable}
 use Rattle.word.specs.Word.{refusalIn}
 use Rattle.block.specs.Block.{sized}
 use Rattle.block_repair.specs.Repair.{mended}
-use Rattle.demands.specs.Machine.{Machine}
-use Rattle.demands.specs.Pass.{History, deviceAfter}
+use Rattle.passes.specs.Machine.{Machine}
+use Rattle.passes.specs.Pass.{History, deviceAfter}
 use Rattle.demands_face.specs.Face.{Face, blockAfter}
 use Rattle.demands_face.specs.Calls.{FaceCall, face}
 use Rattle.demands_face.specs.HomeCalls.{HomeCall, homeCalled}

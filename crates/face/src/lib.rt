@@ -134,7 +134,7 @@ pub extern "C" fn vdp_step(state: &mut [u8], vram: &[u8], frame: &mut [u8], area
     let points = points_run::frame_points_due(
         due,
         reg,
-        state[inplace::STATUS],
+        state[fields::STATUS],
         &colours,
         vram,
         frame,
@@ -166,7 +166,7 @@ pub extern "C" fn vdp_row_step(state: &mut [u8], vram: &[u8], row: &mut [u8], ar
     let points = points_run::row_points_due(
         due,
         reg,
-        state[inplace::STATUS],
+        state[fields::STATUS],
         &colours,
         vram,
         row,
@@ -204,7 +204,7 @@ pub extern "C" fn vdp_layer_step(
     let points = points_run::frame_points_due(
         due,
         reg,
-        state[inplace::STATUS],
+        state[fields::STATUS],
         &colours,
         vram,
         frame,
@@ -242,7 +242,7 @@ pub extern "C" fn vdp_layer_row_step(
     let points = points_run::row_points_due(
         due,
         reg,
-        state[inplace::STATUS],
+        state[fields::STATUS],
         &colours,
         vram,
         row,

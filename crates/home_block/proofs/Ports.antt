@@ -13,7 +13,8 @@ use Rattle.front.specs.Ports.{frontWrite, frontRead}
 use Rattle.front.proofs.Kept.{write-kept, inside}
 use Rattle.inplace.specs.declared.Sent.{Sent}
 use Rattle.inplace.specs.declared.Got.{Got}
-use Rattle.inplace.specs.InPlace.{addressIn, frontIn, frontStored, FrontFormed, SentInPlace, GotInPlace}
+use Rattle.fields.specs.Stored.{addressIn, frontIn, frontStored, FrontFormed}
+use Rattle.inplace.specs.InPlace.{SentInPlace, GotInPlace}
 use Rattle.block_parts.proofs.Front as in-block
 use Rattle.home.specs.declared.HomeState.{HomeState}
 use Rattle.home.specs.Home.{withFront}

@@ -13,10 +13,10 @@ use Rattle.laws.proofs.Parts.{part-table}
 use Rattle.raster.specs.declared.LineTable.{LineTable}
 use Rattle.raster.specs.declared.LineTable.the-variants.{Steps261, Steps262}
 use Rattle.raster.specs.Raster.{lineTableNumber, lineTableFrom}
-use Rattle.inplace.specs.Fields.{flagFrom, chosenFrom, latchFlag, latchFrom}
-use Rattle.inplace.specs.InPlace.{frontIn}
-use Rattle.inplace.proofs.Fields.{flag-back, flag-ok, flag-in, chosen-back, chosen-ok, chosen-in, latch-back, latch-ok, latch-flag-in, latch-byte-in}
-use Rattle.inplace.proofs.Fields.{byte-ok, address-back}
+use Rattle.fields.specs.Fields.{flagFrom, chosenFrom, latchFlag, latchFrom}
+use Rattle.fields.specs.Stored.{frontIn}
+use Rattle.fields.proofs.Fields.{flag-back, flag-ok, flag-in, chosen-back, chosen-ok, chosen-in, latch-back, latch-ok, latch-flag-in, latch-byte-in}
+use Rattle.fields.proofs.Fields.{byte-ok, address-back}
 use Rattle.block_parts.specs.Parts.{registersIn, colourBytes, coloursFrom}
 use Rattle.block_parts.proofs.Copies.{length-colourBytes, colours-back, colours-in}
 use Rattle.block_parts.proofs.Fields.{fit}

@@ -12,9 +12,9 @@ use Rattle.laws.proofs.Parts.{at-past, set-past}
 use Rattle.raster.specs.declared.Raster.{Raster}
 use Rattle.front.specs.declared.Front.{Front}
 use Rattle.front.specs.Front.{changed}
-use Rattle.inplace.specs.Fields.{flagOf}
-use Rattle.inplace.specs.InPlace.{addressIn, frontIn, frontStored, addressStored, colourStored}
-use Rattle.inplace.proofs.Fields.{flag-back, address-back}
+use Rattle.fields.specs.Fields.{flagOf}
+use Rattle.fields.specs.Stored.{addressIn, addressStored, colourStored, frontIn, frontStored}
+use Rattle.fields.proofs.Fields.{flag-back, address-back}
 use Rattle.block_parts.specs.Parts.{colourBytes, rasterStored, cacheStored}
 use Rattle.block_parts.proofs.Copies.{length-colourBytes}
 use Rattle.block_parts.proofs.Format.{palette-at, palette-set, cache-set}

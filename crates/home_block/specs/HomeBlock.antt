@@ -9,8 +9,8 @@ use lib.ListN.{length, take, drop}
 use lib.Dec.{leb, eqb}
 use Rattle.laws.specs.Lists.{at}
 use Rattle.raster.specs.Raster.{lineTableNumber, lineTableFrom}
-use Rattle.inplace.specs.Fields.{flagOf, flagFrom, chosenOf, latchFlag, latchByte}
-use Rattle.inplace.specs.InPlace.{frontIn}
+use Rattle.fields.specs.Fields.{flagOf, flagFrom, chosenOf, latchFlag, latchByte}
+use Rattle.fields.specs.Stored.{frontIn}
 use Rattle.block_parts.specs.Parts.{rasterIn, colourBytes, coloursFrom, fieldsFit}
 use Rattle.home.specs.declared.HomeState.{HomeState}
 use Rattle.home.specs.Home.{home, paletteSize}

@@ -4,18 +4,18 @@ ghost use mathlib.Core.Path.{_≡_};
 ghost use mathlib.Core.Bool.{true};
 ghost use Prim.Native.Nat.{_≤_, _<_};
 ghost use lib.ListN.{length};
-ghost use Rattle.inplace.specs.InPlace.{addressIn};
+ghost use Rattle.fields.specs.Stored.{addressIn};
 ghost use Rattle.block_parts.specs.Parts.{rasterStored, cacheStored};
 ghost use Rattle.home.specs.declared.HomeState.{HomeState};
 ghost use Rattle.home.specs.Home.{paletteSize, made};
 ghost use Rattle.home.specs.Ports.{paletteWrite};
 ghost use Rattle.home_block.specs.HomeBlock.{blockSize, blockOf, stateOf, wellFormed, Sized};
 ghost use Rattle.home_block.specs.InPlace.{OutInPlace, InputInPlace};
+use fields::MARK;
+use fields::MARK_FIRST;
+use fields::MARK_SECOND;
 use home::PALETTE_SIZE;
 use inplace::Got;
-use inplace::MARK;
-use inplace::MARK_FIRST;
-use inplace::MARK_SECOND;
 use raster::LineTable;
 use raster::Raster;
 use refusal::Refusal;
@@ -114,10 +114,10 @@ fn write_palette(block: &mut [u8], val: u8)
     requires { ⌜ (length (now block) ≡ blockSize) × (addressIn (now block) < paletteSize) ⌝ }
     ensures { λ _. ⌜ ((h : HomeState) → Sized h → now (block .entry) ≡ blockOf h → now (block .exit) ≡ blockOf (paletteWrite h val .home)) ⌝ }
 {
-    let addr = inplace::address_in(block);
+    let addr = fields::address_in(block);
     let here = addr as usize;
-    inplace::store_colour(block, PALETTE, DIRTY, here, val);
-    inplace::store_address(block, (addr + 1) % PALETTE_SIZE);
+    fields::store_colour(block, PALETTE, DIRTY, here, val);
+    fields::store_address(block, (addr + 1) % PALETTE_SIZE);
 }
 
 // A port write on the device of a well-formed block.

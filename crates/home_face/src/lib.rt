@@ -115,7 +115,7 @@ pub fn step(state: &mut [u8], vram: &[u8], frame: &mut [u8]) -> u32
     let points = points_run::frame_points_due(
         due,
         reg,
-        state[inplace::STATUS],
+        state[fields::STATUS],
         &colours,
         vram,
         frame,
@@ -142,7 +142,7 @@ pub fn row_step(state: &mut [u8], vram: &[u8], row: &mut [u8]) -> u32
     let points = points_run::row_points_due(
         due,
         reg,
-        state[inplace::STATUS],
+        state[fields::STATUS],
         &colours,
         vram,
         row,
@@ -169,7 +169,7 @@ pub fn layer_step(state: &mut [u8], vram: &[u8], frame: &mut [u8], layers: &mut 
     let points = points_run::frame_points_due(
         due,
         reg,
-        state[inplace::STATUS],
+        state[fields::STATUS],
         &colours,
         vram,
         frame,
@@ -196,7 +196,7 @@ pub fn layer_row_step(state: &mut [u8], vram: &[u8], row: &mut [u8], layers: &mu
     let points = points_run::row_points_due(
         due,
         reg,
-        state[inplace::STATUS],
+        state[fields::STATUS],
         &colours,
         vram,
         row,

@@ -1,4 +1,3 @@
 -- The laws of the front in place.
-pub mod Fields
 pub mod Stores
 pub mod Ports

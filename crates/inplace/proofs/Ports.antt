@@ -13,7 +13,8 @@ use Rattle.refusal.specs.declared.Refusal.the-variants.{Accepted}
 use Rattle.front.specs.Front.{sent, forPalette, refusedRead, given}
 use Rattle.inplace.specs.declared.Sent.{Sent}
 use Rattle.inplace.specs.declared.Got.{Got}
-use Rattle.inplace.specs.InPlace.{addressIn, frontIn, frontStored, answered, refused, SentInPlace, GotInPlace}
+use Rattle.fields.specs.Stored.{addressIn, frontIn, frontStored}
+use Rattle.inplace.specs.InPlace.{answered, refused, SentInPlace, GotInPlace}
 
 -- ---- what was read of the block is what the front has
 module _ (b : List ℕ) where

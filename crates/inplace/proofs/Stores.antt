@@ -15,9 +15,9 @@ use Rattle.front.specs.declared.Front.{Front}
 use Rattle.front.specs.declared.WriteDest.{WriteDest}
 use Rattle.front.specs.declared.Latch.{Latch}
 use Rattle.front.specs.Front.{front, withCommand, choosing, withReg, withBuffer}
-use Rattle.inplace.specs.Fields.{chosenOf, chosenFrom, latchFlag, latchByte, latchFrom}
-use Rattle.inplace.specs.InPlace.{frontIn, frontStored, FrontFormed, latchStored, addressStored}
-use Rattle.inplace.proofs.Fields.{chosen-back, latch-back, address-back, chosen-ok, latch-ok, byte-ok, chosen-in, latch-flag-in, latch-byte-in}
+use Rattle.fields.specs.Fields.{chosenOf, chosenFrom, latchFlag, latchByte, latchFrom}
+use Rattle.fields.specs.Stored.{latchStored, addressStored, frontIn, frontStored, FrontFormed}
+use Rattle.fields.proofs.Fields.{chosen-back, latch-back, address-back, chosen-ok, latch-ok, byte-ok, chosen-in, latch-flag-in, latch-byte-in}
 
 -- ---- a block by its bytes
 module _ (b : List ℕ) (h : 23 ≤ length b) where

@@ -1,3 +1,2 @@
 -- What the contracts of `inplace` cite.
-pub mod Fields
 pub mod InPlace

@@ -1,4 +1,5 @@
-// The ports in place: the front of a device where it stands in a state block, bytes 2 to 13 and 17 to 22, which are the same in either machine's block.
+// The ports in place: the front of a device where it stands in a state block, bytes 2 to 13 and 17 to 22, which are the same in either machine's block (crate
+// `fields`).
 // A call reads and stores the bytes that it needs. Of the palette it knows the size; the byte for it is stored by the machine whose block it is.
 ghost use mathlib.Core.Path.{_≡_};
 ghost use Prim.Native.Nat.{_+_, _*_, _%_, _≤_, _<_};
@@ -7,8 +8,14 @@ ghost use Rattle.laws.specs.Lists.{at};
 ghost use Rattle.laws.specs.Sizes.{vramSize};
 ghost use Rattle.front.specs.Front.{withCommand, choosing, withReg, withBuffer, commandWrite, dataWrite, dataRead, statusRead};
 ghost use Rattle.front.specs.Ports.{frontWrite, frontRead};
-ghost use Rattle.inplace.specs.Fields.{flagOf, chosenOf, chosenFrom, latchFlag, latchByte, latchFrom};
-ghost use Rattle.inplace.specs.InPlace.{PaletteSize, frontEnd, addressIn, frontIn, frontStored, FrontFormed, latchStored, addressStored, colourStored, answered, refused, SentInPlace, GotInPlace};
+ghost use Rattle.fields.specs.Stored.{frontEnd, frontIn, frontStored, FrontFormed};
+ghost use Rattle.inplace.specs.InPlace.{PaletteSize, answered, refused, SentInPlace, GotInPlace};
+use fields::CHOSEN;
+use fields::COMMAND_LATCHED;
+use fields::COUNTER;
+use fields::READ_BUFFER;
+use fields::REGISTERS;
+use fields::STATUS;
 use front::HCOUNTER_READ;
 use front::Latch;
 use front::VCOUNTER_READ;
@@ -17,36 +24,6 @@ use front::VDP_DATA;
 use front::WriteDest;
 use refusal::Refusal;
 use small::VRAM_ADDRESSES;
-
-// The places that are the same in either machine's block, by the names that include/vdp.h has for them; of two bytes the second has one of its own.
-pub const MARK: usize = 0;
-
-pub const MARK_SECOND: usize = 1;
-
-pub const STATUS: usize = 2;
-
-pub const REGISTERS: usize = 3;
-
-pub const COUNTER: usize = 14;
-
-pub const JUMPED: usize = 15;
-
-pub const LINE_COUNT: usize = 16;
-
-pub const ADDRESS: usize = 17;
-
-pub const ADDRESS_HIGH: usize = 18;
-
-pub const READ_BUFFER: usize = 19;
-
-pub const CHOSEN: usize = 20;
-
-pub const COMMAND_LATCHED: usize = 21;
-
-pub const COMMAND_BYTE: usize = 22;
-
-// The first byte of either machine's mark.
-pub const MARK_FIRST: u8 = 0x56;
 
 // What a port write answers; `palette` where the byte is for the machine's own palette, which has still to take it.
 pub struct Sent {
@@ -79,80 +56,14 @@ fn refused(refusal: Refusal) -> Got
     }
 }
 
-// ---- the small fields as bytes, and back
-
-pub fn flag_of(b: bool) -> u8
-    ensures { λ r. ⌜ r ≡ flagOf b ⌝ }
-{
-    if b { 1 } else { 0 }
-}
-
-fn chosen_of(d: WriteDest) -> u8
-    ensures { λ r. ⌜ r ≡ chosenOf d ⌝ }
-{
-    match d {
-        WriteDest::None => 0,
-        WriteDest::Vram => 1,
-        WriteDest::Cram => 2,
-    }
-}
-
-fn chosen_from(n: u8) -> WriteDest
-    ensures { λ r. ⌜ r ≡ chosenFrom n ⌝ }
-{
-    match n {
-        0 => WriteDest::None,
-        1 => WriteDest::Vram,
-        _ => WriteDest::Cram,
-    }
-}
-
-fn latch_flag(l: Latch) -> u8
-    ensures { λ r. ⌜ r ≡ latchFlag l ⌝ }
-{
-    match l {
-        Latch::Empty => 0,
-        Latch::Held(_) => 1,
-    }
-}
-
-fn latch_byte(l: Latch) -> u8
-    ensures { λ r. ⌜ r ≡ latchByte l ⌝ }
-{
-    match l {
-        Latch::Empty => 0,
-        Latch::Held(b) => b,
-    }
-}
-
 // ---- what stands in a block, read
-
-// The latch whose flag stands at this place, and its byte behind it.
-pub fn latch_in(block: &[u8], place: usize) -> Latch
-    requires { ⌜ place + 2 ≤ length (now block) ⌝ }
-    ensures { λ r. ⌜ r ≡ latchFrom (at (now (block .entry)) place) (at (now (block .entry)) (place + 1)) ⌝ }
-{
-    if block[place] == 0 {
-        Latch::Empty
-    } else {
-        Latch::Held(block[place + 1])
-    }
-}
-
-// The address.
-pub fn address_in(block: &[u8]) -> u16
-    requires { ⌜ frontEnd ≤ length (now block) ⌝ }
-    ensures { λ r. ⌜ r ≡ addressIn (now (block .entry)) ⌝ }
-{
-    small::word(block[ADDRESS], block[ADDRESS_HIGH])
-}
 
 // The command latch.
 fn command_in(block: &[u8]) -> Latch
     requires { ⌜ frontEnd ≤ length (now block) ⌝ }
     ensures { λ r. ⌜ r ≡ frontIn (now (block .entry)) .«cmd_byte1» ⌝ }
 {
-    latch_in(block, COMMAND_LATCHED)
+    fields::latch_in(block, COMMAND_LATCHED)
 }
 
 // The memory that the data port reads and writes.
@@ -160,55 +71,17 @@ fn chosen_in(block: &[u8]) -> WriteDest
     requires { ⌜ frontEnd ≤ length (now block) ⌝ }
     ensures { λ r. ⌜ r ≡ frontIn (now (block .entry)) .dest ⌝ }
 {
-    chosen_from(block[CHOSEN])
+    fields::chosen_from(block[CHOSEN])
 }
 
 // ---- and stored
-
-// Two bytes, one behind the other.
-fn store_two(block: &mut [u8], place: usize, first: u8, second: u8)
-    requires { ⌜ place + 2 ≤ length (now block) ⌝ }
-    ensures { λ _. ⌜ now (block .exit) ≡ set (set (now (block .entry)) place first) (place + 1) second ⌝ }
-{
-    block[place] = first;
-    block[place + 1] = second;
-}
-
-// A latch, its flag at this place.
-pub fn store_latch(block: &mut [u8], place: usize, latch: Latch)
-    requires { ⌜ place + 2 ≤ length (now block) ⌝ }
-    ensures { λ _. ⌜ now (block .exit) ≡ latchStored place latch (now (block .entry)) ⌝ }
-{
-    let flag = latch_flag(latch);
-    let byte = latch_byte(latch);
-    store_two(block, place, flag, byte);
-}
-
-// An address, low byte first.
-pub fn store_address(block: &mut [u8], address: u16)
-    requires { ⌜ frontEnd ≤ length (now block) ⌝ }
-    ensures { λ _. ⌜ now (block .exit) ≡ addressStored address (now (block .entry)) ⌝ }
-{
-    store_two(block, ADDRESS, (address % 256) as u8, (address / 256) as u8);
-}
-
-// Byte n of a palette that begins at `palette`; the flag at `dirty` is up afterwards where it was, or where the byte is another than before.
-pub fn store_colour(block: &mut [u8], palette: usize, dirty: usize, n: usize, val: u8)
-    requires { ⌜ (palette + n < length (now block)) × (dirty < length (now block)) ⌝ }
-    ensures { λ _. ⌜ now (block .exit) ≡ colourStored palette dirty n val (now (block .entry)) ⌝ }
-{
-    let here = palette + n;
-    let behind = (block[dirty] == 1) | (block[here] != val);
-    block[dirty] = flag_of(behind);
-    block[here] = val;
-}
 
 // The command latch.
 fn store_command(block: &mut [u8], latch: Latch)
     requires { ⌜ FrontFormed (now block) ⌝ }
     ensures { λ _. ⌜ now (block .exit) ≡ frontStored (withCommand (frontIn (now (block .entry))) latch) (now (block .entry)) ⌝ }
 {
-    store_latch(block, COMMAND_LATCHED, latch);
+    fields::store_latch(block, COMMAND_LATCHED, latch);
 }
 
 // A memory chosen, at this address.
@@ -216,8 +89,8 @@ fn store_choice(block: &mut [u8], dest: WriteDest, address: u16)
     requires { ⌜ FrontFormed (now block) ⌝ }
     ensures { λ _. ⌜ now (block .exit) ≡ frontStored (choosing (frontIn (now (block .entry))) dest address) (now (block .entry)) ⌝ }
 {
-    store_address(block, address);
-    block[CHOSEN] = chosen_of(dest);
+    fields::store_address(block, address);
+    block[CHOSEN] = fields::chosen_of(dest);
 }
 
 // A byte in the read buffer, and the address one on from this one.
@@ -225,7 +98,7 @@ fn store_buffer(block: &mut [u8], byte: u8, address: u16)
     requires { ⌜ (FrontFormed (now block)) × (address < vramSize) ⌝ }
     ensures { λ _. ⌜ now (block .exit) ≡ frontStored (withBuffer (frontIn (now (block .entry))) byte address) (now (block .entry)) ⌝ }
 {
-    store_address(block, (address + 1) % VRAM_ADDRESSES);
+    fields::store_address(block, (address + 1) % VRAM_ADDRESSES);
     block[READ_BUFFER] = byte;
 }
 
@@ -298,7 +171,7 @@ fn write_ram(block: &mut [u8], vram: &mut [u8], palette: u16, val: u8) -> Sent
     ensures { λ r. ⌜ now (vram .exit) ≡ dataWrite palette (frontIn (now (block .entry))) (now (vram .entry)) val .vram ⌝ }
 {
     let dest = chosen_in(block);
-    let addr = address_in(block);
+    let addr = fields::address_in(block);
     store_command(block, Latch::Empty);
     match dest {
         WriteDest::None => answered(Refusal::NothingChosen),
@@ -330,7 +203,7 @@ fn read_ram(block: &mut [u8], vram: &[u8]) -> Got
     ensures { λ r. ⌜ GotInPlace (now (block .entry)) (dataRead (frontIn (now (block .entry))) (now (vram .entry))) r (now (block .exit)) ⌝ }
 {
     let dest = chosen_in(block);
-    let addr = address_in(block);
+    let addr = fields::address_in(block);
     let byte = block[READ_BUFFER];
     store_command(block, Latch::Empty);
     match dest {

@@ -1,4 +1,2 @@
--- The laws of one pixel: a place of the priority mask, one column of a sprite, and the list of sprites on one column.
-pub mod Front
-pub mod Laws
+-- The laws of one pixel.
 pub mod Spots

@@ -1,3 +1,2 @@
 -- What the contracts of `pixel` cite.
-pub mod Column
 pub mod Pixel

@@ -22,7 +22,8 @@ use Rattle.trace_run.specs.declared.Machine.the-variants.{Handheld}
 use Rattle.trace_run.specs.Device.{handheld}
 use Rattle.trace_text.specs.Text.{lineOf, endLine, badLine}
 use Rattle.trace_run.specs.Run.{World, Turn, start, turnBy, hasArea, takenBy, turnOf, after, lines, ran}
-use Rattle.trace_output.specs.Output.{lastLine, text}
+use Rattle.trace_end.specs.End.{lastLine}
+use Rattle.trace_output.specs.Output.{text}
 use Rattle.trace_output.specs.Promises.{ranAll, linesAll, ReadsAlong, Runs, ReaderRuns, runBy, MachineRuns}
 use Rattle.trace_run.proofs.Runs.{write-machine, read-machine, Moves, row-moves, moves-for}
 use Rattle.trace_output.proofs.Until.{here, stays, silent, after-first, lines-first}

@@ -21,7 +21,8 @@ use Rattle.trace_record.specs.Record.{recordAt, marked}
 use Rattle.trace_record.specs.Reader.{isCall}
 use Rattle.trace_text.specs.Text.{lineOf, endLine, badLine}
 use Rattle.trace_run.specs.Run.{World, Turn, rowTurn, turnBy, hasArea, takenBy, recordOn, turnOf, after, lines, ran}
-use Rattle.trace_output.specs.Output.{lastLine, text}
+use Rattle.trace_end.specs.End.{lastLine}
+use Rattle.trace_output.specs.Output.{text}
 use Rattle.trace_run.proofs.Runs.{Moves, row-moves}
 
 -- the record where the run stands, and whether it is a call

@@ -2,20 +2,16 @@
 -- Assumes nothing.
 use mathlib.Core.Path.{_≡_}
 use mathlib.Core.Bool.{Bool, cond, _&&_}
-use mathlib.Core.List.{List, [], _∷_, _++_}
-use Prim.Native.Nat.{ℕ, zero, suc, _+_, _*_}
+use mathlib.Core.List.{List, [], _++_}
+use Prim.Native.Nat.{ℕ}
 use lib.Dec.{ltb, leb, eqb}
 use lib.ListN.{length}
-use Rattle.laws.specs.Lists.{at, written}
+use Rattle.laws.specs.Lists.{written}
 use Rattle.picture.specs.declared.RenderArea.{RenderArea}
-use Rattle.picture.specs.declared.Screen.{Screen}
-use Rattle.picture.specs.declared.Screen.the-variants as On
-use Rattle.picture.specs.Screen.{columns, rows, frameSize}
-use Rattle.trace_run.specs.declared.Machine.{Machine}
-use Rattle.trace_run.specs.declared.Machine.the-variants.{Handheld, Home}
+use Rattle.picture.specs.Screen.{frameSize}
 use Rattle.trace_run.specs.declared.Device.{Device}
-use Rattle.trace_run.specs.declared.Run.{Run}
-use Rattle.trace_text.specs.Text.{decimal, line, endLine, badLine, longLine}
+use Rattle.trace_text.specs.Text.{longLine}
+use Rattle.trace_end.specs.End.{lastLine, drawn, pictureRoom, screenFor}
 use Rattle.trace_run.specs.Run.{World, Turn, rowTurn, lines, ran, start}
 
 -- R7.8: the longest recording that is run
@@ -25,47 +21,12 @@ longest = 65535
 abbrev pub tooLong : List ℕ → Bool
 tooLong s = ltb longest (length s)
 
--- whether a run came to the end of the recording; if not, it stands at a bad record
-abbrev pub ended : List ℕ → Run → Bool
-ended s run = leb (length s) (run .at)
-
--- R7.11: the last line, by how the run came to its end
-unfoldable pub lastLine : List ℕ → Run → List ℕ
-lastLine s run = cond (ended s run) (endLine (run .count)) (badLine (run .at))
-
 unfoldable pub text : List ℕ → World → List ℕ
 text s w = lines rowTurn (length s) s w ++ lastLine s (ran rowTurn s w .run)
 
 -- WHAT `trace` PRINTS of the recording s, from the world w on
 unfoldable pub printed : List ℕ → World → List ℕ
 printed s w = cond (tooLong s) longLine (text s w)
-
--- red, green and blue of the first n pixels of a frame
-unfoldable pub pixels : ℕ → List ℕ → List ℕ
-pixels zero frame = []
-pixels (suc n) frame = pixels n frame ++ (at frame (4 * n) ∷ at frame (4 * n + 1) ∷ at frame (4 * n + 2) ∷ [])
-
--- R7.13, R20.9: the screen whose frame a machine's picture is made of, and its pixels
-abbrev pub screenFor : Machine → Screen
-screenFor Handheld = On.VisibleOnly
-screenFor Home = On.Home
-
-unfoldable pub pixelCount : Machine → ℕ
-pixelCount m = columns (screenFor m) * rows (screenFor m)
-
--- the three lines `P6`, its columns and rows, `255`
-unfoldable pub header : Machine → List ℕ
-header m =
-    line ((0x50 ∷ 0x36 ∷ []) ∷ [])
-    ++ (line (decimal (columns (screenFor m)) ∷ decimal (rows (screenFor m)) ∷ []) ++ line (decimal 255 ∷ []))
-
--- a frame as a binary PPM
-unfoldable pub ppm : Machine → List ℕ → List ℕ
-ppm m frame = header m ++ pixels (pixelCount m) frame
-
--- what a run is worth at its end: the picture of its frame, or the line that says where the recording is bad
-unfoldable pub drawn : Machine → List ℕ → Run → List ℕ → List ℕ
-drawn m s run frame = cond (ended s run) (ppm m frame) (badLine (run .at))
 
 -- WHAT `snapshot` AND `layers` WRITE of the recording s, from the world w on, with steps made as `step` makes them: the picture, or the one line of a bad or
 -- long recording
@@ -88,13 +49,9 @@ unfoldable pub leaves : Bool → (RenderArea → World → Turn) → List ℕ �
 leaves room step bytes s w out =
     cond room (left (cond (tooLong s) w (ran step s w)) (length bytes) (written out 0 bytes)) (left w 0 out)
 
--- room for five bytes of text for each byte of the longest recording, and the last line; for the header of a picture, and three bytes for each pixel;
--- and a frame of its screen
+-- room for five bytes of text for each byte of the longest recording, and the last line
 abbrev pub textRoom : ℕ
 textRoom = 327700
-
-abbrev pub pictureRoom : Machine → ℕ
-pictureRoom m = 15 + 3 * pixelCount m
 
 unfoldable pub traced : List ℕ → World → List ℕ → Left
 traced s w out = leaves (leb textRoom (length out)) rowTurn (printed s w) s w out

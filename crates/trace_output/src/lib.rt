@@ -4,35 +4,21 @@ ghost use Prim.Native.Nat.{_+_, _*_, _≤_};
 ghost use lib.ListN.{length, take};
 ghost use Rattle.laws.specs.Lists.{written};
 ghost use Rattle.trace_run.specs.Device.{handheld};
-ghost use Rattle.trace_output.specs.Output.{pixelCount, pictureRoom, lastLine, header, ppm, drawn, TraceLeaves, PictureLeaves};
+ghost use Rattle.trace_output.specs.Output.{TraceLeaves, PictureLeaves};
 ghost use Rattle.trace_run.specs.Run.{frameTurn, layerTurn, turnFor};
 use trace_record::put_all;
 use trace_run::Device;
-use trace_run::Machine;
 use trace_run::Run;
 use trace_run::Shown;
 use trace_run::frame_turn;
 use trace_run::row_turn;
 use trace_text::put_answer;
-use trace_text::put_numbered;
 use vdp::VdpState;
 
 // The longest recording that is run, and the room that its text may take.
 const LONGEST: usize = 65535;
 
 const TEXT_ROOM: usize = 327_700;
-
-// The last line of a trace: the count of records, or where the recording is bad.
-fn put_last(out: &mut [u8], at: usize, input: &[u8], run: Run) -> usize
-    requires { ⌜ at + 10 ≤ length (now out) ⌝ }
-    ensures { λ r. ⌜ r ≡ at + length (lastLine (now (input .entry)) run) ⌝ }
-    ensures { λ _. ⌜ now (out .exit) ≡ written (now (out .entry)) at (lastLine (now (input .entry)) run) ⌝ }
-{
-    if input.len() <= run.at {
-        return put_numbered(out, at, b"end ", run.count);
-    }
-    put_numbered(out, at, b"bad ", run.at)
-}
 
 // R7.8: the text of a recording, run on this device, at the start of out, and how long it is. At most 65,535 bytes are taken; without room for what they may print nothing happens.
 pub fn trace(device: Device, input: &[u8], vram: &mut [u8], row: &mut [u8], out: &mut [u8]) -> usize
@@ -59,58 +45,7 @@ pub fn trace(device: Device, input: &[u8], vram: &mut [u8], row: &mut [u8], out:
         run = turned.run;
         i += 1;
     }
-    put_last(out, len, input, run)
-}
-
-// The pixels of a machine's picture, of which its frame has four bytes each and its picture three.
-fn pixel_count(machine: Machine) -> usize
-    ensures { λ n. ⌜ (n ≡ pixelCount machine) × (n ≤ 49152) ⌝ }
-{
-    match machine {
-        Machine::Handheld => 23040,
-        Machine::Home => 49152,
-    }
-}
-
-// The header of a binary PPM.
-fn put_header(out: &mut [u8], machine: Machine) -> usize
-    requires { ⌜ 15 ≤ length (now out) ⌝ }
-    ensures { λ r. ⌜ r ≡ 15 ⌝ }
-    ensures { λ _. ⌜ now (out .exit) ≡ written (now (out .entry)) 0 (header machine) ⌝ }
-{
-    match machine {
-        Machine::Handheld => put_all(out, 0, b"P6\n160 144\n255\n"),
-        Machine::Home => put_all(out, 0, b"P6\n256 192\n255\n"),
-    }
-}
-
-// The picture of a frame: red, green and blue of each pixel, behind the header.
-fn put_ppm(out: &mut [u8], machine: Machine, frame: &[u8]) -> usize
-    requires { ⌜ (pictureRoom machine ≤ length (now out)) × (4 * pixelCount machine ≤ length (now frame)) ⌝ }
-    ensures { λ r. ⌜ r ≡ length (ppm machine (now (frame .entry))) ⌝ }
-    ensures { λ _. ⌜ now (out .exit) ≡ written (now (out .entry)) 0 (ppm machine (now (frame .entry))) ⌝ }
-{
-    let count = pixel_count(machine);
-    let mut at = put_header(out, machine);
-    let mut i = 0;
-    while i < count {
-        let k = 4 * i;
-        at = put_all(out, at, &[frame[k], frame[k + 1], frame[k + 2]]);
-        i += 1;
-    }
-    at
-}
-
-// What is written at the end of a run: its picture, or where the recording is bad.
-fn put_picture(out: &mut [u8], machine: Machine, input: &[u8], run: Run, frame: &[u8]) -> usize
-    requires { ⌜ (pictureRoom machine ≤ length (now out)) × (4 * pixelCount machine ≤ length (now frame)) ⌝ }
-    ensures { λ r. ⌜ r ≡ length (drawn machine (now (input .entry)) run (now (frame .entry))) ⌝ }
-    ensures { λ _. ⌜ now (out .exit) ≡ written (now (out .entry)) 0 (drawn machine (now (input .entry)) run (now (frame .entry))) ⌝ }
-{
-    if input.len() <= run.at {
-        return put_ppm(out, machine, frame);
-    }
-    put_numbered(out, 0, b"bad ", run.at)
+    trace_end::put_last(out, len, input, run)
 }
 
 // What a recording's visible steps show in the frame, run on this device, at the start of out, and how long it is; of a bad or long recording, only
@@ -128,7 +63,7 @@ fn pictured(
     ensures { λ n. ⌜ (n ≤ length (now (out .exit))) × (n ≡ length (take n (now (out .exit)))) ⌝ }
 {
     let machine = device.machine;
-    let count = pixel_count(machine);
+    let count = trace_end::pixel_count(machine);
     if out.len() < 15 + 3 * count {
         return 0;
     }
@@ -149,7 +84,7 @@ fn pictured(
         run = turned.run;
         i += 1;
     }
-    put_picture(out, machine, input, run, frame)
+    trace_end::put_picture(out, machine, input, run, frame)
 }
 
 // R7.13, R20.9: the picture that the steps of the visible size draw, and those of the home machine.

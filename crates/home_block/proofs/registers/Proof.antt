@@ -1,7 +1,7 @@
 -- `home_block::registers` meets its contract: the registers.
 use borrow.Author.Needs.{needs}
 use Rattle.home_block.specs.HomeBlock.{stateOf}
-use Rattle.inplace.specs.InPlace.{frontIn}
+use Rattle.fields.specs.Stored.{frontIn}
 use Rattle.home_block.proofs.registers.Statement.{statement}
 use Rattle.home_block.proofs.registers.Tie as tie
 

@@ -5,7 +5,7 @@ use borrow.Author.Tests.{not-true, not-false}
 use native.Mathlib.Omega.{arith}
 use lib.ListN.{length}
 use Rattle.picture.specs.declared.Screen.the-variants.{Home}
-use Rattle.inplace.specs.InPlace.{frontIn}
+use Rattle.fields.specs.Stored.{frontIn}
 use Rattle.home_block.specs.HomeBlock.{stateOf}
 use Rattle.home_block.proofs.Whole.{said}
 use Rattle.home.specs.Step.{readingOf}

@@ -1,6 +1,6 @@
 -- `inplace::chosen_in` meets its contract: the memory that the data port reads and writes.
 use borrow.Author.Needs.{needs}
-use Rattle.inplace.specs.InPlace.{frontIn}
+use Rattle.fields.specs.Stored.{frontIn}
 use Rattle.inplace.proofs.chosen_in.Statement.{statement}
 use Rattle.inplace.proofs.chosen_in.Tie as tie
 

@@ -1,6 +1,6 @@
 -- `inplace::command_in` meets its contract: the command latch.
 use borrow.Author.Needs.{needs}
-use Rattle.inplace.specs.InPlace.{frontIn}
+use Rattle.fields.specs.Stored.{frontIn}
 use Rattle.inplace.proofs.command_in.Statement.{statement}
 use Rattle.inplace.proofs.command_in.Tie as tie
 

@@ -4,7 +4,7 @@ use native.Mathlib.Omega.{arith}
 use mathlib.Core.Path.{sym, _∙_}
 use borrow.Author.Tests.{lt-ltb, le-ltb}
 use Rattle.front.specs.Front.{emptied}
-use Rattle.inplace.specs.InPlace.{frontIn}
+use Rattle.fields.specs.Stored.{frontIn}
 use Rattle.inplace.proofs.Stores.{eleven, next-buffer, still-formed}
 use Rattle.inplace.proofs.Ports.{address-is, buffer-is, refused-by, given-by}
 use Rattle.inplace.proofs.read_ram.Statement.{statement}

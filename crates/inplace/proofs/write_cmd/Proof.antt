@@ -5,7 +5,7 @@ use mathlib.Core.Path.{sym, _∙_}
 use borrow.Author.Tests.{lt-ltb, le-ltb, ne-eqb}
 use Rattle.front.specs.declared.WriteDest.the-variants.{Vram, Cram}
 use Rattle.front.specs.Front.{emptied}
-use Rattle.inplace.specs.InPlace.{frontIn}
+use Rattle.fields.specs.Stored.{frontIn}
 use Rattle.inplace.proofs.Stores.{eleven, next-choice, next-buffer, next-register, still-formed}
 use Rattle.inplace.proofs.Ports.{sent-by}
 use Rattle.inplace.proofs.write_cmd.Statement.{statement}

@@ -7,9 +7,9 @@ use lib.ListN.{length}
 use Rattle.picture.specs.Screen.{frameSize}
 use Rattle.trace_text.specs.Text.{longLine}
 use Rattle.trace_run.specs.Run.{held, start, turnFor, after}
-use Rattle.trace_output.specs.Output.{screenFor, pictureRoom}
-use Rattle.trace_output.proofs.Outputs.{frame-bytes, many-pixels, drawn-short, snapshot-no-room, snapshot-no-frame, snapshot-long, snapshot-whole}
-use Rattle.trace_output.proofs.Outputs.{snapshot-leaves, lent}
+use Rattle.trace_end.specs.End.{screenFor, pictureRoom}
+use Rattle.trace_end.proofs.End.{frame-bytes, many-pixels, drawn-short}
+use Rattle.trace_output.proofs.Outputs.{snapshot-no-room, snapshot-no-frame, snapshot-long, snapshot-whole, snapshot-leaves, lent}
 use Rattle.trace_run.proofs.Runs.{moves-for, ran-small, world-more}
 use Rattle.trace_output.proofs.pictured.Statement.{statement}
 use Rattle.trace_output.proofs.pictured.Tie as tie

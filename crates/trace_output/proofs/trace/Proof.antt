@@ -9,7 +9,8 @@ use Rattle.laws.specs.Lists.{written}
 use Rattle.laws.proofs.Lists.{written-nil}
 use Rattle.trace_text.specs.Text.{longLine}
 use Rattle.trace_run.specs.Run.{held, start, rowTurn, after, lines}
-use Rattle.trace_output.proofs.Outputs.{text-whole, trace-no-room, trace-long, trace-whole, trace-leaves, lent, last-short}
+use Rattle.trace_end.proofs.End.{last-short}
+use Rattle.trace_output.proofs.Outputs.{text-whole, trace-no-room, trace-long, trace-whole, trace-leaves, lent}
 use Rattle.trace_run.proofs.Runs.{row-moves, ran-small, world-more, text-more}
 use Rattle.trace_output.proofs.trace.Statement.{statement}
 use Rattle.trace_output.proofs.trace.Tie as tie

@@ -1,0 +1,2 @@
+-- The small fields as bytes, and back.
+pub mod Fields

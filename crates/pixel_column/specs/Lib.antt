@@ -1,0 +1,2 @@
+-- What the contracts of `pixel_column` cite.
+pub mod Column

@@ -1,0 +1,2 @@
+-- Laws of the last line and the picture.
+pub mod End

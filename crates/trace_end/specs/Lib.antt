@@ -1,0 +1,2 @@
+-- What the contracts of `trace_end` cite.
+pub mod End
