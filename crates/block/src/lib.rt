@@ -1,6 +1,6 @@
 // The state block (R7.5): a device as 219 or 220 bytes, and back.
 ghost use mathlib.Core.Path.{_≡_};
-ghost use Prim.Native.Nat.{_≤_};
+ghost use Prim.Native.Nat.{_≤_, _<_};
 ghost use Rattle.laws.specs.Lists.{at};
 ghost use lib.ListN.{length};
 ghost use Rattle.block_parts.specs.Parts.{rasterStored, cacheStored};
@@ -126,6 +126,14 @@ pub fn cache_in(block: &[u8]) -> [u32; 32]
     ensures { λ r. ⌜ r ≡ stateOf (now (block .entry)) .«color_cache» ⌝ }
 {
     block_parts::colours_at(block, CACHE)
+}
+
+// One of the cached colours.
+pub fn cached_colour(block: &[u8], n: usize) -> u32
+    requires { ⌜ (oldSize ≤ length (now block)) × (n < 32) ⌝ }
+    ensures { λ r. ⌜ r ≡ at (stateOf (now (block .entry)) .«color_cache») n ⌝ }
+{
+    block_parts::colour_at(block, CACHE + 4 * n)
 }
 
 // A status and a raster into a block.

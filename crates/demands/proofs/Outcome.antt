@@ -25,6 +25,7 @@ use Rattle.raster.proofs.Raster.line_interrupt_is_up
 use Rattle.raster.proofs.Raster.line_interrupt_update
 use Rattle.raster.proofs.table_number
 use Rattle.raster.proofs.table_from
+use Rattle.raster.proofs.unnamed_table
 use Rattle.picture.proofs.area_from
 use Rattle.picture.proofs.screen_of
 use Rattle.small.proofs.wide
@@ -127,6 +128,7 @@ use Rattle.block.proofs.registers
 use Rattle.block.proofs.raster_in
 use Rattle.block.proofs.palette_in
 use Rattle.block.proofs.cache_in
+use Rattle.block.proofs.cached_colour
 use Rattle.block.proofs.store_raster
 use Rattle.block.proofs.store_cache
 use Rattle.block_repair.proofs.repair
@@ -169,6 +171,7 @@ use Rattle.trace_run.proofs.row_turn
 use Rattle.trace_run.proofs.frame_turn
 use Rattle.column.proofs.fates
 use Rattle.column.proofs.owner_of
+use Rattle.word.proofs.asked
 use Rattle.word.proofs.number
 use Rattle.word.proofs.word_of
 
@@ -215,6 +218,9 @@ table-number-once κs a q z z′ w w′ e f = (e ∙ sym f, refl)
 
 pub table-from-once : OneOutcome 0 table_from.Kinds.ps table_from.Kinds.r table_from.Reads.Asked table_from.Reads.Learnt
 table-from-once κs a q z z′ w w′ e f = (e ∙ sym f, refl)
+
+pub unnamed-table-once : OneOutcome 0 unnamed_table.Kinds.ps unnamed_table.Kinds.r unnamed_table.Reads.Asked unnamed_table.Reads.Learnt
+unnamed-table-once κs a q z z′ w w′ e f = (e ∙ sym f, refl)
 
 pub advance-once : OneOutcome 0 advance.Kinds.ps advance.Kinds.r advance.Reads.Asked advance.Reads.Learnt
 advance-once κs a q z z′ w w′ e f = (e ∙ sym f, refl)
@@ -590,6 +596,9 @@ palette-in-once κs a q z z′ w w′ e f = (e ∙ sym f, refl)
 pub cache-in-once : OneOutcome 1 cache_in.Kinds.ps cache_in.Kinds.r cache_in.Reads.Asked cache_in.Reads.Learnt
 cache-in-once κs a q z z′ w w′ e f = (e ∙ sym f, refl)
 
+pub cached-colour-once : OneOutcome 1 cached_colour.Kinds.ps cached_colour.Kinds.r cached_colour.Reads.Asked cached_colour.Reads.Learnt
+cached-colour-once κs a q z z′ w w′ e f = (e ∙ sym f, refl)
+
 pub store-raster-once : OneOutcome 1 store_raster.Kinds.ps store_raster.Kinds.r store_raster.Reads.Asked store_raster.Reads.Learnt
 store-raster-once κs a q z z′ w w′ e f = (refl, λ i. ((e ∙ sym f) i, w .1))
 
@@ -733,6 +742,9 @@ pub vdp-record-next-once : OneOutcome 1 vdp_record_next.Kinds.ps vdp_record_next
 vdp-record-next-once κs a q z z′ w w′ e f = (e ∙ sym f, refl)
 
 -- ---- word
+pub asked-once : OneOutcome 0 asked.Kinds.ps asked.Kinds.r asked.Reads.Asked asked.Reads.Learnt
+asked-once κs a q z z′ w w′ e f = (e ∙ sym f, refl)
+
 pub number-once : OneOutcome 0 number.Kinds.ps number.Kinds.r number.Reads.Asked number.Reads.Learnt
 number-once κs a q z z′ w w′ e f = (e .0 ∙ sym (f .0), refl)
 

@@ -17,6 +17,7 @@ use Rattle.home_block.proofs.registers as home-registers
 use Rattle.home_block.proofs.raster_in as home-raster-in
 use Rattle.home_block.proofs.palette_in as home-palette-in
 use Rattle.home_block.proofs.cache_in as home-cache-in
+use Rattle.home_block.proofs.cached_colour as home-cached-colour
 use Rattle.home_block.proofs.store_raster as home-store-raster
 use Rattle.home_block.proofs.store_cache as home-store-cache
 use Rattle.home_block.proofs.out as home-block-out
@@ -89,6 +90,9 @@ home-palette-in-once κs a q z z′ w w′ e f = (e ∙ sym f, refl)
 
 pub home-cache-in-once : OneOutcome 1 home-cache-in.Kinds.ps home-cache-in.Kinds.r home-cache-in.Reads.Asked home-cache-in.Reads.Learnt
 home-cache-in-once κs a q z z′ w w′ e f = (e ∙ sym f, refl)
+
+pub home-cached-colour-once : OneOutcome 1 home-cached-colour.Kinds.ps home-cached-colour.Kinds.r home-cached-colour.Reads.Asked home-cached-colour.Reads.Learnt
+home-cached-colour-once κs a q z z′ w w′ e f = (e ∙ sym f, refl)
 
 pub home-store-raster-once : OneOutcome 1 home-store-raster.Kinds.ps home-store-raster.Kinds.r home-store-raster.Reads.Asked home-store-raster.Reads.Learnt
 home-store-raster-once κs a q z z′ w w′ e f = (refl, λ i. ((e ∙ sym f) i, w .1))

@@ -3,12 +3,11 @@
 use mathlib.Core.Path.{_≡_, refl, sym, ap, _∙_}
 use mathlib.Core.Logic.{_≢_}
 use mathlib.Core.Bool.{true, _&&_}
-use mathlib.Core.List.{List, [], _∷_, _++_}
-use Prim.Native.Nat.{ℕ, suc, _<_}
+use mathlib.Core.List.{List, [], _∷_}
+use Prim.Native.Nat.{ℕ, _<_}
 use native.Mathlib.Omega.{arith}
 use lib.Dec.{eqb, leb}
-use lib.ListN.{length, set, drop, length-drop}
-use lib.Seq.{length-take-le}
+use lib.ListN.{length, set}
 use Rattle.laws.specs.Lists.{at}
 use Rattle.laws.proofs.Parts.{set-past}
 use Rattle.laws.proofs.Tests.{split, either}
@@ -16,17 +15,16 @@ use Rattle.picture.specs.declared.RenderArea.{RenderArea}
 use Rattle.raster.specs.Raster.{lineTableFrom}
 use Rattle.vdp.specs.declared.VdpState.{VdpState}
 use Rattle.refusal.specs.declared.Refusal.{Refusal}
-use Rattle.refusal.specs.declared.Refusal.the-variants.{Accepted, UnknownPort, HorizontalCounter, HighRegister, NothingChosen, PaletteRead, NoPaletteByte}
-use Rattle.refusal.specs.declared.Refusal.the-variants.{OutsideMemory, VramLength, PixelLength, BlockMalformed, UnknownArea, FrameTooLong, UnknownTile}
-use Rattle.refusal.specs.declared.Refusal.the-variants.{CodesLength, HighCode, LayerLength, ListLength, RecordRoom}
-use Rattle.vdp.specs.Device.{unlatched}
+use Rattle.refusal.specs.declared.Refusal.the-variants.{VramLength, PixelLength, BlockMalformed, UnknownArea}
+use Rattle.front.specs.declared.Front.{Front}
+use Rattle.vdp.specs.Device.{frontOf, withFront, unlatched}
 use Rattle.refusal.specs.Refusals.{refusalNumber, Line, under, whole}
 use Rattle.vdp.specs.Refusals.{deviceLeft}
 use Rattle.vdp.specs.Ports.{portWrite, portRead}
 use Rattle.vdp.proofs.Behind.{write-behind, read-behind}
-use Rattle.block_parts.specs.Parts.{colourBytes}
 use Rattle.block.specs.Block.{fits, wellFormed, stateOf, head, small, last, blockOf}
 use Rattle.block.proofs.Whole.{long}
+use Rattle.block.proofs.Stores.{sized-state}
 use Rattle.block.proofs.RoundTrip.{block-back}
 use Rattle.step.specs.Step.{stepped, refusedStep, rowLines, frameLines, stepWith}
 use Rattle.dump.specs.Sheet.{dumpRefusal, sheetAfter}
@@ -38,63 +36,27 @@ use Rattle.step.proofs.Laws as Steps
 use Rattle.face.specs.Layers.{layerLines, layerCall, layersLeft}
 use Rattle.word.specs.Word.{answerWord}
 use Rattle.word.proofs.Words.{number-low, alone, low-byte, not-accepted}
-use Rattle.word.proofs.Calls.{whole-refused}
+use Rattle.word.proofs.Calls.{left-block, whole-refused}
 use Rattle.face.specs.Face.{stepWord, newTableCall, outCall, inputCall, steppedTo, stepCall, rowStepCall, dumpCall}
 use Rattle.face.specs.Refused.{refusalIn, blockLeft, LeftBehind}
 use Rattle.face.proofs.Exact.{step-byte}
 
--- ---- the block of a device without its command latch
-module _ (k : ℕ) (s : VdpState) (eleven : length (s .reg) ≡ 11) where
-  front : length (head k s ++ s .reg) ≡ 14
-  unfolding head
-  front = ap (λ (n : ℕ). suc (suc (suc n))) eleven
-
-  rest : List ℕ
-  rest = s .cram ++ (colourBytes (s .«color_cache») ++ last k s)
-
-  pub unlatched-block : blockOf k (unlatched s) ≡ set (set (blockOf k s) 21 0) 22 0
-  unfolding blockOf head small last rest
-  unlatched-block =
-      sym
-      (ap (λ (l : List ℕ). set l 22 0) (set-past (head k s ++ s .reg) (small s ++ rest) 14 7 0 front)
-      ∙ set-past (head k s ++ s .reg) (set (small s ++ rest) 7 0) 14 8 0 front)
+-- the block of a device without its command latch
+unlatched-block : (k : ℕ) (s : VdpState) → length (s .reg) ≡ 11 → blockOf k (unlatched s) ≡ set (set (blockOf k s) 21 0) 22 0
+unfolding blockOf head small last
+unlatched-block k s e = sym (rw (set-past (s .reg) _ 11 7 _ e, set-past (s .reg) _ 11 8 _ e))
 
 -- an accepted step has refusal 0 in its word
 all-well : (a : RenderArea) (m : List ℕ) (s : VdpState) → refusalIn (stepWord (stepped a m s)) ≡ 0
 all-well a m s = step-byte (stepped a m s) ∙ ap refusalNumber (Steps.stepped-refusal a m s)
 
 module _ (b : List ℕ) (bytes : (i : ℕ) → at b i < 256) where
-  registers : wellFormed b ≡ true → length (stateOf b .reg) ≡ 11
-  unfolding stateOf
-  registers w = length-take-le 11 (drop 3 b) (simp length-drop (omega (arith, long b w)))
-
-  emptied : wellFormed b ≡ true → blockOf (length b) (unlatched (stateOf b)) ≡ set (set b 21 0) 22 0
-  emptied w = unlatched-block (length b) (stateOf b) (registers w) ∙ ap (λ (l : List ℕ). set (set l 21 0) 22 0) (block-back b w bytes)
-
   -- R2.2 of a device and of its block
-  behind : wellFormed b ≡ true → (r : Refusal) → blockOf (length b) (deviceLeft r (stateOf b)) ≡ blockLeft (refusalNumber r) b
-  behind w HighRegister = emptied w
-  behind w NothingChosen = emptied w
-  behind w PaletteRead = emptied w
-  behind w NoPaletteByte = emptied w
-  behind w OutsideMemory = emptied w
-  behind w Accepted = block-back b w bytes
-  behind w UnknownPort = block-back b w bytes
-  behind w HorizontalCounter = block-back b w bytes
-  behind w VramLength = block-back b w bytes
-  behind w PixelLength = block-back b w bytes
-  behind w BlockMalformed = block-back b w bytes
-  behind w UnknownArea = block-back b w bytes
-  behind w FrameTooLong = block-back b w bytes
-  behind w UnknownTile = block-back b w bytes
-  behind w CodesLength = block-back b w bytes
-  behind w HighCode = block-back b w bytes
-  behind w LayerLength = block-back b w bytes
-  behind w ListLength = block-back b w bytes
-  behind w RecordRoom = block-back b w bytes
-
-  pub left-by : wellFormed b ≡ true → (r : Refusal) {n : ℕ} → n ≡ refusalNumber r → blockOf (length b) (deviceLeft r (stateOf b)) ≡ blockLeft n b
-  left-by w r e = behind w r ∙ ap (λ (n : ℕ). blockLeft n b) (sym e)
+  left-by : wellFormed b ≡ true → (r : Refusal) {n : ℕ} → n ≡ refusalNumber r → blockOf (length b) (deviceLeft r (stateOf b)) ≡ blockLeft n b
+  left-by w r e =
+      let s : VdpState = stateOf b in
+      left-block (λ (f : Front). blockOf (length b) (withFront s f)) (frontOf s) (block-back b w bytes)
+      (unlatched-block (length b) s (sized-state b (long b w) .registers) ∙ ap (λ (l : List ℕ). set (set l 21 0) 22 0) (block-back b w bytes)) r e
 
   -- the same of a step that the device refuses
   unstepped : wellFormed b ≡ true → (r : Refusal) (x : List ℕ) → b ≡ blockLeft (refusalNumber r) b → LeftBehind b x

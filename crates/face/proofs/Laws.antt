@@ -5,20 +5,19 @@ use mathlib.Core.Bool.{true, false, _&&_}
 use mathlib.Core.Logic.{_≢_}
 use mathlib.Core.List.{List, []}
 use Prim.Native.Nat.{ℕ, _+_, _*_, _<_, _≤_}
-use borrow.Author.Tests.{le-leb, lt-leb}
+use borrow.Author.Tests.{le-leb}
 use lib.Dec.{leb}
 use lib.ListN.{length}
 use Rattle.laws.specs.Lists.{at}
 use Rattle.laws.proofs.Parts.{at-past}
 use Rattle.laws.proofs.Tests.{split}
-use Rattle.picture.specs.declared.Screen.{Screen}
 use Rattle.picture.specs.declared.RenderArea.{RenderArea}
 use Rattle.raster.specs.Raster.{lineTableFrom}
 use Rattle.vdp.specs.declared.VdpState.{VdpState}
 use Rattle.refusal.specs.declared.Refusal.{Refusal}
-use Rattle.refusal.specs.declared.Refusal.the-variants.{Accepted, BlockMalformed, UnknownArea}
+use Rattle.refusal.specs.declared.Refusal.the-variants.{Accepted, BlockMalformed}
 use Rattle.vdp.specs.Device.{made, withCache}
-use Rattle.refusal.specs.Refusals.{refusalNumber, Line}
+use Rattle.refusal.specs.Refusals.{refusalNumber, Line, first}
 use Rattle.vdp.specs.Ports.{portRead}
 use Rattle.inplace.specs.declared.Got.{Got}
 use Rattle.block.specs.Block.{fits, freshIn, wellFormed, head, small, last, stateOf, blockOf, Sized}
@@ -28,19 +27,20 @@ use Rattle.block.proofs.RoundTrip.{block-back}
 use Rattle.block.proofs.Stores.{sized-state}
 use Rattle.step.specs.declared.Stepped.{Stepped}
 use Rattle.points.specs.declared.Points.{Points}
-use Rattle.points.specs.Points.{Reading}
-use Rattle.points.specs.Bytes.{RowPointsLeave, FramePointsLeave, RowLayerPointsLeave, FrameLayerPointsLeave}
-use Rattle.step.specs.Step.{coloursNow, rowLines, frameLines, readingOf, cleaned, joined, stepWith}
-use Rattle.step.specs.Layers.{LayersLeave}
+use Rattle.points.specs.Points.{pointsWith}
+use Rattle.points.specs.Bytes.{layersUnder}
+use Rattle.step.specs.Step.{coloursNow, readingOf, cleaned, joined, stepWith}
+use Rattle.step.specs.Layers.{layersAfter}
 use Rattle.step.proofs.Laws.{step-table}
-use Rattle.step.proofs.Steps.{row-joined, frame-joined, row-layers-joined, frame-layers-joined}
+use Rattle.step.proofs.Steps.{joined-with}
 use Rattle.points.specs.declared.DrawnRow.{DrawnRow}
 use Rattle.points.specs.declared.DrawnRow.the-variants.{NoRow, Drawn}
 use Rattle.dump.specs.Sheet.{SheetLeaves}
-use Rattle.picture.specs.Area.{areaFrom, screenOf, columns}
-use Rattle.face.specs.Layers.{layerLines, layerOn, layerCall, layersLeft, LayerLeaves, LayerRowLeaves, LayerFrameLeaves}
+use Rattle.picture.specs.Area.{areaFrom, screenOf}
+use Rattle.face.specs.Layers.{layerLines, layerOn, layerCall, layersLeft, LayerLeaves}
 use Rattle.word.specs.Word.{pointsWord}
-use Rattle.word.proofs.Calls.{leaves, along, ten, on}
+use Rattle.word.specs.Called.{askedLines}
+use Rattle.word.proofs.Calls.{leaves, along, ten, on, asked-refused}
 use Rattle.face.specs.Face.{Called, Leaves, stepWord, onBlock, onArea, newTableCall, outOn, outCall, inputOn, inputCall, steppedTo, stepOn}
 use Rattle.face.specs.Face.{stepCall, rowStepOn, rowStepCall, dumpOn, dumpCall}
 
@@ -102,103 +102,72 @@ module _ (b : List ℕ) where
       along (on (stateOf b) b pixels (dumpOn b m pixels) w)
       (record { word = en ∙ ap refusalNumber (l .refusal); block = refl; lent = rw (er, ec) at (l .bytes) })
 
+-- ---- a step under these lines, by what its points answer and leave, the block that they are stored in, and their word
+pub ran :
+    (b m x : List ℕ) (ls : List Line) (a : RenderArea) {points : Points} {colours b′ x′ y : List ℕ} {r : ℕ} (bytes : (i : ℕ) → at b i < 256)
+    (w : wellFormed b ≡ true) → points ≡ pointsWith ls (screenOf a) m (readingOf (stateOf b))
+    → ((n : ℕ) → points .row ≡ Drawn n → colours ≡ coloursNow (stateOf b))
+    → ((j : ℕ) (s : VdpState) → Sized s → points .raster .table ≡ s .raster .table → ((n : ℕ) → points .row ≡ Drawn n → colours ≡ coloursNow s)
+    → b ≡ blockOf j s → b′ ≡ blockOf j (joined s points .vdp))
+    → r ≡ pointsWord points → x′ ≡ y
+    → Leaves (steppedTo (length b) (stepWith ls a m (stateOf b)) y) r b′ x′
+ran b m x ls a {points} bytes w e colour-of es er ex =
+    let s : VdpState = stateOf b in
+    let q : joined s points ≡ stepWith ls a m s = ap (λ (p : Points). joined s p) e ∙ joined-with ls a m s in
+    record {
+      word = er ∙ ap stepWord q;
+      block =
+          es (length b) s (sized-state b (long b w)) (ap (λ (t : Stepped). t .vdp .raster .table) q ∙ step-table ls a m s)
+          colour-of (sym (block-back b w bytes))
+          ∙ ap (λ (t : Stepped). blockOf (length b) (t .vdp)) q;
+      lent = ex;
+    }
+
 -- ---- a step: the block is tested, the area number, and then the block's parts are read each by itself
 module _ (b m x : List ℕ) (n : ℕ) where
   -- a call that asks for an area, on block and area
   abbrev asked : (VdpState → RenderArea → Called) → Called
   asked call = onBlock b x (λ s. onArea n b x (call s))
 
-  bad : (call : VdpState → RenderArea → Called) {r : ℕ} → wellFormed b ≡ false → r ≡ refusalNumber BlockMalformed → Leaves (asked call) r b x
-  bad call w er = rw er (leaves (sym (rw w)))
+  taken : (call : VdpState → RenderArea → Called) → wellFormed b ≡ true → n ≤ 2 → call (stateOf b) (areaFrom n) ≡ asked call
+  taken call w h = sym (rw (w, le-leb n 2 h))
 
-  unknown : (call : VdpState → RenderArea → Called) {r : ℕ} → wellFormed b ≡ true → 2 < n → r ≡ refusalNumber UnknownArea → Leaves (asked call) r b x
-  unknown call w h er = rw er (leaves (sym (rw (w, lt-leb n 2 h))))
+  -- refused by 10 or 11
+  module _ {r : ℕ} (er : r ≡ refusalNumber (first (askedLines (wellFormed b) n))) (h : r ≢ 0) where
+    pub step-refused : Leaves (stepCall b m x n) r b x
+    unfolding stepCall
+    step-refused = asked-refused (wellFormed b) n er (stateOf b) b x (λ s. stepOn m x (length b) s (areaFrom n)) h
 
-  pub step-bad : {r : ℕ} → wellFormed b ≡ false → r ≡ refusalNumber BlockMalformed → Leaves (stepCall b m x n) r b x
-  unfolding stepCall
-  step-bad = bad (stepOn m x (length b))
+    pub row-refused : Leaves (rowStepCall b m x n) r b x
+    unfolding rowStepCall
+    row-refused = asked-refused (wellFormed b) n er (stateOf b) b x (λ s. rowStepOn m x (length b) s (areaFrom n)) h
 
-  pub row-bad : {r : ℕ} → wellFormed b ≡ false → r ≡ refusalNumber BlockMalformed → Leaves (rowStepCall b m x n) r b x
-  unfolding rowStepCall
-  row-bad = bad (rowStepOn m x (length b))
+    pub layer-refused : (lines : RenderArea → List Line) (filled : VdpState → RenderArea → List ℕ) (layers : List ℕ)
+        → LayerLeaves lines filled b m x layers n r b x layers
+    unfolding layerCall layersLeft
+    layer-refused lines filled layers =
+        record {
+          call = asked-refused (wellFormed b) n er (stateOf b) b x (λ s. layerOn lines filled m x layers (length b) s (areaFrom n)) h;
+          owners = split (wellFormed b) (λ e. split (leb n 2) (λ f. absurd (h (er ∙ rw (e, f)))) (λ f. rw (e, f))) (λ e. rw e);
+        }
 
-  pub step-unknown : {r : ℕ} → wellFormed b ≡ true → 2 < n → r ≡ refusalNumber UnknownArea → Leaves (stepCall b m x n) r b x
-  unfolding stepCall
-  step-unknown = unknown (stepOn m x (length b))
+  -- taken, it is that step
+  module _ (w : wellFormed b ≡ true) (h : n ≤ 2) {b′ x′ : List ℕ} {r : ℕ} where
+    pub step-kept : Leaves (stepOn m x (length b) (stateOf b) (areaFrom n)) r b′ x′ → Leaves (stepCall b m x n) r b′ x′
+    unfolding stepCall
+    step-kept l = along (taken (stepOn m x (length b)) w h) l
 
-  pub row-unknown : {r : ℕ} → wellFormed b ≡ true → 2 < n → r ≡ refusalNumber UnknownArea → Leaves (rowStepCall b m x n) r b x
-  unfolding rowStepCall
-  row-unknown = unknown (rowStepOn m x (length b))
+    pub row-kept : Leaves (rowStepOn m x (length b) (stateOf b) (areaFrom n)) r b′ x′ → Leaves (rowStepCall b m x n) r b′ x′
+    unfolding rowStepCall
+    row-kept l = along (taken (rowStepOn m x (length b)) w h) l
 
-  -- the same of a step with layers
-  pub layer-bad : (lines : RenderArea → List Line) (filled : VdpState → RenderArea → List ℕ) (layers : List ℕ) {r : ℕ} → wellFormed b ≡ false → r ≡
-      refusalNumber BlockMalformed
-      → LayerLeaves lines filled b m x layers n r b x layers
-  unfolding layerCall layersLeft
-  layer-bad lines filled layers w er = record { call = bad (layerOn lines filled m x layers (length b)) w er; owners = rw w }
-
-  pub layer-unknown : (lines : RenderArea → List Line) (filled : VdpState → RenderArea → List ℕ) (layers : List ℕ) {r : ℕ} → wellFormed b ≡ true → 2
-      < n → r ≡ refusalNumber UnknownArea
-      → LayerLeaves lines filled b m x layers n r b x layers
-  unfolding layerCall layersLeft
-  layer-unknown lines filled layers w h er = record {
-    call = unknown (layerOn lines filled m x layers (length b)) w h er;
-    owners = rw
-        (w, lt-leb n 2 h);
-  }
-
-  -- a step, by what its points answer and leave, the block that they are stored in, and their word
-  module _
-      {a : RenderArea} {screen : Screen} {points : Points} {k : Reading} {colours b′ x′ : List ℕ} {r : ℕ}
-      (bytes : (i : ℕ) → at b i < 256) (w : wellFormed b ≡ true) (h : n ≤ 2) (ea : a ≡ areaFrom n) (ez : screen ≡ screenOf a)
-      (g : k ≡ readingOf (stateOf b)) (colour-of : (y : ℕ) → points .row ≡ Drawn y → colours ≡ coloursNow (stateOf b))
-      (es : (j : ℕ) (s : VdpState) → Sized s → points .raster .table ≡ s .raster .table → ((y : ℕ) → points .row ≡ Drawn y → colours ≡ coloursNow s)
-      → b ≡ blockOf j s → b′ ≡ blockOf j (joined s points .vdp))
-      (er : r ≡ pointsWord points)
-    where
-      stored :
-          (call : VdpState → RenderArea → Called) (ls : List Line) {y : List ℕ} → call (stateOf b) a ≡ steppedTo (length b)
-          (stepWith ls a m (stateOf b)) y
-          → joined (stateOf b) points ≡ stepWith ls a m (stateOf b) → x′ ≡ y → Leaves (asked call) r b′ x′
-      stored call ls ec e ey =
-          along (sym ec ∙ ap (call (stateOf b)) ea ∙ sym (rw (w, le-leb n 2 h)))
-          (record {
-            word = er ∙ ap stepWord e;
-            block =
-                es (length b) (stateOf b) (sized-state b (long b w)) (ap (λ (s : Stepped). s .vdp .raster .table) e ∙ step-table ls a m (stateOf b))
-                colour-of (sym (block-back b w bytes))
-                ∙ ap (λ (s : Stepped). blockOf (length b) (s .vdp)) e;
-            lent = ey;
-          })
-
-      pub step-kept : FramePointsLeave screen m k x points x′ → Leaves (stepCall b m x n) r b′ x′
-      unfolding stepCall
-      step-kept l = let q = frame-joined a m (stateOf b) g refl x (rw ez at l) in stored (stepOn m x (length b)) (frameLines a m (length x)) refl
-          (q .answer) (q .bytes)
-
-      pub row-kept : RowPointsLeave screen m k x points x′ → Leaves (rowStepCall b m x n) r b′ x′
-      unfolding rowStepCall
-      row-kept l = let q = row-joined a m (stateOf b) g refl x (rw ez at l) in stored (rowStepOn m x (length b)) (rowLines a m (length x)) refl
-          (q .answer) (q .bytes)
-
-      layer-kept :
-          (lines : RenderArea → List Line) (filled : VdpState → RenderArea → List ℕ) (layers : List ℕ) {layers′ : List ℕ}
-          → LayersLeave (columns a) (lines a) a m (stateOf b) x (filled (stateOf b) a) layers (joined (stateOf b) points) x′ layers′
-          → LayerLeaves lines filled b m x layers n r b′ x′ layers′
-      unfolding layerCall layersLeft
-      layer-kept lines filled layers l =
-          record {
-            call = stored (layerOn lines filled m x layers (length b)) (layerLines lines layers a) refl (l .answer) (l .bytes);
-            owners = l .owners ∙ rw (w, le-leb n 2 h, ea);
-          }
-
-      pub layer-row-kept : (layers : List ℕ) {layers′ : List ℕ} → RowLayerPointsLeave screen m k x layers points x′ layers′ → LayerRowLeaves b m x
-          layers n r b′ x′ layers′
-      layer-row-kept layers l = layer-kept _ _ layers (row-layers-joined a m (stateOf b) g refl x layers (rw ez at l))
-
-      pub layer-frame-kept : (layers : List ℕ) {layers′ : List ℕ} → FrameLayerPointsLeave screen m k x layers points x′ layers′ → LayerFrameLeaves b
-          m x layers n r b′ x′ layers′
-      layer-frame-kept layers l = layer-kept _ _ layers (frame-layers-joined a m (stateOf b) g refl x layers (rw ez at l))
+    pub layer-kept : (lines : RenderArea → List Line) (filled : VdpState → RenderArea → List ℕ) (layers : List ℕ) {layers′ : List ℕ}
+        → Leaves (layerOn lines filled m x layers (length b) (stateOf b) (areaFrom n)) r b′ x′
+        → layers′ ≡ layersUnder (layerLines lines layers (areaFrom n)) (screenOf (areaFrom n)) m (readingOf (stateOf b)) layers
+        → LayerLeaves lines filled b m x layers n r b′ x′ layers′
+    unfolding layerCall layersLeft layersAfter
+    layer-kept lines filled layers l eo =
+        record { call = along (taken (layerOn lines filled m x layers (length b)) w h) l; owners = eo ∙ rw (w, le-leb n 2 h) }
 
 -- a step's colours keep the sizes
 pub cleaned-sized : (r : DrawnRow) (s : VdpState) (colours : List ℕ) → Sized s → Sized (cleaned r s colours)

@@ -16,8 +16,6 @@ use Rattle.laws.proofs.Tests.{split}
 use Rattle.colour.specs.Colour.{colour, coloursOf}
 use Rattle.picture.specs.Area.{areaFrom}
 use Rattle.refusal.specs.Refusals.{refusalNumber, first, whole}
-use Rattle.block_parts.specs.Parts.{colourAt}
-use Rattle.block_parts.proofs.Copies.{one-of}
 use Rattle.block.specs.Block.{wellFormed, stateOf}
 use Rattle.pixel.specs.Pixel.{pixelLines}
 use Rattle.step.specs.Step.{coloursNow}
@@ -27,10 +25,10 @@ use Rattle.face.specs.Refused.{refusalIn, stepCallLines}
 use Rattle.face.specs.Pixel.{pixelCall}
 use Rattle.word.proofs.Words.{pixel-byte}
 
-module _ (b : List ℕ) (n : ℕ) (h : n < 32) where
-  pub colour-dirty : at b 26 ≡ 1 → colour (at b (27 + 2 * n)) (at b (27 + (2 * n + 1))) ≡ at (coloursNow (stateOf b)) n
+module _ (b : List ℕ) (n : ℕ) where
+  pub colour-dirty : n < 32 → at b 26 ≡ 1 → colour (at b (27 + 2 * n)) (at b (27 + (2 * n + 1))) ≡ at (coloursNow (stateOf b)) n
   unfolding stateOf coloursOf
-  colour-dirty e =
+  colour-dirty h e =
       rw (eq-eqb (at b 26) 1 e)
       (sym (getD-table 32 (λ i. colour (at (take 64 (drop 27 b)) (2 * i)) (at (take 64 (drop 27 b)) (2 * i + 1))) n h
       ∙ rw (
@@ -40,9 +38,9 @@ module _ (b : List ℕ) (n : ℕ) (h : n < 32) where
         getD-drop 27 b (2 * n + 1) 0,
       )))
 
-  pub colour-clean : (at b 26 ≡ 1 → ⊥) → colourAt b (91 + 4 * n) ≡ at (coloursNow (stateOf b)) n
+  pub colour-clean : (at b 26 ≡ 1 → ⊥) → at (stateOf b .«color_cache») n ≡ at (coloursNow (stateOf b)) n
   unfolding stateOf
-  colour-clean e = rw (ne-eqb (at b 26) 1 e) (sym (one-of 91 b n h))
+  colour-clean e = rw (ne-eqb (at b 26) 1 e)
 
 -- R16.3: refused by the first line of its table that holds; R16.6: and then its word is the refusal alone, with no pixel and four zero bytes
 module _ (b m : List ℕ) (n y x : ℕ) where

@@ -48,7 +48,7 @@ pub extern "C" fn vdp_new_table(state: &mut [u8], table: u8) -> u32
 pub extern "C" fn vdp_new(state: &mut [u8]) -> u32
     ensures { λ r. ⌜ Leaves (newCall (now (state .entry))) r (now (state .exit)) [] ⌝ }
 {
-    vdp_new_table(state, 1)
+    vdp_new_table(state, raster::unnamed_table())
 }
 
 // A port write.
@@ -118,11 +118,9 @@ fn store(state: &mut [u8], points: Points, colours: &[u32; 32])
 pub extern "C" fn vdp_step(state: &mut [u8], vram: &[u8], frame: &mut [u8], area: u8) -> u32
     ensures { λ r. ⌜ Leaves (stepCall (now (state .entry)) (now (vram .entry)) (now (frame .entry)) area) r (now (state .exit)) (now (frame .exit)) ⌝ }
 {
-    if !block::well_formed(state) {
-        return word::number(Refusal::BlockMalformed);
-    }
-    if picture::LAST_AREA < area {
-        return word::number(Refusal::UnknownArea);
+    let refused = word::asked(block::well_formed(state), area);
+    if refused != 0 {
+        return refused;
     }
     let screen = picture::screen_of(picture::area_from(area));
     let reg = block::registers(state);
@@ -150,11 +148,9 @@ pub extern "C" fn vdp_step(state: &mut [u8], vram: &[u8], frame: &mut [u8], area
 pub extern "C" fn vdp_row_step(state: &mut [u8], vram: &[u8], row: &mut [u8], area: u8) -> u32
     ensures { λ r. ⌜ Leaves (rowStepCall (now (state .entry)) (now (vram .entry)) (now (row .entry)) area) r (now (state .exit)) (now (row .exit)) ⌝ }
 {
-    if !block::well_formed(state) {
-        return word::number(Refusal::BlockMalformed);
-    }
-    if picture::LAST_AREA < area {
-        return word::number(Refusal::UnknownArea);
+    let refused = word::asked(block::well_formed(state), area);
+    if refused != 0 {
+        return refused;
     }
     let screen = picture::screen_of(picture::area_from(area));
     let reg = block::registers(state);
@@ -188,11 +184,9 @@ pub extern "C" fn vdp_layer_step(
 ) -> u32
     ensures { λ r. ⌜ LayerFrameLeaves (now (state .entry)) (now (vram .entry)) (now (frame .entry)) (now (layers .entry)) area r (now (state .exit)) (now (frame .exit)) (now (layers .exit)) ⌝ }
 {
-    if !block::well_formed(state) {
-        return word::number(Refusal::BlockMalformed);
-    }
-    if picture::LAST_AREA < area {
-        return word::number(Refusal::UnknownArea);
+    let refused = word::asked(block::well_formed(state), area);
+    if refused != 0 {
+        return refused;
     }
     let screen = picture::screen_of(picture::area_from(area));
     let reg = block::registers(state);
@@ -226,11 +220,9 @@ pub extern "C" fn vdp_layer_row_step(
 ) -> u32
     ensures { λ r. ⌜ LayerRowLeaves (now (state .entry)) (now (vram .entry)) (now (row .entry)) (now (layers .entry)) area r (now (state .exit)) (now (row .exit)) (now (layers .exit)) ⌝ }
 {
-    if !block::well_formed(state) {
-        return word::number(Refusal::BlockMalformed);
-    }
-    if picture::LAST_AREA < area {
-        return word::number(Refusal::UnknownArea);
+    let refused = word::asked(block::well_formed(state), area);
+    if refused != 0 {
+        return refused;
     }
     let screen = picture::screen_of(picture::area_from(area));
     let reg = block::registers(state);
@@ -302,7 +294,7 @@ fn colour_of(state: &[u8], n: usize) -> u32
             state[block::PALETTE + (2 * n + 1)],
         );
     }
-    block_parts::colour_at(state, block::CACHE + 4 * n)
+    block::cached_colour(state, n)
 }
 
 // The colour of a pixel, 0 where there is none.

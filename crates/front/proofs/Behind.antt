@@ -3,8 +3,9 @@
 use Prim.Native.Nat.{ℕ, _%_, _/_}
 use mathlib.Core.Path.{_≡_, refl}
 use mathlib.Core.Logic.{_≢_}
+use mathlib.Core.Bool.{cond, _&&_}
 use mathlib.Core.List.{List}
-use lib.Dec.{ltb, eqb}
+use lib.Dec.{leb, ltb, eqb}
 use Rattle.laws.proofs.Tests.{either}
 use Rattle.front.specs.declared.Front.{Front}
 use Rattle.front.specs.declared.FrontWritten.{FrontWritten}
@@ -13,14 +14,39 @@ use Rattle.front.specs.declared.WriteDest.{WriteDest}
 use Rattle.front.specs.declared.WriteDest.the-variants.{None, Vram, Cram}
 use Rattle.front.specs.declared.Latch.{Latch}
 use Rattle.front.specs.declared.Latch.the-variants.{Empty, Held}
-use Rattle.refusal.specs.declared.Refusal.the-variants.{Accepted}
+use Rattle.refusal.specs.declared.Refusal.{Refusal}
+use Rattle.refusal.specs.declared.Refusal.the-variants.{Accepted, UnknownPort, HorizontalCounter, HighRegister, NothingChosen, PaletteRead}
+use Rattle.refusal.specs.declared.Refusal.the-variants.{NoPaletteByte, OutsideMemory, VramLength, PixelLength, BlockMalformed, UnknownArea}
+use Rattle.refusal.specs.declared.Refusal.the-variants.{FrameTooLong, UnknownTile, CodesLength, HighCode, LayerLength, ListLength, RecordRoom}
 use Rattle.front.specs.Front.{FrontAfter, emptied, commandBy, dataBy, readBy}
-use Rattle.refusal.specs.Refusals.{whole}
+use Rattle.refusal.specs.Refusals.{refusalNumber, whole}
 use Rattle.front.specs.Lines.{leftBehind, isPort}
 use Rattle.front.specs.Ports.{frontWrite, frontRead}
 
 pub accepted : {G : Type 0} → Accepted ≢ Accepted → G
 accepted n = absurd (n refl)
+
+-- ---- the column by numbers: 3 to 7 empty the command latch, the others leave it
+pub left-is : (r : Refusal) (f : Front) → leftBehind r f ≡ cond (leb 3 (refusalNumber r) && leb (refusalNumber r) 7) (emptied f) f
+left-is Accepted f = refl
+left-is UnknownPort f = refl
+left-is HorizontalCounter f = refl
+left-is HighRegister f = refl
+left-is NothingChosen f = refl
+left-is PaletteRead f = refl
+left-is NoPaletteByte f = refl
+left-is OutsideMemory f = refl
+left-is VramLength f = refl
+left-is PixelLength f = refl
+left-is BlockMalformed f = refl
+left-is UnknownArea f = refl
+left-is FrameTooLong f = refl
+left-is UnknownTile f = refl
+left-is CodesLength f = refl
+left-is HighCode f = refl
+left-is LayerLength f = refl
+left-is ListLength f = refl
+left-is RecordRoom f = refl
 
 -- ---- of a front: where an answer is a refusal, it leaves what the column says
 module _ (f : Front) where

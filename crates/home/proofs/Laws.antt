@@ -3,12 +3,12 @@
 use mathlib.Core.Path.{_≡_, refl, sym, ap, _∙_}
 use mathlib.Core.Logic.{_≢_}
 use mathlib.Core.Bool.{Bool, false, cond, _&&_, _||_}
-use mathlib.Core.List.{List, [], _∷_}
+use mathlib.Core.List.{List}
 use Prim.Native.Nat.{ℕ, _≤_}
 use lib.ListN.{length, take, drop}
 use Rattle.laws.specs.Bits.{bit}
 use Rattle.laws.specs.Lists.{rowOf}
-use Rattle.laws.proofs.Tests.{either, split}
+use Rattle.laws.proofs.Tests.{either}
 use Rattle.colour.specs.Home.{homeColoursOf}
 use Rattle.picture.specs.declared.Screen.the-variants.{Home}
 use Rattle.picture.specs.Screen.{rowSize, frameSize}
@@ -17,7 +17,7 @@ use Rattle.raster.specs.Raster.{advanced, lineInterrupt, counted, ticked}
 use Rattle.refusal.specs.declared.Refusal.the-variants.{Accepted}
 use Rattle.front.specs.Front.{front}
 use Rattle.refusal.specs.Refusals.{Line, first}
-use Rattle.refusal.proofs.Tables.{Passed, Refusing, under-either, under-passed, under-refused, passed}
+use Rattle.refusal.proofs.Tables.{Passed, Refusing, under-either, under-passed, under-refused, under-told, passed}
 use Rattle.points.specs.declared.VdpInt.the-variants.{NoInterrupt, InterruptGenerated}
 use Rattle.points.specs.declared.DrawnRow.{DrawnRow}
 use Rattle.points.specs.declared.DrawnRow.the-variants.{NoRow, Drawn}
@@ -35,8 +35,7 @@ use Rattle.home.proofs.Kept.{Clean}
 -- a step is refused by the first line of its table that holds
 pub step-exact : (ls : List Line) (vram : List ℕ) (h : HomeState) → stepWith ls vram h .refusal ≡ first ls
 unfolding stepWith stepped pointsOf
-step-exact [] vram h = refl
-step-exact (l ∷ ls) vram h = split (l .holds) (λ e. simp e) (λ e. simp e (step-exact ls vram h))
+step-exact ls vram h = under-told (λ (s : HomeStepped). s .refusal) ls (λ r. refusedStep r h) (stepped vram h) (λ r. refl) refl
 
 module _ (ls : List Line) (vram : List ℕ) (h : HomeState) where
   pub step-accepted : Passed ls → stepWith ls vram h ≡ stepped vram h

@@ -1,14 +1,14 @@
 -- The home machine's step from its points.
 -- Assumes nothing.
-use mathlib.Core.Path.{_≡_, refl, ap, _∙_}
-use mathlib.Core.List.{List, [], _∷_}
+use mathlib.Core.Path.{_≡_, ap, _∙_}
+use mathlib.Core.List.{List}
 use Prim.Native.Nat.{ℕ}
-use Rattle.laws.proofs.Tests.{split}
 use Rattle.picture.specs.declared.Screen.the-variants.{Home}
 use Rattle.raster.specs.declared.Raster.{Raster}
 use Rattle.refusal.specs.Refusals.{Line}
+use Rattle.refusal.proofs.Tables.{under-map}
 use Rattle.points.specs.declared.Points.{Points}
-use Rattle.points.specs.Points.{Reading, reading, pointsWith}
+use Rattle.points.specs.Points.{Reading, reading, refusedPoints, pointsOf, pointsWith}
 use Rattle.points.specs.Bytes.{RowPointsLeave, FramePointsLeave}
 use Rattle.home.specs.declared.HomeState.{HomeState}
 use Rattle.home.specs.declared.HomeStepped.{HomeStepped}
@@ -17,8 +17,7 @@ use Rattle.home.specs.Step.{coloursNow, readingOf, joined, stepped, step
 -- ---- the step is `joined` of its points, refused or not
 pub joined-with : (ls : List Line) (vram : List ℕ) (h : HomeState) → joined h (pointsWith ls Home vram (readingOf h)) ≡ stepWith ls vram h
 unfolding pointsWith stepWith stepped
-joined-with [] vram h = refl
-joined-with (l ∷ ls) vram h = split (l .holds) (λ t. rw t) (λ t. rw t (joined-with ls vram h))
+joined-with ls vram h = under-map (joined h) ls (λ r. refusedPoints r (h .front .status) (h .raster)) (pointsOf Home vram (readingOf h))
 
 -- what the points read, part by part
 pub reading-of :

@@ -4,6 +4,7 @@ ghost use mathlib.Core.Path.{_≡_};
 ghost use mathlib.Core.Bool.{true};
 ghost use Prim.Native.Nat.{_≤_, _<_};
 ghost use lib.ListN.{length};
+ghost use Rattle.laws.specs.Lists.{at};
 ghost use Rattle.fields.specs.Stored.{addressIn};
 ghost use Rattle.block_parts.specs.Parts.{rasterStored, cacheStored};
 ghost use Rattle.home.specs.declared.HomeState.{HomeState};
@@ -89,6 +90,14 @@ pub fn cache_in(block: &[u8]) -> [u32; 32]
     ensures { λ r. ⌜ r ≡ stateOf (now (block .entry)) .«color_cache» ⌝ }
 {
     block_parts::colours_at(block, CACHE)
+}
+
+// One of the cached colours.
+pub fn cached_colour(block: &[u8], n: usize) -> u32
+    requires { ⌜ (length (now block) ≡ blockSize) × (n < 32) ⌝ }
+    ensures { λ r. ⌜ r ≡ at (stateOf (now (block .entry)) .«color_cache») n ⌝ }
+{
+    block_parts::colour_at(block, CACHE + 4 * n)
 }
 
 // A status and a raster into a block.

@@ -2,7 +2,7 @@
 -- Assumes nothing.
 use mathlib.Core.Path.{_≡_, refl, sym, ap, _∙_}
 use mathlib.Core.Logic.{_≢_}
-use mathlib.Core.Bool.{true, cond, _&&_}
+use mathlib.Core.Bool.{true, _&&_}
 use mathlib.Core.List.{List, [], _∷_}
 use Prim.Native.Nat.{ℕ, _<_}
 use native.Mathlib.Omega.{arith}
@@ -13,20 +13,17 @@ use Rattle.laws.proofs.Parts.{set-past}
 use Rattle.laws.proofs.Tests.{split, either}
 use Rattle.picture.specs.declared.Screen.the-variants.{Home}
 use Rattle.refusal.specs.declared.Refusal.{Refusal}
-use Rattle.refusal.specs.declared.Refusal.the-variants.{Accepted, UnknownPort, HorizontalCounter, HighRegister, NothingChosen, PaletteRead}
-use Rattle.refusal.specs.declared.Refusal.the-variants.{NoPaletteByte, OutsideMemory, VramLength, PixelLength, BlockMalformed, UnknownArea}
-use Rattle.refusal.specs.declared.Refusal.the-variants.{FrameTooLong, UnknownTile, CodesLength, HighCode, LayerLength, ListLength, RecordRoom}
+use Rattle.refusal.specs.declared.Refusal.the-variants.{VramLength, PixelLength, BlockMalformed}
 use Rattle.refusal.specs.Refusals.{refusalNumber, Line, under, whole}
 use Rattle.refusal.proofs.Tables.{under-refused}
 use Rattle.front.specs.declared.Front.{Front}
 use Rattle.front.specs.Front.{emptied}
-use Rattle.front.specs.Lines.{leftBehind}
 use Rattle.points.specs.Points.{rowLines, frameLines}
 use Rattle.dump.specs.Sheet.{dumpRefusal, sheetAfter}
 use Rattle.word.specs.Word.{answerWord, refusalIn}
 use Rattle.word.specs.Called.{blockLeft, LeftBehind}
 use Rattle.word.proofs.Words.{number-low, alone, low-byte, answer-byte, not-accepted}
-use Rattle.word.proofs.Calls.{whole-refused}
+use Rattle.word.proofs.Calls.{left-block, whole-refused}
 use Rattle.home.specs.declared.HomeState.{HomeState}
 use Rattle.home.specs.Home.{withFront}
 use Rattle.home.specs.Ports.{portWrite, portRead, deviceLeft}
@@ -41,28 +38,6 @@ use Rattle.home_face.specs.HomeFace.{newTableCall, outCall, inputCall, s
 use Rattle.home_face.specs.Layers.{layerLines, layerCall, layersLeft}
 use Rattle.home_face.proofs.Exact.{step-byte}
 
--- 3 to 7 empty the command latch, the others leave it
-left-is : (r : Refusal) (f : Front) → leftBehind r f ≡ cond (leb 3 (refusalNumber r) && leb (refusalNumber r) 7) (emptied f) f
-left-is Accepted f = refl
-left-is UnknownPort f = refl
-left-is HorizontalCounter f = refl
-left-is HighRegister f = refl
-left-is NothingChosen f = refl
-left-is PaletteRead f = refl
-left-is NoPaletteByte f = refl
-left-is OutsideMemory f = refl
-left-is VramLength f = refl
-left-is PixelLength f = refl
-left-is BlockMalformed f = refl
-left-is UnknownArea f = refl
-left-is FrameTooLong f = refl
-left-is UnknownTile f = refl
-left-is CodesLength f = refl
-left-is HighCode f = refl
-left-is LayerLength f = refl
-left-is ListLength f = refl
-left-is RecordRoom f = refl
-
 unlatched-block : (h : HomeState) → Sized h → blockOf (withFront h (emptied (h .front))) ≡ set (set (blockOf h) 21 0) 22 0
 unfolding blockOf head small
 unlatched-block h g = sym (rw (set-past (h .front .reg) _ 11 7 _ (g .registers), set-past (h .front .reg) _ 11 8 _ (g .registers)))
@@ -70,14 +45,10 @@ unlatched-block h g = sym (rw (set-past (h .front .reg) _ 11 7 _ (g .registers),
 module _ (b : List ℕ) (bytes : (i : ℕ) → at b i < 256) where
   -- R2.2 of a device and of its block
   left-by : wellFormed b ≡ true → (r : Refusal) {n : ℕ} → n ≡ refusalNumber r → blockOf (deviceLeft r (stateOf b)) ≡ blockLeft n b
-  left-by w r {n} e =
+  left-by w r e =
       let h : HomeState = stateOf b in
-      let t = leb 3 (refusalNumber r) && leb (refusalNumber r) 7 in
-      ap (λ (f : Front). blockOf (withFront h f)) (left-is r (h .front))
-      ∙ split t
-      (λ q. rw q (unlatched-block h (sized-state b (said b w .long)) ∙ ap (λ (l : List ℕ). set (set l 21 0) 22 0) (block-back b w bytes)))
-      (λ q. rw q (block-back b w bytes))
-      ∙ ap (λ (k : ℕ). blockLeft k b) (sym e)
+      left-block (λ (f : Front). blockOf (withFront h f)) (h .front) (block-back b w bytes)
+      (unlatched-block h (sized-state b (said b w .long)) ∙ ap (λ (l : List ℕ). set (set l 21 0) 22 0) (block-back b w bytes)) r e
 
   pub new-behind : (t : ℕ) → LeftBehind b [] (newTableCall b t)
   unfolding newTableCall

@@ -21,12 +21,12 @@ use Rattle.inplace.specs.declared.Got.{Got}
 use Rattle.points.specs.declared.Points.{Points}
 use Rattle.points.specs.declared.DrawnRow.{DrawnRow}
 use Rattle.points.specs.declared.DrawnRow.the-variants.{NoRow, Drawn}
-use Rattle.points.specs.Points.{Reading, rowLines, frameLines, pointsWith}
-use Rattle.points.specs.Bytes.{rowFilled, frameFilled, RowPointsLeave, FramePointsLeave, LayerPointsLeave, RowLayerPointsLeave, FrameLayerPointsLeave}
+use Rattle.points.specs.Points.{rowLines, frameLines, pointsWith}
+use Rattle.points.specs.Bytes.{rowFilled, frameFilled, layersUnder}
 use Rattle.points.proofs.Order.{under-also}
 use Rattle.dump.specs.Sheet.{SheetLeaves}
 use Rattle.word.specs.Word.{pointsWord}
-use Rattle.word.specs.Called.{Called, Leaves}
+use Rattle.word.specs.Called.{Leaves}
 use Rattle.word.proofs.Calls.{leaves, along, ten, on}
 use Rattle.home.specs.declared.HomeState.{HomeState}
 use Rattle.home.specs.declared.HomeStepped.{HomeStepped}
@@ -42,7 +42,7 @@ use Rattle.home_block.proofs.Stores.{sized-state}
 use Rattle.home_block.proofs.RoundTrip.{block-back}
 use Rattle.home_face.specs.HomeFace.{onBlock, newTableCall, outOn, outCall, inputOn, inputCall, stepWord, steppedTo, stepOn, stepCall, rowStepOn}
 use Rattle.home_face.specs.HomeFace.{rowStepCall, dumpOn, dumpCall}
-use Rattle.home_face.specs.Layers.{layerLines, layerOn, layerCall, layersLeft, LayerLeaves, LayerRowLeaves, LayerFrameLeaves}
+use Rattle.home_face.specs.Layers.{layerLines, layerOn, layerCall, layersLeft, LayerLeaves}
 
 -- ---- a fresh block
 module _ (b : List ℕ) (t : ℕ) where
@@ -120,56 +120,40 @@ module _ (b m x : List ℕ) where
   unfolding layerCall layersLeft
   layer-bad lines filled layers w er = record { call = ten (stateOf b) b x (layerOn lines filled m x layers) w er; owners = rw w }
 
-  -- by what its points answer and leave, the block that they are stored in, and their word
-  module _
-      {points : Points} {k : Reading} {colours b′ x′ : List ℕ} {r : ℕ} (bytes : (i : ℕ) → at b i < 256) (w : wellFormed b ≡ true)
-      (g : k ≡ readingOf (stateOf b)) (colour-of : (y : ℕ) → points .row ≡ Drawn y → colours ≡ coloursNow (stateOf b))
-      (es : (h : HomeState) → Sized h → points .raster .table ≡ h .raster .table → ((y : ℕ) → points .row ≡ Drawn y → colours ≡ coloursNow h)
+  -- under these lines, by what its points answer and leave, the block that they are stored in, and their word
+  pub ran :
+      (ls : List Line) {points : Points} {colours b′ x′ y : List ℕ} {r : ℕ} (bytes : (i : ℕ) → at b i < 256) (w : wellFormed b ≡ true)
+      → points ≡ pointsWith ls Home m (readingOf (stateOf b)) → ((n : ℕ) → points .row ≡ Drawn n → colours ≡ coloursNow (stateOf b))
+      → ((h : HomeState) → Sized h → points .raster .table ≡ h .raster .table → ((n : ℕ) → points .row ≡ Drawn n → colours ≡ coloursNow h)
       → b ≡ blockOf h → b′ ≡ blockOf (joined h points .home))
-      (er : r ≡ pointsWord points)
-    where
-      stored : (call : HomeState → Called) (ls : List Line) {y : List ℕ} → call (stateOf b) ≡ steppedTo (stepWith ls m (stateOf b)) y
-          → points ≡ pointsWith ls Home m k → x′ ≡ y → Leaves (onBlock b x call) r b′ x′
-      stored call ls ec e ey =
-          let h : HomeState = stateOf b in
-          let q : joined h points ≡ stepWith ls m h =
-          ap (λ (p : Points). joined h p) (e ∙ ap (pointsWith ls Home m) g) ∙ joined-with ls m h in
-          along (sym ec ∙ on h b x call w)
-          (record {
-            word = er ∙ ap stepWord q;
-            block =
-                es h (sized-state b (said b w .long)) (ap (λ (s : HomeStepped). s .home .raster .table) q ∙ step-table ls m h)
-                colour-of (sym (block-back b w bytes))
-                ∙ ap (λ (s : HomeStepped). blockOf (s .home)) q;
-            lent = ey;
-          })
+      → r ≡ pointsWord points → x′ ≡ y → Leaves (steppedTo (stepWith ls m (stateOf b)) y) r b′ x′
+  ran ls {points} bytes w e colour-of es er ex =
+      let h : HomeState = stateOf b in
+      let q : joined h points ≡ stepWith ls m h = ap (λ (p : Points). joined h p) e ∙ joined-with ls m h in
+      record {
+        word = er ∙ ap stepWord q;
+        block =
+            es h (sized-state b (said b w .long)) (ap (λ (s : HomeStepped). s .home .raster .table) q ∙ step-table ls m h)
+            colour-of (sym (block-back b w bytes))
+            ∙ ap (λ (s : HomeStepped). blockOf (s .home)) q;
+        lent = ex;
+      }
 
-      pub step-kept : FramePointsLeave Home m k x points x′ → Leaves (stepCall b m x) r b′ x′
-      unfolding stepCall frameAfter
-      step-kept l = stored (stepOn m x) (frameLines Home m (length x)) refl (l .answer) (l .bytes ∙ rw g)
+  -- and so the call
+  module _ (w : wellFormed b ≡ true) {b′ x′ : List ℕ} {r : ℕ} where
+    pub step-kept : Leaves (stepOn m x (stateOf b)) r b′ x′ → Leaves (stepCall b m x) r b′ x′
+    unfolding stepCall
+    step-kept l = along (on (stateOf b) b x (stepOn m x) w) l
 
-      pub row-kept : RowPointsLeave Home m k x points x′ → Leaves (rowStepCall b m x) r b′ x′
-      unfolding rowStepCall rowAfter
-      row-kept l = stored (rowStepOn m x) (rowLines Home m (length x)) refl (l .answer) (l .bytes ∙ rw g)
+    pub row-kept : Leaves (rowStepOn m x (stateOf b)) r b′ x′ → Leaves (rowStepCall b m x) r b′ x′
+    unfolding rowStepCall
+    row-kept l = along (on (stateOf b) b x (rowStepOn m x) w) l
 
-      layer-kept : (lines : List Line) (filled : HomeState → List ℕ) (layers : List ℕ) {layers′ : List ℕ}
-          → LayerPointsLeave lines Home m k x (filled (stateOf b)) layers points x′ layers′ → LayerLeaves lines filled b m x layers r b′ x′ layers′
-      unfolding layerCall layersLeft
-      layer-kept lines filled layers l =
-          record {
-            call = stored (layerOn lines filled m x layers) (layerLines lines layers) refl (l .points .answer) (l .points .bytes);
-            owners = l .owners ∙ rw (w, g);
-          }
-
-      pub layer-row-kept : (layers : List ℕ) {layers′ : List ℕ} → RowLayerPointsLeave Home m k x layers points x′ layers′
-          → LayerRowLeaves b m x layers r b′ x′ layers′
-      layer-row-kept layers l = layer-kept (rowLines Home m (length x)) (λ h. rowFilled Home m (readingOf h) x) layers
-          (record { points = record { answer = l .points .answer; bytes = l .points .bytes ∙ rw g }; owners = l .owners })
-
-      pub layer-frame-kept : (layers : List ℕ) {layers′ : List ℕ} → FrameLayerPointsLeave Home m k x layers points x′ layers′
-          → LayerFrameLeaves b m x layers r b′ x′ layers′
-      layer-frame-kept layers l = layer-kept (frameLines Home m (length x)) (λ h. frameFilled Home m (readingOf h) x) layers
-          (record { points = record { answer = l .points .answer; bytes = l .points .bytes ∙ rw g }; owners = l .owners })
+    pub layer-kept : (lines : List Line) (filled : HomeState → List ℕ) (layers : List ℕ) {layers′ : List ℕ}
+        → Leaves (layerOn lines filled m x layers (stateOf b)) r b′ x′ → layers′ ≡ layersUnder (layerLines lines layers) Home m (readingOf (stateOf b)) layers
+        → LayerLeaves lines filled b m x layers r b′ x′ layers′
+    unfolding layerCall layersLeft
+    layer-kept lines filled layers l eo = record { call = along (on (stateOf b) b x (layerOn lines filled m x layers) w) l; owners = eo ∙ rw w }
 
 -- R15.4: with room for its layers, a step with them answers, and leaves of block and pixels, what the step without does
 module _ (b m x layers : List ℕ) (room : columns Home ≤ length layers) where

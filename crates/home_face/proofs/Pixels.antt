@@ -3,7 +3,7 @@
 use mathlib.Core.Path.{_≡_, sym, ap, _∙_}
 use mathlib.Core.Logic.{_≢_}
 use mathlib.Core.List.{List}
-use Prim.Native.Nat.{ℕ, _+_, _*_, _<_}
+use Prim.Native.Nat.{ℕ, _+_, _<_}
 use native.Mathlib.Omega.{arith}
 use lib.ListN.{length, take, drop}
 use lib.Seq.{getD-take, getD-drop}
@@ -15,8 +15,6 @@ use Rattle.laws.proofs.Tests.{split}
 use Rattle.colour.specs.Home.{homeColour, homeColoursOf}
 use Rattle.refusal.specs.Refusals.{refusalNumber, first, whole}
 use Rattle.pixel.specs.Pixel.{pixelLines}
-use Rattle.block_parts.specs.Parts.{colourAt}
-use Rattle.block_parts.proofs.Copies.{one-of}
 use Rattle.word.specs.Word.{refusalIn}
 use Rattle.word.proofs.Words.{pixel-byte}
 use Rattle.home.specs.Step.{coloursNow}
@@ -26,16 +24,16 @@ use Rattle.home_block.specs.HomeBlock.{stateOf, wellFormed}
 use Rattle.home_face.specs.Pixel.{pixelCall}
 use Rattle.home_face.specs.Refused.{callLines}
 
-module _ (b : List ℕ) (n : ℕ) (h : n < 32) where
-  pub colour-dirty : at b 24 ≡ 1 → homeColour (at b (26 + n)) ≡ at (coloursNow (stateOf b)) n
+module _ (b : List ℕ) (n : ℕ) where
+  pub colour-dirty : n < 32 → at b 24 ≡ 1 → homeColour (at b (26 + n)) ≡ at (coloursNow (stateOf b)) n
   unfolding stateOf homeColoursOf
-  colour-dirty e =
+  colour-dirty h e =
       rw (eq-eqb (at b 24) 1 e)
       (sym (getD-table 32 (λ i. homeColour (at (take 32 (drop 26 b)) i)) n h ∙ rw (getD-take 32 (drop 26 b) n 0 h, getD-drop 26 b n 0)))
 
-  pub colour-clean : (at b 24 ≡ 1 → ⊥) → colourAt b (58 + 4 * n) ≡ at (coloursNow (stateOf b)) n
+  pub colour-clean : (at b 24 ≡ 1 → ⊥) → at (stateOf b .«color_cache») n ≡ at (coloursNow (stateOf b)) n
   unfolding stateOf
-  colour-clean e = rw (ne-eqb (at b 24) 1 e) (sym (one-of 58 b n h))
+  colour-clean e = rw (ne-eqb (at b 24) 1 e)
 
 -- R16.3: refused by the first line of its table that holds
 pub pixel-call-exact : (b m : List ℕ) (y x : ℕ) → refusalIn (pixelCall b m y x) ≡ refusalNumber (first (callLines b (pixelLines m)))

@@ -36,7 +36,7 @@ pub fn new_table(state: &mut [u8], table: u8) -> u32
 pub fn new(state: &mut [u8]) -> u32
     ensures { λ r. ⌜ Leaves (newCall (now (state .entry))) r (now (state .exit)) [] ⌝ }
 {
-    new_table(state, 1)
+    new_table(state, raster::unnamed_table())
 }
 
 // A port write.
@@ -226,7 +226,7 @@ fn colour_of(state: &[u8], n: usize) -> u32
     if state[home_block::DIRTY] == 1 {
         return colour::home_rgb(state[home_block::PALETTE + n]);
     }
-    block_parts::colour_at(state, home_block::CACHE + 4 * n)
+    home_block::cached_colour(state, n)
 }
 
 // The colour of a pixel, 0 where there is none.

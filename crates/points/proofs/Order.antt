@@ -15,6 +15,7 @@ use Rattle.raster.specs.declared.Raster.{Raster}
 use Rattle.refusal.specs.declared.Refusal.{Refusal}
 use Rattle.refusal.specs.declared.Refusal.the-variants.{Accepted, VramLength, PixelLength, FrameTooLong, LayerLength}
 use Rattle.refusal.specs.Refusals.{Line, first, under}
+use Rattle.refusal.proofs.Tables.{under-map}
 use Rattle.laws.proofs.Tests.{split, clash}
 use Rattle.points.specs.declared.Due.{Due}
 use Rattle.points.specs.Points.{rowLines, frameLines}
@@ -38,8 +39,7 @@ module _ (s : Screen) (reg : List ℕ) (raster : Raster) where
   -- whatever is made of it is made of the refusal, or of the step that is taken
   pub due-map : {A : Type 0} (f : Due → A) (ls : List Line) → f (dueOf ls s reg raster) ≡ under ls (λ r. f (refusedDue r raster))
       (f (takenDue s reg raster))
-  due-map f [] = refl
-  due-map f (l ∷ ls) = split (l .holds) (λ t. rw t) (λ t. rw t (due-map f ls))
+  due-map f ls = under-map f ls (λ r. refusedDue r raster) (takenDue s reg raster)
 
   -- by 8, by 9 and by 12
   module _ (vram : List ℕ) (size : ℕ) where

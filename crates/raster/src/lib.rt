@@ -1,6 +1,7 @@
 // The raster: the line counter with its jump, the latched scroll, and the count of lines to the next line interrupt.
 ghost use mathlib.Core.Path.{_≡_};
 ghost use Rattle.laws.specs.Lists.{at};
+ghost use Rattle.raster.specs.declared.LineTable.the-variants.{Steps262};
 ghost use Rattle.raster.specs.Raster.{freshRaster, jumpLine, lineTableNumber, lineTableFrom, advanced, lineCount, lineInterrupt, counted};
 
 // The table that the counter goes by: how many steps a pass has.
@@ -35,6 +36,13 @@ pub fn table_from(n: u8) -> LineTable
     } else {
         LineTable::Steps262
     }
+}
+
+// The number of the table that a device goes by where none is named: the chart's.
+pub fn unnamed_table() -> u8
+    ensures { λ r. ⌜ r ≡ lineTableNumber Steps262 ⌝ }
+{
+    table_number(LineTable::Steps262)
 }
 
 // The value at which the counter jumps instead of being read.

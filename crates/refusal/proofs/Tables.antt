@@ -40,6 +40,18 @@ pub under-refused : {A : Type 0} (ls : List Line) (refuse : Refusal → A) (call
 under-refused [] refuse call n = absurd (n refl)
 under-refused (l ∷ ls) refuse call n = split (l .holds) (λ t. simp t) (λ t. simp t (under-refused ls refuse call (simp t at n)))
 
+-- whatever is made of what comes is made of each refusal, and of the call
+pub under-map : {A : Type 0} {B : Type 0} (f : A → B) (ls : List Line) (refuse : Refusal → A) (call : A)
+    → f (under ls refuse call) ≡ under ls (λ r. f (refuse r)) (f call)
+under-map f [] refuse call = refl
+under-map f (l ∷ ls) refuse call = split (l .holds) (λ t. rw t) (λ t. rw t (under-map f ls refuse call))
+
+-- and so, where each refusal is told as it is, and the call as accepted, what is told is the first
+pub under-told : {A : Type 0} (told : A → Refusal) (ls : List Line) (refuse : Refusal → A) (call : A)
+    → ((r : Refusal) → told (refuse r) ≡ r) → told call ≡ Accepted → told (under ls refuse call) ≡ first ls
+under-told told [] refuse call f e = e
+under-told told (l ∷ ls) refuse call f e = split (l .holds) (λ t. simp t (f (l .refusal))) (λ t. simp t (under-told told ls refuse call f e))
+
 -- which of the two it is, the first refusal tells
 pub passed : (ls : List Line) → Refusing ls → first ls ≡ Accepted → Passed ls
 passed [] q e = tt

@@ -3,7 +3,7 @@
 use mathlib.Core.Path.{_≡_, refl, sym, ap, _∙_}
 use mathlib.Core.Logic.{_≢_}
 use mathlib.Core.Bool.{Bool, true, false, cond, _&&_, _||_, or-false}
-use mathlib.Core.List.{List, [], _∷_}
+use mathlib.Core.List.{List}
 use Prim.Native.Nat.{ℕ, _+_, _≤_}
 use lib.Bits.{bitOr, or-zero-r}
 use lib.Dec.{eqb}
@@ -24,7 +24,7 @@ use Rattle.vdp.specs.declared.VdpState.{VdpState}
 use Rattle.refusal.specs.declared.Refusal.the-variants.{Accepted}
 use Rattle.vdp.specs.Device.{device, withRaster, withStatus}
 use Rattle.refusal.specs.Refusals.{whole, Line, first}
-use Rattle.refusal.proofs.Tables.{Passed, under-either, under-passed, under-refused}
+use Rattle.refusal.proofs.Tables.{Passed, under-either, under-passed, under-refused, under-told}
 use Rattle.points.specs.declared.VdpInt.the-variants.{NoInterrupt, InterruptGenerated}
 use Rattle.points.specs.declared.DrawnRow.{DrawnRow}
 use Rattle.points.specs.declared.DrawnRow.the-variants.{NoRow, Drawn}
@@ -41,8 +41,7 @@ use Rattle.points.proofs.Laws.{frame-points-length, frame-points-other, frame-p
 -- a step is refused by the first line of its table that holds
 pub step-exact : (ls : List Line) (a : RenderArea) (vram : List ℕ) (d : VdpState) → stepWith ls a vram d .refusal ≡ first ls
 unfolding stepWith stepped pointsOf
-step-exact [] a vram d = refl
-step-exact (l ∷ ls) a vram d = split (l .holds) (λ e. simp e) (λ e. simp e (step-exact ls a vram d))
+step-exact ls a vram d = under-told (λ (s : Stepped). s .refusal) ls (λ r. refusedStep r d) (stepped a vram d) (λ r. refl) refl
 
 module _ (ls : List Line) (a : RenderArea) (vram : List ℕ) (d : VdpState) where
   pub step-accepted : Passed ls → stepWith ls a vram d ≡ stepped a vram d

@@ -1,7 +1,7 @@
 -- The device's step from its five points, on a row buffer and on a frame.
 -- Assumes nothing.
-use mathlib.Core.Path.{_≡_, refl, ap, _∙_}
-use mathlib.Core.List.{List, [], _∷_}
+use mathlib.Core.Path.{_≡_, ap, _∙_}
+use mathlib.Core.List.{List}
 use Prim.Native.Nat.{ℕ, _≤_}
 use lib.ListN.{length}
 use Rattle.picture.specs.declared.RenderArea.{RenderArea}
@@ -10,10 +10,10 @@ use Rattle.picture.specs.Area.{screenOf}
 use Rattle.raster.specs.declared.Raster.{Raster}
 use Rattle.vdp.specs.declared.VdpState.{VdpState}
 use Rattle.refusal.specs.Refusals.{Line, under}
-use Rattle.laws.proofs.Tests.{split}
+use Rattle.refusal.proofs.Tables.{under-map}
 use Rattle.points.specs.declared.Points.{Points}
 use Rattle.step.specs.declared.Stepped.{Stepped}
-use Rattle.points.specs.Points.{Reading, reading, rowLines, pointsWith}
+use Rattle.points.specs.Points.{Reading, reading, rowLines, refusedPoints, pointsOf, pointsWith}
 use Rattle.points.specs.Bytes.{rowFilled, RowPointsLeave, FramePointsLeave, alsoLayers, RowLayerPointsLeave, FrameLayerPointsLeave}
 use Rattle.step.specs.Step.{coloursNow, readingOf, joined, stepped, refusedStep, stepWith, rowStep}
 use Rattle.step.specs.Layers.{layersAfter, RowLayersLeave, FrameLayersLeave}
@@ -24,8 +24,8 @@ use Rattle.points.proofs.Order.{under-also}
 pub joined-with : (ls : List Line) (a : RenderArea) (vram : List ℕ) (d : VdpState) → joined d (pointsWith ls (screenOf a) vram (readingOf d)) ≡
     stepWith ls a vram d
 unfolding pointsWith stepWith stepped
-joined-with [] a vram d = refl
-joined-with (l ∷ ls) a vram d = split (l .holds) (λ t. rw t) (λ t. rw t (joined-with ls a vram d))
+joined-with ls a vram d =
+    under-map (joined d) ls (λ r. refusedPoints r (d .status) (d .raster)) (pointsOf (screenOf a) vram (readingOf d))
 
 -- what the points read, part by part
 pub reading-of :

@@ -2,14 +2,14 @@
 -- Assumes nothing.
 use mathlib.Core.Path.{_≡_}
 use mathlib.Core.Logic.{_≢_}
-use mathlib.Core.Bool.{Bool, cond, _&&_}
-use mathlib.Core.List.{List}
+use mathlib.Core.Bool.{Bool, cond, not, _&&_}
+use mathlib.Core.List.{List, [], _∷_}
 use Prim.Native.Nat.{ℕ, _<_}
 use lib.Dec.{leb}
 use lib.ListN.{set}
 use Rattle.refusal.specs.declared.Refusal.{Refusal}
-use Rattle.refusal.specs.declared.Refusal.the-variants.{BlockMalformed}
-use Rattle.refusal.specs.Refusals.{refusalNumber}
+use Rattle.refusal.specs.declared.Refusal.the-variants.{BlockMalformed, UnknownArea}
+use Rattle.refusal.specs.Refusals.{refusalNumber, Line, line}
 use Rattle.word.specs.Word.{refusalIn}
 
 -- What a call answers and leaves: its word, the block, and the bytes of the one other buffer that it may write (video memory of a port write, pixels of a
@@ -32,6 +32,10 @@ refused r b x = record { word = refusalNumber r; block = b; lent = x }
 -- a call on the device d of a block, where it is well formed
 abbrev pub onDevice : {D : Type 0} → Bool → D → List ℕ → List ℕ → (D → Called) → Called
 onDevice good d b x call = cond good (call d) (refused BlockMalformed b x)
+
+-- R2.1: and then the area's number, of a call that asks for one: there are areas 0 to 2
+abbrev pub askedLines : Bool → ℕ → List Line
+askedLines good n = line (not good) BlockMalformed ∷ line (not (leb n 2)) UnknownArea ∷ []
 
 -- ---- R2.2, of the block: 3 to 7 leave the command latch empty, which stands in bytes 21 and 22; the others leave all as it was
 abbrev pub blockLeft : ℕ → List ℕ → List ℕ

@@ -1,9 +1,11 @@
 // The answer word of the C face (R7.7): which bits say what.
 ghost use mathlib.Core.Path.{_≡_};
 ghost use Prim.Native.Nat.{_+_, _≤_, _<_};
-ghost use Rattle.refusal.specs.Refusals.{refusalNumber};
+ghost use mathlib.Core.Bool.{cond};
+ghost use Rattle.refusal.specs.Refusals.{refusalNumber, first};
 ghost use Rattle.points.specs.Points.{interruptNumber, reportNumber};
 ghost use Rattle.word.specs.Word.{rowBits, pointsWord, pixelBits};
+ghost use Rattle.word.specs.Called.{askedLines};
 use points::DisplayRefresh;
 use points::DrawnRow;
 use points::Points;
@@ -15,6 +17,21 @@ pub fn number(r: Refusal) -> u32
     ensures { λ n. ⌜ (n ≡ refusalNumber r) × (n < 256) ⌝ }
 {
     refusal::refusal_number(r) as u32
+}
+
+// A line of a table of refusals: its number where it holds, and else what the rest of the table comes to.
+fn line(holds: bool, refusal: Refusal, rest: u32) -> u32
+    ensures { λ n. ⌜ n ≡ cond holds (refusalNumber refusal) rest ⌝ }
+{
+    if holds { number(refusal) } else { rest }
+}
+
+// The number by which a call that asks for an area is refused before its own tests; 0 where it is not.
+pub fn asked(well_formed: bool, area: u8) -> u32
+    ensures { λ n. ⌜ n ≡ refusalNumber (first (askedLines «well_formed» area)) ⌝ }
+{
+    let later = line(picture::LAST_AREA < area, Refusal::UnknownArea, 0);
+    line(!well_formed, Refusal::BlockMalformed, later)
 }
 
 fn interrupt_number(i: VdpInt) -> u32

@@ -38,19 +38,13 @@ returns c =
     let at-start = at-if1 .before .before .before in
     c .rgb .ensures ∙ colour-dirty (at-start .args .state .now) (at-start .args .n) (at-start .pre .1) (at-if1 .if1 .taken)
 
-mul-colour-at : tie.Need-mul-colour-at
-mul-colour-at c = search needs
-
-add-colour-at : tie.Need-add-colour-at
-add-colour-at c = search needs
-
-colour-at-requires : tie.Need-colour-at-requires
-colour-at-requires c κs = search needs
+cached-colour-requires : tie.Need-cached-colour-requires
+cached-colour-requires c κs = search needs
 
 returns-2 : tie.Need-returns-2
 returns-2 c =
     let at-start = c .before .before .before .before in
-    c .colour-at .ensures ∙ colour-clean (at-start .args .state .now) (at-start .args .n) (at-start .pre .1) (c .before .if1 .left)
+    c .cached-colour .ensures ∙ colour-clean (at-start .args .state .now) (at-start .args .n) (c .before .if1 .left)
 
 pub colour-of-spec : {M : Type 1} → statement M
 colour-of-spec =
@@ -66,7 +60,5 @@ colour-of-spec =
     shared-slice-read-rgb-2
     rgb-requires
     returns
-    mul-colour-at
-    add-colour-at
-    colour-at-requires
+    cached-colour-requires
     returns-2)

@@ -1,19 +1,20 @@
 -- `home_face::layer_row_step` meets its contract: the same of the step on a row buffer.
 use borrow.Author.Needs.{needs}
-use mathlib.Core.Path.{refl, sym, _∙_}
-use borrow.Author.Tests.{not-true, not-false}
+use mathlib.Core.Path.{_≡_, sym, _∙_}
+use mathlib.Core.Bool.{true}
 use native.Mathlib.Omega.{arith}
+use borrow.Author.Tests.{not-true, not-false}
 use lib.ListN.{length}
 use Rattle.picture.specs.declared.Screen.the-variants.{Home}
-use Rattle.fields.specs.Stored.{frontIn}
-use Rattle.home_block.specs.HomeBlock.{stateOf}
-use Rattle.home_block.proofs.Whole.{said}
-use Rattle.home.specs.Step.{readingOf}
-use Rattle.points.specs.Points.{rowLines}
 use Rattle.picture.specs.Screen.{columns}
+use Rattle.points.specs.Points.{rowLines}
 use Rattle.points.specs.Bytes.{alsoLayers}
 use Rattle.points_run.proofs.Steps.{due-row, answered, owned, row-filled, row-layers-fit}
-use Rattle.home_face.proofs.Laws.{layer-bad, layer-row-kept}
+use Rattle.fields.specs.Stored.{frontIn}
+use Rattle.home.specs.Step.{readingOf}
+use Rattle.home_block.specs.HomeBlock.{stateOf, wellFormed}
+use Rattle.home_block.proofs.Whole.{said}
+use Rattle.home_face.proofs.Laws.{layer-bad, ran, layer-kept}
 use Rattle.home_face.proofs.layer_row_step.Statement.{statement}
 use Rattle.home_face.proofs.layer_row_step.Tie as tie
 
@@ -33,18 +34,17 @@ returns c =
     layer-bad (at-start .args .state .now) (at-start .args .vram .now) (at-start .args .row .now) _ _ (at-start .args .layers .now)
     (sym (at-well-formed .well-formed .ensures) ∙ not-true _ (c .before .if1 .taken)) (c .number .ensures .0)
 
+-- else the block is well formed
+good : (c : tie.Else1) → wellFormed (c .before .before .before .before .before .before .before .args .state .now) ≡ true
+good c = sym (c .before .well-formed .ensures) ∙ not-false _ (c .if1 .left)
+
 registers-requires : tie.Need-registers-requires
-registers-requires c κs =
-    let at-well-formed = c .before .before in
-    let at-start = at-well-formed .before .before .before .before .before .before in
-    said (at-start .args .state .now) (sym (at-well-formed .well-formed .ensures) ∙ not-false _ (c .before .if1 .left)) .long
+registers-requires c κs = said _ (good (c .before)) .long
 
 raster-in-requires : tie.Need-raster-in-requires
 raster-in-requires c κs =
-    let at-if1 = c .before .before .before in
-    let at-well-formed = at-if1 .before in
-    let at-start = at-well-formed .before .before .before .before .before .before in
-    said (at-start .args .state .now) (sym (at-well-formed .well-formed .ensures) ∙ not-false _ (at-if1 .if1 .left)) .long
+    let at-here = c .before .before .before in
+    said _ (good at-here) .long
 
 row-due-requires : tie.Need-row-due-requires
 row-due-requires c κs = search needs
@@ -54,17 +54,13 @@ layer-due-requires c κs = search needs
 
 colours-of-requires : tie.Need-colours-of-requires
 colours-of-requires c κs =
-    let at-if1 = c .before .before .before .before .before .before .before in
-    let at-well-formed = at-if1 .before in
-    let at-start = at-well-formed .before .before .before .before .before .before in
-    said (at-start .args .state .now) (sym (at-well-formed .well-formed .ensures) ∙ not-false _ (at-if1 .if1 .left)) .long
+    let at-here = c .before .before .before .before .before .before .before in
+    said _ (good at-here) .long
 
 slice-read-row-points-due : tie.Need-slice-read-row-points-due
 slice-read-row-points-due c =
-    let at-if1 = c .before .before .before .before .before .before .before .before .before in
-    let at-well-formed = at-if1 .before in
-    let at-start = at-well-formed .before .before .before .before .before .before in
-    omega (arith, said (at-start .args .state .now) (sym (at-well-formed .well-formed .ensures) ∙ not-false _ (at-if1 .if1 .left)) .long)
+    let at-here = c .before .before .before .before .before .before .before .before .before in
+    omega (arith, said _ (good at-here) .long)
 
 row-points-due-requires : tie.Need-row-points-due-requires
 row-points-due-requires c κs =
@@ -72,20 +68,19 @@ row-points-due-requires c κs =
     let at-row-due = at-layer-due .before in
     let at-raster-in = at-row-due .before in
     let at-registers = at-raster-in .before .before in
-    let at-start = at-registers .before .before .before .before .before .before .before .before .before in
+    let at-if1 = at-registers .before .before in
+    let at-start = at-if1 .before .before .before .before .before .before .before in
+    let ed = rw (at-registers .registers .ensures, at-raster-in .raster-in .ensures) at
+    (at-layer-due .layer-due .ensures .1 (rowLines Home (at-start .args .vram .now) (length (at-start .args .row .now)))
+    (at-registers .registers .result) (at-row-due .row-due .ensures)) in
     row-layers-fit Home (stateOf (at-start .args .state .now) .front .reg) (stateOf (at-start .args .state .now) .raster) (at-start .args .vram .now)
-    (length (at-start .args .row .now)) (columns Home) (length (at-start .args .layers .now))
-    ((rw (at-raster-in .raster-in .ensures) at (at-layer-due .layer-due .ensures .1
-    (rowLines Home (at-start .args .vram .now) (length (at-start .args .row .now))) (stateOf (at-start .args .state .now) .front .reg)))
-    (rw (at-registers .registers .ensures, at-raster-in .raster-in .ensures) at (at-row-due .row-due .ensures)))
+    (length (at-start .args .row .now)) (columns Home) (length (at-start .args .layers .now)) ed
 
 store-requires : tie.Need-store-requires
 store-requires c κs =
-    let at-if1 = c .before .before .before .before .before .before .before .before .before .before .before .before .before .before .before .before .before
+    let at-here = c .before .before .before .before .before .before .before .before .before .before .before .before .before .before .before .before .before
     .before .before in
-    let at-well-formed = at-if1 .before in
-    let at-start = at-well-formed .before .before .before .before .before .before in
-    said (at-start .args .state .now) (sym (at-well-formed .well-formed .ensures) ∙ not-false _ (at-if1 .if1 .left)) .long
+    said _ (good at-here) .long
 
 word-of-requires : tie.Need-word-of-requires
 word-of-requires c κs = search needs
@@ -103,34 +98,30 @@ returns-2 : tie.Need-returns-2
 unfolding stateOf frontIn
 returns-2 c =
     let at-store = c .before .before .before in
-    let at-row-points-due = at-store .before .before .before .before .before .before .before in
-    let at-colours-of = at-row-points-due .before .before .before .before .before in
+    let at-points = at-store .before .before .before .before .before .before .before in
+    let at-colours-of = at-points .before .before .before .before .before in
     let at-layer-due = at-colours-of .before .before in
     let at-row-due = at-layer-due .before in
     let at-raster-in = at-row-due .before in
     let at-registers = at-raster-in .before .before in
     let at-if1 = at-registers .before .before in
-    let at-well-formed = at-if1 .before in
-    let at-slice-known = at-well-formed .before .before .before .before .before in
-    let at-start = at-slice-known .before in
-    let k = readingOf (stateOf (at-start .args .state .now)) in
-    let ls = (alsoLayers (columns Home) (length (at-start .args .layers .now)) (rowLines Home (at-start .args .vram .now) (length (at-start .args .row .now))))
-    in
-    let ed = (rw (at-raster-in .raster-in .ensures) at (at-layer-due .layer-due .ensures .1
-    (rowLines Home (at-start .args .vram .now) (length (at-start .args .row .now))) (stateOf (at-start .args .state .now) .front .reg)))
-    (rw (at-registers .registers .ensures, at-raster-in .raster-in .ensures) at (at-row-due .row-due .ensures)) in
-    let p = rw (at-registers .registers .ensures) at (at-row-points-due .row-points-due .ensures) in
-    layer-row-kept (at-start .args .state .now) (at-start .args .vram .now) (at-start .args .row .now)
-    (λ i. omega (arith, at-slice-known .slice-known .given i)) (sym (at-well-formed .well-formed .ensures) ∙ not-false _ (at-if1 .if1 .left)) refl
-    (λ y e. at-colours-of .colours-of .ensures y (sym (due-row ls Home (at-start .args .vram .now) k ed (p .0)) ∙ e)) (at-store .store .ensures)
-    (c .word-of .ensures) (at-start .args .layers .now)
-    (record {
-      points = record {
-        answer = answered ls Home (at-start .args .vram .now) k ed (p .0);
-        bytes = row-filled ls Home (at-start .args .vram .now) k ed (at-colours-of .colours-of .ensures) (at-start .args .row .now) (p .1 .0);
-      };
-      owners = owned ls Home (at-start .args .vram .now) k ed (at-start .args .layers .now) (p .1 .1);
-    })
+    let at-start = at-if1 .before .before .before .before .before .before .before in
+    let at-slice-known = at-if1 .before .before .before .before .before .before in
+    let b = at-start .args .state .now in
+    let m = at-start .args .vram .now in
+    let x = at-start .args .row .now in
+    let z = Home in
+    let k = readingOf (stateOf b) in
+    let ls = alsoLayers (columns Home) (length (at-start .args .layers .now)) (rowLines Home (at-start .args .vram .now) (length (at-start .args .row .now))) in
+    let ed = rw (at-registers .registers .ensures, at-raster-in .raster-in .ensures) at
+    (at-layer-due .layer-due .ensures .1 (rowLines Home (at-start .args .vram .now) (length (at-start .args .row .now)))
+    (at-registers .registers .result) (at-row-due .row-due .ensures)) in
+    let p = rw (at-registers .registers .ensures) at (at-points .row-points-due .ensures) in
+    layer-kept b m x (good at-if1) _ _ (at-start .args .layers .now)
+    (ran b m x ls (λ i. omega (arith, at-slice-known .slice-known .given i)) (good at-if1)
+    (answered ls z m k ed (p .0)) (λ y q. at-colours-of .colours-of .ensures y (sym (due-row ls z m k ed (p .0)) ∙ q)) (at-store .store .ensures)
+    (c .word-of .ensures) (row-filled ls z m k ed (at-colours-of .colours-of .ensures) x (p .1 .0)))
+    (owned ls z m k ed (at-start .args .layers .now) (p .1 .1))
 
 pub layer-row-step-spec : {M : Type 1} → statement M
 layer-row-step-spec =
