@@ -1,6 +1,7 @@
 #!/usr/bin/env python3
 """edits.py [--check]: makes the tables of the edits that must fail in docs/CONTRACTS.md, from the first line of each crates/*/must-fail/*.edit, and the
-number of edits in docs/CONTRACTS.md and README.md. With --check nothing is written: the exit status is 1 where a page is another, or an edit has no such line.
+number of edits in docs/CONTRACTS.md and README.md. With --check nothing is written: the exit status is 1 where a page is another. It is 1, too, where an edit
+has no such line, or a text to be replaced that does not stand in its file, once.
 
 The line is `# the slip; but the fact that then fails`. A slip that a rule names begins with its number, `# R10.1: `, and stands in a table of its own."""
 import pathlib
@@ -25,6 +26,20 @@ def told():
     return rows, bare
 
 
+def strays():
+    """Of each edit the texts that its file has not, or has twice: it would be no edit."""
+    wrong = []
+    for edit in sorted(ROOT.glob("crates/*/must-fail/*.edit")):
+        text = ""
+        for line in edit.read_text(encoding="utf-8").splitlines():
+            if line.startswith("file: "):
+                file = edit.parents[1] / line[len("file: ") :]
+                text = file.read_text(encoding="utf-8") if file.exists() else ""
+            elif line.startswith("old: ") and text.count(line[len("old: ") :]) != 1:
+                wrong.append(f"{edit.relative_to(ROOT)}: not once in its file: {line[len('old: ') :]}")
+    return wrong
+
+
 def table(rows):
     return "".join(["| Edit | The slip | Refused because |\n", "|---|---|---|\n"] + [f"| {name} | {slip} | {fact} |\n" for name, slip, fact in rows])
 
@@ -32,7 +47,10 @@ def table(rows):
 rows, bare = told()
 for each in bare:
     print(f"{each}: its first line is not '# the slip; but the fact that then fails'")
-if bare or not rows:
+lost = strays()
+for each in lost:
+    print(each)
+if bare or lost or not rows:
     sys.exit(1)
 named = [(name, slip[len(RULE) :], fact) for name, slip, fact in rows if slip.startswith(RULE)]
 others = [row for row in rows if not row[1].startswith(RULE)]
