@@ -4,7 +4,7 @@ use mathlib.Core.Path.{_≡_, refl, sym, ap, _∙_}
 use mathlib.Core.Logic.{_⊎_, inr, ⊎-elim}
 use mathlib.Core.List.{List}
 use mathlib.Core.Bool.{Bool, true, false, cond, _&&_, _||_, and-false, or-false}
-use Prim.Native.Nat.{ℕ, _+_, _-_, _*_, _/_, _%_, _<_, _≤_}
+use Prim.Native.Nat.{ℕ, _+_, _-_, _*_, _/_, _%_, _^_, _<_, _≤_}
 use native.Mathlib.Nat.{add-assoc}
 use native.Mathlib.Decide.{decLt, ℕ-discrete}
 use native.Mathlib.Omega.{arith}
@@ -15,9 +15,10 @@ use Rattle.laws.specs.Bits.{bit, digit, number, any}
 use Rattle.laws.specs.Circle.{past}
 use Rattle.laws.specs.Lists.{at}
 use Rattle.laws.proofs.Any.{any-cong, any-split, any-place, bit-of}
+use Rattle.laws.proofs.Bits.{bit-zero, bit-shr, digit-test}
 use Rattle.bitmap.specs.Mask.{withByte, bytesOf}
 use Rattle.bitmap.proofs.Circle.{bytesOf-ext, withByte-bytesOf}
-use Rattle.picture.specs.Tile.{tileLine, entryAt, entryCode, entryColour, entryFront, mapColour, mapFront}
+use Rattle.picture.specs.Tile.{turned, tileLine, entryAt, entryCode, entryColour, entryFront, mapColour, mapFront}
 use Rattle.picture.specs.View.{cutMark}
 use Rattle.tile.specs.Line.{lineCode, lineColour, lineSolid}
 use Rattle.background.specs.Background.{backColour, backFront, prioTo, placeAt, Whole}
@@ -56,6 +57,23 @@ module _ (vram : List ℕ) (names sx y x i : ℕ) (h : (sx + x) % 8 + i < 8) whe
   pub back-in-front : {addr : ℕ} {flip t : Bool} → flip ≡ bit hi 1 → t ≡ bit hi 4 → addr ≡ tileLine lo hi y
       → backFront vram names sx y (x + i) ≡ (t && lineSolid vram addr flip ((sx + x) % 256 % 8) i)
   back-in-front f t a = rw (t, a, f) back-front
+
+-- ---- the two bytes of an entry, low and high, as one number
+module _ {a b low high : ℕ} (h : a < 256) (ea : a ≡ low) (eb : b ≡ high) where
+  -- its bits from 8 on are the high byte's
+  pub entry-bit : (j : ℕ) → eqb ((a + 256 * b) / 2 ^ (8 + j) % 2) 1 ≡ bit high j
+  unfolding bit
+  entry-bit j = let e : (a + 256 * b) / 2 ^ 8 ≡ b = omega arith in sym (bit-shr (a + 256 * b) 8 j) ∙ rw (e, eb)
+
+  pub entry-palette : (a + 256 * b) / 2048 % 2 * 16 ≡ 16 * digit (eqb ((a + 256 * b) / 2 ^ (8 + 3) % 2) 1)
+  entry-palette = omega (arith, digit-test ((a + 256 * b) / 2048 % 2) (omega arith))
+
+  pub entry-line : (y : ℕ) {k : ℕ} → k ≡ 4 * turned (eqb ((a + 256 * b) / 2 ^ (8 + 2) % 2) 1) (y % 8) → 32 * ((a + 256 * b) % 512) + k ≡ tileLine low high y
+  unfolding tileLine
+  entry-line y e =
+      let d : digit (bit high 0) ≡ b % 2 = rw (← eb) (ap digit (bit-zero b) ∙ digit-test (b % 2) (omega arith)) in
+      let c : (a + 256 * b) % 512 ≡ a + 256 * (b % 2) = omega arith in
+      rw (e, entry-bit 2, d, c, ea)
 
 -- ---- the marks of one tile
 module _ (vram : List ℕ) (names sx y cut x n : ℕ) (small : n ≤ 8) (w : Whole cut x n) (solid : ℕ → Bool) where

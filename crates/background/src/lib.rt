@@ -1,14 +1,14 @@
 // The background of a row (R5.1), tile by tile, with the priority mask that its tiles mark (R5.5).
 ghost use mathlib.Core.Path.{_≡_};
-ghost use mathlib.Core.Bool.{cond};
+ghost use mathlib.Core.Bool.{cond, _||_};
 ghost use mathlib.Core.Logic.{_⊎_};
-ghost use Prim.Native.Nat.{_+_, _*_, _%_, _<_, _≤_};
+ghost use Prim.Native.Nat.{_+_, _-_, _*_, _/_, _%_, _<_, _≤_};
 ghost use lib.ListN.{length};
-ghost use Rattle.laws.specs.Bits.{number};
+ghost use Rattle.laws.specs.Bits.{bit, number};
 ghost use Rattle.laws.specs.Lists.{at};
 ghost use Rattle.laws.specs.Paint.{painted};
 ghost use Rattle.laws.specs.Sizes.{vramSize};
-ghost use Rattle.bitmap.specs.Mask.{withByte, bytesOf};
+ghost use Rattle.bitmap.specs.Mask.{bitOf, withByte, bytesOf};
 ghost use Rattle.picture.specs.Tile.{turned, namesAt, tileLine};
 ghost use Rattle.background.specs.Background.{Room, backColour, backFront, shade, prioTo, placeAt, Whole, cutOf, homeColumn, homeLast};
 use bitmap::Bitmap;
@@ -22,13 +22,13 @@ pub fn names_at(reg: [u8; 11]) -> usize
     small::wide(reg[2] & 0x0E) * 1024
 }
 
-// Pixel or line k of a tile, the other way round where it is flipped.
-fn turn(flip: bool, k: usize) -> usize
-    requires { ⌜ k < 8 ⌝ }
-    ensures { λ r. ⌜ r ≡ turned flip k ⌝ }
-    ensures { λ r. ⌜ r < 8 ⌝ }
+// How far from a tile's start line y stands: the lines the other way round where it is flipped.
+fn line_in(flip: bool, y: usize) -> usize
+    ensures { λ r. ⌜ r ≡ 4 * turned flip (y % 8) ⌝ }
+    ensures { λ r. ⌜ r ≤ 28 ⌝ }
 {
-    if flip { 7 - k } else { k }
+    let line = y % 8;
+    if flip { 28 - 4 * line } else { 4 * line }
 }
 
 // Where line y of the tile with these entry bytes stands.
@@ -37,7 +37,7 @@ pub fn line_at(lo: u8, hi: u8, y: usize) -> usize
     ensures { λ r. ⌜ r + 4 ≤ vramSize ⌝ }
 {
     let character = small::wide(lo) + small::weight(small::is_set(hi, 0), 256);
-    32 * character + 4 * turn(small::is_set(hi, 2), y % 8)
+    32 * character + line_in(small::is_set(hi, 2), y)
 }
 
 // The mask with the marks of a tile, if it has priority.
@@ -136,7 +136,8 @@ fn where_on(on: bool, bits: u8) -> u8
     if on { bits } else { 0 }
 }
 
-// The eight pixels from x on, which are a whole tile; answers which of them stand in front of sprites.
+// The eight pixels from x on, which are a whole tile; answers which of them stand in front of sprites. The two bytes of its entry are one
+// number, which the compiler reads at once.
 fn render_whole_tile(
     row: &mut [u8],
     vram: &[u8],
@@ -153,23 +154,35 @@ fn render_whole_tile(
 {
     let mx = (sx + x) % 256;
     let e = names + 2 * (32 * (y / 8) + mx / 8);
-    let lo = vram[e];
-    let hi = vram[e + 1];
+    let entry = small::wide(vram[e]) + 256 * small::wide(vram[e + 1]);
     let bits = tile::character_whole(
         row,
         vram,
         colours,
-        line_at(lo, hi, y),
-        small::is_set(hi, 1),
-        small::weight(small::is_set(hi, 3), 16),
+        32 * (entry % 512) + line_in(entry / 1024 % 2 == 1, y),
+        entry / 512 % 2 == 1,
+        entry / 2048 % 2 * 16,
         x,
     );
-    where_on(small::is_set(hi, 4), bits)
+    where_on(entry / 4096 % 2 == 1, bits)
+}
+
+// The mask with the marks of a row of tiles that stand `shift` places past multiples of eight: those of the tile from place 8 k + shift on
+// are byte k + 1.
+fn lay(mut prio: Bitmap, marks: [u8; 33], shift: usize) -> Bitmap
+    requires { ⌜ shift < 8 ⌝ }
+    ensures { λ r. ⌜ r .bits ≡ bytesOf (λ i. bitOf (prio .bits) i || bit (at marks ((8 + i - shift) / 8)) ((8 + i - shift) % 8)) ⌝ }
+{
+    let mut i: usize = 0;
+    while i < 32 {
+        prio.bits[i] |= bitmap::lower(marks[i + 1], shift) | bitmap::upper(marks[i], shift);
+        i += 1;
+    }
+    prio
 }
 
 // The background of a row whose pixel 0 shows the map's pixel (sx, y); answers the priority mask, the first tile's marks `cut` to the left.
-// The whole tiles between the first and the last have a loop of their own, which marks the mask where it stands: handed on and back for
-// each tile it would be copied.
+// The whole tiles between the first and the last have a loop of their own, which keeps their marks; all are laid in together.
 pub fn render_background_line(
     row: &mut [u8],
     vram: &[u8],
@@ -188,16 +201,14 @@ pub fn render_background_line(
     let none = Bitmap::new();
     let first = small::smaller(8 - sx % 8, width);
     let mut prio = render_tile(row, vram, colours, names, sx, y, 0, first, cut, none);
+    let mut marks = [0u8; 33];
     let mut x = first;
     while x + 8 <= width {
         let bits = render_whole_tile(row, vram, colours, names, sx, y, x);
-        let offset = x % 256;
-        let low = offset / 8;
-        let high = (low + 1) % 32;
-        prio.bits[low] |= bitmap::lower(bits, offset % 8);
-        prio.bits[high] |= bitmap::upper(bits, offset % 8);
+        marks[x / 8 + 1] = bits;
         x += 8;
     }
+    prio = lay(prio, marks, first % 8);
     if x < width {
         prio = render_tile(row, vram, colours, names, sx, y, x, width - x, cut, prio);
     }

@@ -23,11 +23,8 @@ mul-result c = search needs
 is-set-requires-2 : tie.Need-is-set-requires-2
 is-set-requires-2 c κs = search needs
 
-turn-requires : tie.Need-turn-requires
-turn-requires c κs = search needs
-
-mul-result-2 : tie.Need-mul-result-2
-mul-result-2 c = search needs
+line-in-requires : tie.Need-line-in-requires
+line-in-requires c κs = search needs
 
 add-result : tie.Need-add-result
 add-result c = search needs
@@ -38,7 +35,7 @@ returns c =
     let at-weight = c .before .before in
     let at-is-set = at-weight .before in
     let at-wide = at-is-set .before in (
-      rw (c .turn .ensures .0, c .before .is-set2 .ensures, at-weight .weight .ensures .0, at-is-set .is-set .ensures, at-wide .wide .ensures .0),
+      rw (c .line-in .ensures .0, c .before .is-set2 .ensures, at-weight .weight .ensures .0, at-is-set .is-set .ensures, at-wide .wide .ensures .0),
       omega arith,
     )
 
@@ -52,7 +49,6 @@ line-at-spec =
     add-character
     mul-result
     is-set-requires-2
-    turn-requires
-    mul-result-2
+    line-in-requires
     add-result
     returns)

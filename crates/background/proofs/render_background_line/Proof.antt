@@ -1,37 +1,42 @@
 -- `background::render_background_line` meets its contract: the background of a row whose pixel 0 shows the map's pixel (sx, y).
 use borrow.Author.Needs.{needs}
-use mathlib.Core.Path.{_≡_, refl}
+use mathlib.Core.Path.{_≡_, refl, _∙_}
 use mathlib.Core.Bool.{true}
 use mathlib.Core.List.{List}
 use mathlib.Core.Logic.{inr, ⊎-elim, _≢_}
-use Prim.Native.Nat.{ℕ, _+_, _-_, _%_, _≤_, _<_}
+use Prim.Native.Nat.{ℕ, _+_, _-_, _*_, _/_, _%_, _≤_, _<_}
 use native.Mathlib.Nat.{zero-add}
 use native.Mathlib.Omega.{arith}
 use mir.Syntax.{w8}
 use mir.Val.{Fits}
-use lib.ListN.{length}
+use lib.ListN.{length, length-set, length-replicate}
+use lib.Seq.{getD-set-other}
 use borrow.Author.Tests.{ne-eqb}
 use Rattle.laws.specs.Bits.{any}
+use Rattle.laws.specs.Lists.{at}
 use Rattle.laws.specs.Paint.{painted}
 use Rattle.laws.proofs.Paint.{painted-on}
 use Rattle.bitmap.specs.Mask.{bytesOf, cleared}
-use Rattle.bitmap.proofs.Circle.{mark-is}
 use Rattle.background.specs.Background.{shade, backColour, backFront, prioTo}
 use Rattle.background.proofs.Laws.{tile-marks, whole, whole-first}
+use Rattle.background.proofs.Marks.{laidIn, laid-none, laid-next, at-zeros}
 use Rattle.background.proofs.render_background_line.Statement.{statement}
 use Rattle.background.proofs.render_background_line.Tie as tie
 
 abbrev Inv-loop : tie.InvT-loop
-Inv-loop row₀ vram colours names sx y width cut first prio₀ x₀ row prio x =
+Inv-loop row₀ vram colours names sx y width cut first prio marks₀ x₀ row marks x =
     (x ≤ width)
     × ((base : List ℕ) → row₀ ≡ painted base 0 x₀ (shade colours (backColour vram names sx y)) → row ≡ painted base 0 x
     (shade colours (backColour vram names sx y)))
-    × (prio₀ .bits ≡ bytesOf (prioTo vram names sx y cut x₀) → prio .bits ≡ bytesOf (prioTo vram names sx y cut x))
+    × (prio .bits ≡ bytesOf (prioTo vram names sx y cut x₀) → laidIn marks (first % 8) (prio .bits) ≡ bytesOf (prioTo vram names sx y cut x))
     × (length row ≡ length row₀)
     × (x < width → (8 ≤ sx % 8 + x) × ((sx + x) % 8 ≡ 0))
+    × (length marks ≡ 33)
+    × (x % 8 ≡ first % 8)
+    × ((k : ℕ) → x < 8 * k → at marks k ≡ 0)
 
 abbrev μ-loop : tie.MeasureT-loop
-μ-loop row₀ vram colours names sx y width cut first prio₀ x₀ row prio x = width - x
+μ-loop row₀ vram colours names sx y width cut first prio marks₀ x₀ row marks x = width - x
 
 new-requires : tie.Need-new-requires Inv-loop μ-loop
 new-requires c κs = search needs
@@ -57,7 +62,20 @@ render-tile-requires c κs =
     )
 
 loop-holds : tie.Need-loop-holds Inv-loop μ-loop
-loop-holds c = (omega arith, λ base e. e, λ e. e, refl, λ h. (omega arith, omega arith))
+loop-holds c =
+    let at-smaller = c .before .before .before .before in
+    let at-start = c .before .before .before .before .before .before .before .before in
+    let a = at-start .args in
+    let m = at-smaller .smaller .result in (
+      omega arith,
+      λ base e. e,
+      λ e. laid-none (prioTo (a .vram .now) (a .names) (a .sx) (a .y) (a .cut) m) (m % 8) e,
+      refl,
+      λ h. (omega arith, omega arith),
+      length-replicate {A = ℕ} 33 0,
+      refl,
+      λ k h. at-zeros k,
+    )
 
 add-loop : tie.Need-add-loop Inv-loop μ-loop
 add-loop c = search needs
@@ -68,26 +86,11 @@ render-whole-tile-requires c κs =
     let u = at-loop .loop .inv .4 (omega arith) in
     (search needs, (u .1, omega arith, omega arith))
 
-add-high : tie.Need-add-high Inv-loop μ-loop
-add-high c = search needs
+add-marks : tie.Need-add-marks Inv-loop μ-loop
+add-marks c = search needs
 
-lower-requires : tie.Need-lower-requires Inv-loop μ-loop
-lower-requires c κs = search needs
-
-element-copy-out-prio : tie.Need-element-copy-out-prio Inv-loop μ-loop
-element-copy-out-prio c = search needs
-
-element-write-prio : tie.Need-element-write-prio Inv-loop μ-loop
-element-write-prio c = search needs
-
-upper-requires : tie.Need-upper-requires Inv-loop μ-loop
-upper-requires c κs = search needs
-
-element-copy-out-prio-2 : tie.Need-element-copy-out-prio-2 Inv-loop μ-loop
-element-copy-out-prio-2 c = search needs
-
-element-write-prio-2 : tie.Need-element-write-prio-2 Inv-loop μ-loop
-element-write-prio-2 c = search needs
+array-write-marks : tie.Need-array-write-marks Inv-loop μ-loop
+array-write-marks c = search needs
 
 add-x : tie.Need-add-x Inv-loop μ-loop
 add-x c = search needs
@@ -97,13 +100,15 @@ loop-less c = search needs
 
 loop-again : tie.Need-loop-again Inv-loop μ-loop
 loop-again c =
-    let at-lower = c .before .before .before in
-    let at-render-whole-tile = at-lower .before .before .before in
+    let at-render-whole-tile = c .before .before in
     let at-loop = at-render-whole-tile .before .before .before in
-    let at-start = at-loop .before .before .before .before .before .before .before .before .before in
+    let at-render-tile = at-loop .before .before .before in
+    let at-smaller = at-render-tile .before .before in
+    let at-start = at-smaller .before .before .before .before in
     let a = at-start .args in
     let v = at-loop .loop .inv in
     let x = at-loop .loop .x in
+    let bits = at-render-whole-tile .render-whole-tile .result in
     let l : x < a .width = omega arith in
     let u = v .4 l in
     let z : x ≢ 0 = λ e. omega arith in
@@ -116,19 +121,25 @@ loop-again c =
           tile-marks (a .vram .now) (a .names) (a .sx) (a .y) (a .cut) x 8 (omega arith) w
           (λ j. backFront (a .vram .now) (a .names) (a .sx) (a .y) (x + j)) true (λ j h. refl) (v .2 e)
           (at-render-whole-tile .render-whole-tile .ensures .1)
-          (rw (ne-eqb x 0 z, at-lower .lower .ensures, c .before .upper .ensures)
-          (mark-is (prioTo (a .vram .now) (a .names) (a .sx) (a .y) (a .cut) x) x (at-render-whole-tile .render-whole-tile .result) (v .2 e)
-          (let q : Fits w8 (at-render-whole-tile .render-whole-tile .result) = search needs in q .fits))),
+          (rw (ne-eqb x 0 z)
+          (laid-next (at-loop .loop .marks) (at-render-tile .render-tile .result .bits) (at-smaller .smaller .result % 8) x bits (v .6) r
+          (let q : Fits w8 bits = search needs in q .fits) (v .5) (v .7 (x / 8 + 1) (omega arith)))),
       omega arith,
       λ h. (omega (arith, u .0), omega (arith, u .1)),
+      simp length-set (v .5),
+      omega (arith, v .6),
+      λ k h. let n : k ≢ x / 8 + 1 = λ e. omega arith in getD-set-other (at-loop .loop .marks) (x / 8 + 1) k bits 0 n ∙ v .7 k (omega arith),
     )
+
+lay-requires : tie.Need-lay-requires Inv-loop μ-loop
+lay-requires c κs = search needs
 
 sub-render-tile : tie.Need-sub-render-tile Inv-loop μ-loop
 sub-render-tile c = search needs
 
 render-tile-requires-2 : tie.Need-render-tile-requires-2 Inv-loop μ-loop
 render-tile-requires-2 c κs =
-    let at-loop = c .before .before .before in
+    let at-loop = c .before .before .before .before in
     let at-start = at-loop .before .before .before .before .before .before .before .before .before in
     let a = at-start .args in
     let v = at-loop .loop .inv in
@@ -157,7 +168,8 @@ returns : tie.Need-returns Inv-loop μ-loop
 unfolding painted cleared prioTo any
 returns c =
     let at-render-tile2 = c .before .before in
-    let at-loop = at-render-tile2 .before .before .before .before in
+    let at-lay = at-render-tile2 .before .before .before in
+    let at-loop = at-lay .before .before in
     let at-render-tile = at-loop .before .before .before in
     let at-smaller = at-render-tile .before .before in
     let at-new = at-smaller .before in
@@ -172,7 +184,7 @@ returns c =
     let e : x + (a .width - x) ≡ a .width = omega arith in (
       rw e at (painted-on (a .row .now) x (a .width - x) (shade (a .colours .now) (backColour (a .vram .now) (a .names) (a .sx) (a .y)))
           (v .1 (a .row .now) r1) (at-render-tile2 .render-tile2 .ensures .0)),
-      rw e at (at-render-tile2 .render-tile2 .ensures .1 (v .2 p1)),
+      rw e at (at-render-tile2 .render-tile2 .ensures .1 (at-lay .lay .ensures ∙ v .2 p1)),
     )
 
 same-length-2 : tie.Need-same-length-2 Inv-loop μ-loop
@@ -181,7 +193,8 @@ same-length-2 c = search needs
 returns-2 : tie.Need-returns-2 Inv-loop μ-loop
 unfolding painted cleared prioTo any
 returns-2 c =
-    let at-loop = c .before .before in
+    let at-lay = c .before in
+    let at-loop = at-lay .before .before in
     let at-render-tile = at-loop .before .before .before in
     let at-smaller = at-render-tile .before .before in
     let at-new = at-smaller .before in
@@ -194,7 +207,7 @@ returns-2 c =
     let v = at-loop .loop .inv in
     let x = at-loop .loop .x in
     let e : x ≡ a .width = omega arith in
-    (rw e at (v .1 (a .row .now) r1), rw e at (v .2 p1))
+    (rw e at (v .1 (a .row .now) r1), rw e at (at-lay .lay .ensures ∙ v .2 p1))
 
 pub render-background-line-spec : {M : Type 1} → statement M
 render-background-line-spec =
@@ -209,16 +222,12 @@ render-background-line-spec =
     loop-holds
     add-loop
     render-whole-tile-requires
-    add-high
-    lower-requires
-    element-copy-out-prio
-    element-write-prio
-    upper-requires
-    element-copy-out-prio-2
-    element-write-prio-2
+    add-marks
+    array-write-marks
     add-x
     loop-less
     loop-again
+    lay-requires
     sub-render-tile
     render-tile-requires-2
     same-length
