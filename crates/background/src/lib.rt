@@ -10,6 +10,7 @@ ghost use Rattle.laws.specs.Paint.{painted};
 ghost use Rattle.laws.specs.Sizes.{vramSize};
 ghost use Rattle.bitmap.specs.Mask.{bitOf, withByte, bytesOf};
 ghost use Rattle.picture.specs.Tile.{turned, namesAt, tileLine};
+ghost use Rattle.tile.specs.Line.{coloursIn};
 ghost use Rattle.background.specs.Background.{Room, backColour, backFront, shade, prioTo, placeAt, Whole, cutOf, homeColumn, homeLast};
 use bitmap::Bitmap;
 use picture::Screen;
@@ -141,7 +142,7 @@ fn where_on(on: bool, bits: u8) -> u8
 fn render_whole_tile(
     row: &mut [u8],
     vram: &[u8],
-    colours: &[u32; 32],
+    table: &[u8; 128],
     names: usize,
     sx: usize,
     y: usize,
@@ -149,7 +150,7 @@ fn render_whole_tile(
 ) -> u8
     requires { ⌜ Room (now vram) names sx y ⌝ }
     requires { ⌜ ((sx + x) % 8 ≡ 0) × ((x + 8) * 4 ≤ length (now row)) × (x < 256) ⌝ }
-    ensures { λ r. ⌜ now (row .exit) ≡ painted (now (row .entry)) x 8 (λ i. shade (now (colours .entry)) (backColour (now (vram .entry)) names sx y) (x + i)) ⌝ }
+    ensures { λ r. ⌜ now (row .exit) ≡ painted (now (row .entry)) x 8 (λ i. shade (coloursIn (now (table .entry))) (backColour (now (vram .entry)) names sx y) (x + i)) ⌝ }
     ensures { λ r. ⌜ r ≡ number 8 (λ i. backFront (now (vram .entry)) names sx y (x + i)) ⌝ }
 {
     let mx = (sx + x) % 256;
@@ -158,7 +159,7 @@ fn render_whole_tile(
     let bits = tile::character_whole(
         row,
         vram,
-        colours,
+        table,
         32 * (entry % 512) + line_in(entry / 1024 % 2 == 1, y),
         entry / 512 % 2 == 1,
         entry / 2048 % 2 * 16,
@@ -201,10 +202,11 @@ pub fn render_background_line(
     let none = Bitmap::new();
     let first = small::smaller(8 - sx % 8, width);
     let mut prio = render_tile(row, vram, colours, names, sx, y, 0, first, cut, none);
+    let table = tile::bytes_of(colours);
     let mut marks = [0u8; 33];
     let mut x = first;
     while x + 8 <= width {
-        let bits = render_whole_tile(row, vram, colours, names, sx, y, x);
+        let bits = render_whole_tile(row, vram, &table, names, sx, y, x);
         marks[x / 8 + 1] = bits;
         x += 8;
     }

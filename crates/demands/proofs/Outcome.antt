@@ -39,6 +39,7 @@ use Rattle.small.proofs.both
 use Rattle.tile.proofs.mark
 use Rattle.tile.proofs.pixel_code
 use Rattle.tile.proofs.pixel_set_full
+use Rattle.tile.proofs.bytes_of
 use Rattle.tile.proofs.character_line
 use Rattle.tile.proofs.character_whole
 use Rattle.tile.proofs.sprite_columns
@@ -285,13 +286,16 @@ pixel-code-once κs a q z z′ w w′ e f = (e .0 ∙ sym (f .0), refl)
 pub pixel-set-full-once : OneOutcome 1 pixel_set_full.Kinds.ps pixel_set_full.Kinds.r pixel_set_full.Reads.Asked pixel_set_full.Reads.Learnt
 pixel-set-full-once κs a q z z′ w w′ e f = (refl, λ i. ((e ∙ sym f) i, w .1))
 
+pub bytes-of-once : OneOutcome 1 bytes_of.Kinds.ps bytes_of.Kinds.r bytes_of.Reads.Asked bytes_of.Reads.Learnt
+bytes-of-once κs a q z z′ w w′ e f = (e .0 ∙ sym (f .0), refl)
+
 pub character-line-once : OneOutcome 3 character_line.Kinds.ps character_line.Kinds.r character_line.Reads.Asked character_line.Reads.Learnt
 character-line-once κs a q z z′ w w′ e f = (e .1 ∙ sym (f .1), λ i. ((e .0 ∙ sym (f .0)) i, w .1))
 
 pub character-whole-once : OneOutcome 3 character_whole.Kinds.ps character_whole.Kinds.r character_whole.Reads.Asked character_whole.Reads.Learnt
 character-whole-once κs a q z z′ w w′ e f = (e .1 ∙ sym (f .1), λ i. ((e .0 ∙ sym (f .0)) i, w .1))
 
-pub character-line-sprite-once : OneOutcome 3 character_line_sprite.Kinds.ps character_line_sprite.Kinds.r character_line_sprite.Reads.Asked
+pub character-line-sprite-once : OneOutcome 4 character_line_sprite.Kinds.ps character_line_sprite.Kinds.r character_line_sprite.Reads.Asked
     character_line_sprite.Reads.Learnt
 character-line-sprite-once κs a q z z′ w w′ e f = (
   λ i. record {

@@ -15,7 +15,7 @@ ghost use Rattle.picture.specs.Tile.{codeAt};
 ghost use Rattle.picture.specs.View.{early};
 ghost use Rattle.picture.specs.Picture.{solid, tableAt, tall, spriteLine};
 ghost use Rattle.picture.specs.Layers.{layersIn};
-ghost use Rattle.tile.specs.Line.{lineMarked, lineDrawn, lineHeld, spriteColour};
+ghost use Rattle.tile.specs.Line.{coloursIn, lineMarked, lineDrawn, lineHeld, spriteColour};
 ghost use Rattle.stand.specs.Stand.{standOf, Fits};
 ghost use Rattle.sprites.specs.Sprites.{Follows, Finished, Laid, Room, stampedIf};
 use bitmap::Bitmap;
@@ -160,6 +160,7 @@ fn render_sprite(
     layers: &mut [u8],
     vram: &[u8],
     colours: &[u32; 32],
+    bytes: &[u8; 128],
     width: usize,
     held: u8,
     taken: u8,
@@ -169,7 +170,7 @@ fn render_sprite(
     count: usize,
 ) -> Marked
     requires { ⌜ Fits s ⌝ }
-    requires { ⌜ (addr + 4 ≤ length (now vram)) × (width * 4 ≤ length (now row)) × (count < 8) × (n < 64) ⌝ }
+    requires { ⌜ (addr + 4 ≤ length (now vram)) × (width * 4 ≤ length (now row)) × (count < 8) × (n < 64) × (coloursIn (now bytes) ≡ now colours) ⌝ }
     ensures { λ r. ⌜ now (row .exit) ≡ cond (s .seen) (overlaid (now (row .entry)) (s .x) 8 (lineDrawn (now (vram .entry)) addr (s .start) (s .end) held taken width (s .x)) (spriteColour (now (colours .entry)) (now (vram .entry)) addr (s .start))) (now (row .entry)) ⌝ }
     ensures { λ r. ⌜ r .bits ≡ cond (s .seen) (byteOf (lineMarked (now (vram .entry)) addr (s .start) (s .end) held)) (byteOf (solid (s .start) (s .end) (codeAt (at (now (vram .entry))) addr))) ⌝ }
     ensures { λ r. ⌜ r .count ≡ count + 1 ⌝ }
@@ -185,6 +186,7 @@ fn render_sprite(
             row,
             vram,
             colours,
+            bytes,
             addr,
             held,
             taken,
@@ -239,12 +241,13 @@ pub fn next_sprite(vram: &[u8], reg: [u8; 11], from: usize, line: usize) -> Next
 }
 
 // The sprites of a line, over its background, under the priority mask `prio`, with what they mark joined to `mask`, and the layers that they own. Both
-// masks come by value; the loop reads and marks them where they stand.
+// masks come by value; the loop reads and marks them where they stand. `bytes` are the colours.
 fn sprites_line(
     row: &mut [u8],
     layers: &mut [u8],
     vram: &[u8],
     colours: &[u32; 32],
+    bytes: &[u8; 128],
     screen: Screen,
     reg: [u8; 11],
     line: usize,
@@ -253,6 +256,7 @@ fn sprites_line(
     mut mask: Bitmap,
 ) -> Marks
     requires { ⌜ Room (now vram) (now row) width ⌝ }
+    requires { ⌜ coloursIn (now bytes) ≡ now colours ⌝ }
     ensures { λ r. ⌜ ((row₀ layers₀ : List ℕ) (f : ℕ → Bool) (colour : ℕ → ℕ) → prio .bits ≡ bytesOf f → mask .bits ≡ cleared → now (row .entry) ≡ painted row₀ 0 width (λ x. at (now (colours .entry)) (colour x)) → now (layers .entry) ≡ layersIn layers₀ width (λ x. 0) → Laid (at (now (vram .entry))) (at reg) (standOf screen (early (at reg))) line f row₀ (now (colours .entry)) width colour (now (row .exit)) r layers₀ (now (layers .exit))) ⌝ }
 {
     let table = table_at(reg);
@@ -285,6 +289,7 @@ fn sprites_line(
             layers,
             vram,
             colours,
+            bytes,
             width,
             held,
             taken,
@@ -324,11 +329,13 @@ pub fn render_sprites_line(
     ensures { λ r. ⌜ ((row₀ layers₀ : List ℕ) (f : ℕ → Bool) (colour : ℕ → ℕ) → prio .bits ≡ bytesOf f → now (row .entry) ≡ painted row₀ 0 width (λ x. at (now (colours .entry)) (colour x)) → now (layers .entry) ≡ layersIn layers₀ width (λ x. 0) → Finished (at (now (vram .entry))) (at reg) (standOf screen (early (at reg))) line f row₀ (now (colours .entry)) width colour (now (row .exit)) (r .hit) (r .ninth) layers₀ (now (layers .exit))) ⌝ }
 {
     let none = Bitmap::new();
+    let bytes = tile::bytes_of(colours);
     let marks = sprites_line(
         row,
         layers,
         vram,
         colours,
+        &bytes,
         screen,
         reg,
         line,

@@ -52,6 +52,29 @@ pub lane-lt : (w k : ℕ) → lane w k < 256
 unfolding lane
 lane-lt w k = omega arith
 
+-- ---- lanes that count bytes, four to a colour
+pub lane-quad : (n c : ℕ) → ((k : ℕ) → k < n → lane c k < 16) → (i : ℕ) → i < n → lane (c * 4) i ≡ 4 * lane c i
+lane-quad zero c h i l = absurd (not-suc-le-zero l)
+lane-quad (suc n) c h zero l =
+    let q = h 0 (omega arith) in
+    let z = lane-zero c in
+    lane-zero (c * 4) ∙ omega (arith, q, z)
+lane-quad (suc n) c h (suc i) l =
+    let q = h 0 (omega arith) in
+    let z = lane-zero c in
+    let e : c * 4 / 256 ≡ c / 256 * 4 = omega (arith, q, z) in
+    lane-suc (c * 4) i
+    ∙ ap (λ (x : ℕ). lane x i) e
+    ∙ lane-quad n (c / 256) (λ k m. rw (← lane-suc c k) (h (suc k) (omega arith))) i (omega arith)
+    ∙ ap (λ (x : ℕ). 4 * x) (sym (lane-suc c i))
+
+pub lane-bytes : (c : ℕ) → c < 2 ^ 64 → ((k : ℕ) → k < 8 → lane c k < 16) → (i : ℕ) → i < 8 → lane (c * 4 % 2 ^ 64) i ≡ 4 * lane c i
+unfolding lane
+lane-bytes c l h i m =
+    let q = h 7 (omega arith) in
+    let e : c * 4 % 2 ^ 64 ≡ c * 4 = omega (arith, q) in
+    ap (λ (x : ℕ). lane x i) e ∙ lane-quad 8 c h i m
+
 -- a number of n lanes from its lanes
 pub lanes-is : (n w : ℕ) (f : ℕ → ℕ) → w < 2 ^ (8 * n) → ((k : ℕ) → k < n → lane w k ≡ f k) → w ≡ lanes n f
 unfolding lanes

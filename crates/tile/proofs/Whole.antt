@@ -3,7 +3,7 @@
 use mathlib.Core.Path.{_≡_, refl, sym, ap, ap₂, _∙_}
 use mathlib.Core.Bool.{Bool, true, false, not, _&&_}
 use mathlib.Core.List.{List}
-use Prim.Native.Nat.{ℕ, zero, suc, _+_, _-_, _/_, _%_, _^_, _<_, _≤_, min}
+use Prim.Native.Nat.{ℕ, zero, suc, _+_, _-_, _*_, _/_, _%_, _^_, _<_, _≤_, min}
 use native.Mathlib.Nat.{zero-add, zero-div}
 use native.Mathlib.Decide.{decLt}
 use native.Mathlib.Omega.{arith}
@@ -14,18 +14,19 @@ use lib.Seq.{getD-take, getD-drop}
 use borrow.Author.Tests.{lt-ltb, le-ltb, ltb-true}
 use Rattle.laws.specs.Bits.{bit, digit, number, byteOf}
 use Rattle.laws.specs.Lists.{at}
-use Rattle.laws.specs.Paint.{overlaid, ofBytes}
+use Rattle.laws.specs.Paint.{put, painted, overlaid, byteOfColour, ofBytes, fourAt}
 use Rattle.laws.proofs.Bits.{bit-and, byte-is}
 use Rattle.laws.proofs.Any.{bit-of}
-use Rattle.laws.proofs.Bytes.{byte-0, byte-1, byte-2, byte-3}
-use Rattle.laws.proofs.Paint.{overlaid-all}
+use Rattle.laws.proofs.Bytes.{byte-0, byte-1, byte-2, byte-3, of-bytes}
+use Rattle.laws.proofs.Paint.{painted-step, painted-byte, overlaid-all}
 use Rattle.laws.proofs.Tests.{both}
+use Rattle.laws.proofs.Tables.{getD-table, is-table}
 use Rattle.laws.proofs.Sweep.{below}
 use Rattle.laws.proofs.Sweep as sweep
 use Rattle.picture.specs.Tile.{codeOf, codeAt, turned}
 use Rattle.picture.specs.Picture.{solid}
 use Rattle.tile.specs.Lanes.{lanes, lane}
-use Rattle.tile.specs.Line.{lineColour, lineSolid, lineMarked, lineDrawn, lineHeld}
+use Rattle.tile.specs.Line.{colourBytes, coloursIn, lineColour, lineSolid, lineMarked, lineDrawn, lineHeld}
 use Rattle.tile.proofs.Marks.{marked-past, drawn-past, held-past}
 use Rattle.tile.proofs.Squares.{digit-same}
 use Rattle.tile.proofs.Lanes.{lane-zero, lane-code, solid-bit}
@@ -36,6 +37,60 @@ half-length l p h = simp (length-take, length-drop) (omega arith)
 
 pub half-at : (l : List ℕ) (p k : ℕ) → k < 16 → at (take (p + 16 - p) (drop p l)) k ≡ at l (p + k)
 half-at l p k h = let q : k < p + 16 - p = omega arith in rw (getD-take, getD-drop)
+
+-- ---- the colours as bytes
+pub colours-at : (l : List ℕ) (i : ℕ) → i < 32 → at (coloursIn l) i ≡ fourAt l (i * 4)
+unfolding coloursIn
+colours-at l i h = getD-table 32 (λ i. fourAt l (i * 4)) i h
+
+-- one colour more of a row that is painted with them
+pub colour-step : (row : List ℕ) (cs : List ℕ) (i : ℕ) {r r′ : List ℕ} → r ≡ painted row 0 i (at cs) → r′ ≡ put r i (at cs i) → r′ ≡ painted row 0
+    (i + 1) (at cs)
+colour-step row cs i {r} e p = painted-step row 0 i (at cs) e refl (p ∙ ap (λ (k : ℕ). put r k (at cs i)) (sym (zero-add i)))
+
+-- the bytes of a row of 32 pixels that are painted with them, and the colours from the bytes
+pub bytes-are : (cs t : List ℕ) {l : List ℕ} → length t ≡ 128 → length l ≡ 128 → l ≡ painted t 0 32 (at cs) → l ≡ colourBytes cs
+unfolding colourBytes
+bytes-are cs t {l} n m e =
+    is-table l 128 (λ k. byteOfColour (at cs (k / 4)) (k % 4)) m
+    (λ k h. let r : 32 * 4 ≤ length t = omega arith in ap (λ (x : List ℕ). at x k) e ∙ painted-byte t 32 (at cs) k h r)
+
+byte-at : (cs : List ℕ) (i b : ℕ) → i < 32 → b < 4 → byteOfColour (at cs i) b ≡ at (colourBytes cs) (i * 4 + b)
+unfolding colourBytes
+byte-at cs i b h m =
+    let d : (i * 4 + b) / 4 ≡ i = omega arith in
+    let q : (i * 4 + b) % 4 ≡ b = omega arith in
+    sym (getD-table 128 (λ k. byteOfColour (at cs (k / 4)) (k % 4)) (i * 4 + b) (omega arith) ∙ rw (d, q))
+
+pub colours-back : (cs : List ℕ) → length cs ≡ 32 → ((i : ℕ) → at cs i < 4294967296) → coloursIn (colourBytes cs) ≡ cs
+unfolding coloursIn
+colours-back cs n low =
+    sym
+    (is-table cs 32 (λ i. fourAt (colourBytes cs) (i * 4)) n
+    (λ i h.
+    let z : i * 4 + 0 ≡ i * 4 = omega arith in
+    let f0 : byteOfColour (at cs i) 0 ≡ at (colourBytes cs) (i * 4) = byte-at cs i 0 h (omega arith) ∙ ap (at (colourBytes cs)) z in
+    let f1 = byte-at cs i 1 h (omega arith) in
+    let f2 = byte-at cs i 2 h (omega arith) in
+    let f3 = byte-at cs i 3 h (omega arith) in
+    sym (of-bytes (at cs i) (low i)) ∙ (λ j. ofBytes (f0 j) (f1 j) (f2 j) (f3 j))))
+
+pub part-length : (l : List ℕ) (p : ℕ) → length l ≡ 128 → p ≤ 16 → length (take (4 * p + 64 - 4 * p) (drop (4 * p) l)) ≡ 64
+part-length l p n h = simp (length-take, length-drop) (omega arith)
+
+-- four bytes of 16 of the colours
+pub part-four : (l : List ℕ) (p k : ℕ) → p ≤ 16 → k < 16 → fourAt (take (4 * p + 64 - 4 * p) (drop (4 * p) l)) (4 * k) ≡ at (coloursIn l) (p + k)
+part-four l p k hp h =
+    let e : (j b : ℕ) → j ≡ 4 * k + b → b < 4 → at (take (4 * p + 64 - 4 * p) (drop (4 * p) l)) j ≡ at l (4 * p + j) =
+    λ j b q m. let r : j < 4 * p + 64 - 4 * p = omega arith in getD-take (4 * p + 64 - 4 * p) (drop (4 * p) l) j 0 r ∙ getD-drop (4 * p) l j 0 in
+    let e0 : at (take (4 * p + 64 - 4 * p) (drop (4 * p) l)) (4 * k) ≡ at l ((p + k) * 4) =
+    e (4 * k) 0 (omega arith) (omega arith) ∙ ap (at l) (omega arith) in
+    let f : (b : ℕ) → b < 4 → at (take (4 * p + 64 - 4 * p) (drop (4 * p) l)) (4 * k + b) ≡ at l ((p + k) * 4 + b) =
+    λ b m. let r : 4 * p + (4 * k + b) ≡ (p + k) * 4 + b = omega arith in e (4 * k + b) b refl m ∙ ap (at l) r in
+    let e1 = f 1 (omega arith) in
+    let e2 = f 2 (omega arith) in
+    let e3 = f 3 (omega arith) in
+    (λ i. ofBytes (e0 i) (e1 i) (e2 i) (e3 i)) ∙ sym (colours-at l (p + k) (omega arith))
 
 -- ---- a line by the four bytes x that stand at addr
 abbrev pub all : ℕ → ℕ

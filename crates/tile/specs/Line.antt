@@ -2,12 +2,21 @@
 -- Assumes nothing.
 use mathlib.Core.Bool.{Bool, _&&_, not}
 use mathlib.Core.List.{List}
-use Prim.Native.Nat.{ℕ, _+_}
+use Prim.Native.Nat.{ℕ, _+_, _*_, _/_, _%_}
 use lib.Dec.{eqb, ltb}
 use Rattle.laws.specs.Bits.{bit}
 use Rattle.laws.specs.Lists.{at}
+use Rattle.laws.specs.Paint.{byteOfColour, fourAt}
+use Rattle.laws.specs.Table.{table}
 use Rattle.picture.specs.Tile.{codeAt, turned}
 use Rattle.picture.specs.Picture.{solid}
+
+-- the 32 colours as bytes, four to each, the lowest first, and the colours of such bytes
+unfoldable pub colourBytes : List ℕ → List ℕ
+colourBytes colours = table 128 (λ k. byteOfColour (at colours (k / 4)) (k % 4))
+
+unfoldable pub coloursIn : List ℕ → List ℕ
+coloursIn bytes = table 32 (λ i. fourAt bytes (i * 4))
 
 -- a background line: the code of its column i, its colour, and whether it is not of code 0
 abbrev pub lineCode : List ℕ → ℕ → Bool → ℕ → ℕ → ℕ

@@ -7,13 +7,13 @@ ghost use lib.Bits.{bitOr};
 ghost use lib.Dec.{ltb};
 ghost use Rattle.laws.specs.Bits.{bit, number, byteOf};
 ghost use Rattle.laws.specs.Lists.{at};
-ghost use Rattle.laws.specs.Paint.{put, painted, putIf, overlaid, ofBytes};
+ghost use Rattle.laws.specs.Paint.{put, painted, putIf, overlaid, fourAt};
 ghost use Rattle.picture.specs.Tile.{codeOf, codeAt, turned};
 ghost use Rattle.picture.specs.Picture.{solid};
 ghost use Rattle.picture.specs.Layers.{owner};
 ghost use Rattle.tile.specs.Lanes.{lanes, lane, exchange};
 ghost use Rattle.tile.specs.Layer.{stamped};
-ghost use Rattle.tile.specs.Line.{lineColour, lineSolid, lineMarked, lineDrawn, lineHeld, spriteColour};
+ghost use Rattle.tile.specs.Line.{colourBytes, coloursIn, lineColour, lineSolid, lineMarked, lineDrawn, lineHeld, spriteColour};
 use column::Columns;
 
 // ---- marks
@@ -189,29 +189,53 @@ fn paint_by(row: &mut [u8], colours: &[u32], palette: usize, x: usize, codes: u6
     paint(row, &colours[palette..top], x, codes, n);
 }
 
-// The colour that lane k names.
-fn lane_colour(colours: &[u32], codes: u64, k: usize) -> u32
-    requires { ⌜ (k < 8) × (lane codes k < length (now colours)) ⌝ }
-    ensures { λ r. ⌜ r ≡ at (now (colours .entry)) (lane codes k) ⌝ }
+// ---- the colours as bytes, for the lines that are drawn whole: a lane that counts bytes is their index as it stands
+
+// The colours into a row of 32 pixels.
+fn paint_colours(row: &mut [u8], colours: &[u32])
+    requires { ⌜ (length (now row) ≡ 128) × (length (now colours) ≡ 32) ⌝ }
+    ensures { λ _. ⌜ now (row .exit) ≡ colourBytes (now (colours .entry)) ⌝ }
+    ensures { λ _. ⌜ coloursIn (now (row .exit)) ≡ now (colours .entry) ⌝ }
 {
-    let c = ((codes >> (8 * k)) % 256) as usize;
-    colours[c]
+    let mut i: usize = 0;
+    while i < 32 {
+        pixel_set_full(row, i, colours[i]);
+        i += 1;
+    }
+}
+
+// The colours as bytes, four to each.
+pub fn bytes_of(colours: &[u32; 32]) -> [u8; 128]
+    ensures { λ r. ⌜ r ≡ colourBytes (now (colours .entry)) ⌝ }
+    ensures { λ r. ⌜ coloursIn r ≡ now (colours .entry) ⌝ }
+{
+    let mut table = [0u8; 128];
+    paint_colours(&mut table, colours);
+    table
+}
+
+// The colour whose first byte lane k names.
+fn lane_colour(table: &[u8], codes: u64, k: usize) -> u32
+    requires { ⌜ (k < 8) × (lane codes k + 4 ≤ length (now table)) ⌝ }
+    ensures { λ r. ⌜ r ≡ fourAt (now (table .entry)) (lane codes k) ⌝ }
+{
+    small::four_at(table, ((codes >> (8 * k)) % 256) as usize)
 }
 
 // The colours that the eight lanes name, from pixel x of the row on. All are read before the first is stored: a store could not change
 // them, but the compiler does not know that.
-fn paint_whole(row: &mut [u8], colours: &[u32], x: usize, codes: u64)
-    requires { ⌜ (x < 65536) × ((x + 8) * 4 ≤ length (now row)) × ((k : ℕ) → k < 8 → lane codes k < length (now colours)) ⌝ }
-    ensures { λ r. ⌜ now (row .exit) ≡ painted (now (row .entry)) x 8 (λ k. at (now (colours .entry)) (lane codes k)) ⌝ }
+fn paint_whole(row: &mut [u8], table: &[u8], x: usize, codes: u64)
+    requires { ⌜ (x < 65536) × ((x + 8) * 4 ≤ length (now row)) × ((k : ℕ) → k < 8 → lane codes k + 4 ≤ length (now table)) ⌝ }
+    ensures { λ r. ⌜ now (row .exit) ≡ painted (now (row .entry)) x 8 (λ k. fourAt (now (table .entry)) (lane codes k)) ⌝ }
 {
-    let c0 = lane_colour(colours, codes, 0);
-    let c1 = lane_colour(colours, codes, 1);
-    let c2 = lane_colour(colours, codes, 2);
-    let c3 = lane_colour(colours, codes, 3);
-    let c4 = lane_colour(colours, codes, 4);
-    let c5 = lane_colour(colours, codes, 5);
-    let c6 = lane_colour(colours, codes, 6);
-    let c7 = lane_colour(colours, codes, 7);
+    let c0 = lane_colour(table, codes, 0);
+    let c1 = lane_colour(table, codes, 1);
+    let c2 = lane_colour(table, codes, 2);
+    let c3 = lane_colour(table, codes, 3);
+    let c4 = lane_colour(table, codes, 4);
+    let c5 = lane_colour(table, codes, 5);
+    let c6 = lane_colour(table, codes, 6);
+    let c7 = lane_colour(table, codes, 7);
     pixel_set_full(row, x, c0);
     pixel_set_full(row, x + 1, c1);
     pixel_set_full(row, x + 2, c2);
@@ -222,13 +246,14 @@ fn paint_whole(row: &mut [u8], colours: &[u32], x: usize, codes: u64)
     pixel_set_full(row, x + 7, c7);
 }
 
-// The same by 16 of the colours, from colour `palette` on.
-fn paint_whole_by(row: &mut [u8], colours: &[u32], palette: usize, x: usize, codes: u64)
-    requires { ⌜ (x < 65536) × ((x + 8) * 4 ≤ length (now row)) × (palette + 16 ≤ length (now colours)) × ((k : ℕ) → k < 8 → lane codes k < 16) ⌝ }
-    ensures { λ r. ⌜ now (row .exit) ≡ painted (now (row .entry)) x 8 (λ k. at (now (colours .entry)) (palette + lane codes k)) ⌝ }
+// The same by 16 of the colours, from colour `palette` on, where a lane is a colour's number.
+fn paint_whole_by(row: &mut [u8], table: &[u8], palette: usize, x: usize, codes: u64)
+    requires { ⌜ (x < 65536) × ((x + 8) * 4 ≤ length (now row)) × (palette ≤ 16) × (length (now table) ≡ 128) × ((k : ℕ) → k < 8 → lane codes k < 16) ⌝ }
+    ensures { λ r. ⌜ now (row .exit) ≡ painted (now (row .entry)) x 8 (λ k. at (coloursIn (now (table .entry))) (palette + lane codes k)) ⌝ }
 {
-    let top = palette + 16;
-    paint_whole(row, &colours[palette..top], x, codes);
+    let low = 4 * palette;
+    let top = low + 64;
+    paint_whole(row, &table[low..top], x, codes << 2);
 }
 
 // n pixels of the line at addr, from the tile's pixel start on, drawn from pixel x of the row on; answers which are not of code 0.
@@ -258,18 +283,18 @@ pub fn character_line(
 pub fn character_whole(
     row: &mut [u8],
     vram: &[u8],
-    colours: &[u32; 32],
+    table: &[u8; 128],
     addr: usize,
     flip: bool,
     palette: usize,
     x: usize,
 ) -> u8
     requires { ⌜ (addr + 4 ≤ length (now vram)) × (palette ≤ 16) × (x < 65536) × ((x + 8) * 4 ≤ length (now row)) ⌝ }
-    ensures { λ r. ⌜ now (row .exit) ≡ painted (now (row .entry)) x 8 (lineColour (now (colours .entry)) palette (now (vram .entry)) addr flip 0) ⌝ }
+    ensures { λ r. ⌜ now (row .exit) ≡ painted (now (row .entry)) x 8 (lineColour (coloursIn (now (table .entry))) palette (now (vram .entry)) addr flip 0) ⌝ }
     ensures { λ r. ⌜ r ≡ number 8 (lineSolid (now (vram .entry)) addr flip 0) ⌝ }
 {
     let p = small::four_at(vram, addr);
-    paint_whole_by(row, colours, palette, x, codes_of(flip, p));
+    paint_whole_by(row, table, palette, x, codes_of(flip, p));
     faced(flip, solid_of(p))
 }
 
@@ -337,9 +362,9 @@ pub fn sprite_columns(
 
 // The colours that the lanes name where `drawn` has their bits, from pixel x of the row on; the others are stored again as they were, so that
 // there is no branch. All are read before the first is stored, as in `paint_whole`.
-fn overlay(row: &mut [u8], colours: &[u32], x: usize, codes: u64, drawn: u8)
-    requires { ⌜ (x < 65536) × ((x + 8) * 4 ≤ length (now row)) × ((k : ℕ) → k < 8 → lane codes k < length (now colours)) ⌝ }
-    ensures { λ r. ⌜ now (row .exit) ≡ overlaid (now (row .entry)) x 8 (bit drawn) (λ k. at (now (colours .entry)) (lane codes k)) ⌝ }
+fn overlay(row: &mut [u8], table: &[u8], x: usize, codes: u64, drawn: u8)
+    requires { ⌜ (x < 65536) × ((x + 8) * 4 ≤ length (now row)) × ((k : ℕ) → k < 8 → lane codes k + 4 ≤ length (now table)) ⌝ }
+    ensures { λ r. ⌜ now (row .exit) ≡ overlaid (now (row .entry)) x 8 (bit drawn) (λ k. fourAt (now (table .entry)) (lane codes k)) ⌝ }
 {
     let o0 = small::four_at(row, x * 4);
     let o1 = small::four_at(row, x * 4 + 4);
@@ -349,14 +374,14 @@ fn overlay(row: &mut [u8], colours: &[u32], x: usize, codes: u64, drawn: u8)
     let o5 = small::four_at(row, x * 4 + 20);
     let o6 = small::four_at(row, x * 4 + 24);
     let o7 = small::four_at(row, x * 4 + 28);
-    let c0 = lane_colour(colours, codes, 0);
-    let c1 = lane_colour(colours, codes, 1);
-    let c2 = lane_colour(colours, codes, 2);
-    let c3 = lane_colour(colours, codes, 3);
-    let c4 = lane_colour(colours, codes, 4);
-    let c5 = lane_colour(colours, codes, 5);
-    let c6 = lane_colour(colours, codes, 6);
-    let c7 = lane_colour(colours, codes, 7);
+    let c0 = lane_colour(table, codes, 0);
+    let c1 = lane_colour(table, codes, 1);
+    let c2 = lane_colour(table, codes, 2);
+    let c3 = lane_colour(table, codes, 3);
+    let c4 = lane_colour(table, codes, 4);
+    let c5 = lane_colour(table, codes, 5);
+    let c6 = lane_colour(table, codes, 6);
+    let c7 = lane_colour(table, codes, 7);
     let s0 = chosen(small::is_set(drawn, 0), c0, o0);
     let s1 = chosen(small::is_set(drawn, 1), c1, o1);
     let s2 = chosen(small::is_set(drawn, 2), c2, o2);
@@ -375,20 +400,19 @@ fn overlay(row: &mut [u8], colours: &[u32], x: usize, codes: u64, drawn: u8)
     pixel_set_full(row, x + 7, s7);
 }
 
-// The same by 16 of the colours, from colour `palette` on.
-fn overlay_by(row: &mut [u8], colours: &[u32], palette: usize, x: usize, codes: u64, drawn: u8)
-    requires { ⌜ (x < 65536) × ((x + 8) * 4 ≤ length (now row)) × (palette + 16 ≤ length (now colours)) × ((k : ℕ) → k < 8 → lane codes k < 16) ⌝ }
-    ensures { λ r. ⌜ now (row .exit) ≡ overlaid (now (row .entry)) x 8 (bit drawn) (λ k. at (now (colours .entry)) (palette + lane codes k)) ⌝ }
+// The same by palette 1, where a lane is a colour's number.
+fn overlay_by(row: &mut [u8], table: &[u8], x: usize, codes: u64, drawn: u8)
+    requires { ⌜ (x < 65536) × ((x + 8) * 4 ≤ length (now row)) × (length (now table) ≡ 128) × ((k : ℕ) → k < 8 → lane codes k < 16) ⌝ }
+    ensures { λ r. ⌜ now (row .exit) ≡ overlaid (now (row .entry)) x 8 (bit drawn) (λ k. at (coloursIn (now (table .entry))) (16 + lane codes k)) ⌝ }
 {
-    let top = palette + 16;
-    overlay(row, &colours[palette..top], x, codes, drawn);
+    overlay(row, &table[64..128], x, codes << 2, drawn);
 }
 
 // The whole line at addr, all of it in the row: what it marks and draws are made as bytes first.
 fn sprite_whole(
     row: &mut [u8],
     vram: &[u8],
-    colours: &[u32; 32],
+    table: &[u8; 128],
     addr: usize,
     held: u8,
     taken: u8,
@@ -396,20 +420,21 @@ fn sprite_whole(
     x: usize,
 ) -> Columns
     requires { ⌜ (addr + 4 ≤ length (now vram)) × (x < 65536) × (x + 8 ≤ width) × (width * 4 ≤ length (now row)) ⌝ }
-    ensures { λ r. ⌜ now (row .exit) ≡ overlaid (now (row .entry)) x 8 (lineDrawn (now (vram .entry)) addr 0 8 held taken width x) (spriteColour (now (colours .entry)) (now (vram .entry)) addr 0) ⌝ }
+    ensures { λ r. ⌜ now (row .exit) ≡ overlaid (now (row .entry)) x 8 (lineDrawn (now (vram .entry)) addr 0 8 held taken width x) (spriteColour (coloursIn (now (table .entry))) (now (vram .entry)) addr 0) ⌝ }
     ensures { λ r. ⌜ (r .marks ≡ byteOf (lineMarked (now (vram .entry)) addr 0 8 held)) × (r .drawn ≡ byteOf (lineDrawn (now (vram .entry)) addr 0 8 held taken width x)) × (r .held ≡ byteOf (lineHeld (now (vram .entry)) addr 0 8 held)) ⌝ }
 {
     let p = small::four_at(vram, addr);
     let columns = column::fates(reversed(solid_of(p)), held, taken, 255);
-    overlay_by(row, colours, 16, x, codes_of(false, p), columns.drawn);
+    overlay_by(row, table, x, codes_of(false, p), columns.drawn);
     columns
 }
 
-// The same, with the whole line on a way of its own.
+// The same, with the whole line on a way of its own, by the colours as bytes.
 pub fn character_line_sprite(
     row: &mut [u8],
     vram: &[u8],
     colours: &[u32; 32],
+    table: &[u8; 128],
     addr: usize,
     held: u8,
     taken: u8,
@@ -418,12 +443,12 @@ pub fn character_line_sprite(
     start: usize,
     end: usize,
 ) -> Columns
-    requires { ⌜ (end ≤ 8) × (start ≤ 256) × (addr + 4 ≤ length (now vram)) × (x < 65536) × (width * 4 ≤ length (now row)) ⌝ }
+    requires { ⌜ (end ≤ 8) × (start ≤ 256) × (addr + 4 ≤ length (now vram)) × (x < 65536) × (width * 4 ≤ length (now row)) × (coloursIn (now table) ≡ now colours) ⌝ }
     ensures { λ r. ⌜ now (row .exit) ≡ overlaid (now (row .entry)) x 8 (lineDrawn (now (vram .entry)) addr start end held taken width x) (spriteColour (now (colours .entry)) (now (vram .entry)) addr start) ⌝ }
     ensures { λ r. ⌜ (r .marks ≡ byteOf (lineMarked (now (vram .entry)) addr start end held)) × (r .drawn ≡ byteOf (lineDrawn (now (vram .entry)) addr start end held taken width x)) × (r .held ≡ byteOf (lineHeld (now (vram .entry)) addr start end held)) ⌝ }
 {
     if small::both(small::both(start == 0, end == 8), x + 8 <= width) {
-        return sprite_whole(row, vram, colours, addr, held, taken, width, x);
+        return sprite_whole(row, vram, table, addr, held, taken, width, x);
     }
     sprite_columns(row, vram, colours, addr, held, taken, width, x, start, end)
 }

@@ -24,7 +24,7 @@ use Rattle.background.proofs.render_background_line.Statement.{statemen
 use Rattle.background.proofs.render_background_line.Tie as tie
 
 abbrev Inv-loop : tie.InvT-loop
-Inv-loop row₀ vram colours names sx y width cut first prio marks₀ x₀ row marks x =
+Inv-loop row₀ vram colours names sx y width cut first prio table marks₀ x₀ row marks x =
     (x ≤ width)
     × ((base : List ℕ) → row₀ ≡ painted base 0 x₀ (shade colours (backColour vram names sx y)) → row ≡ painted base 0 x
     (shade colours (backColour vram names sx y)))
@@ -36,7 +36,7 @@ Inv-loop row₀ vram colours names sx y width cut first prio marks₀ x₀ row m
     × ((k : ℕ) → x < 8 * k → at marks k ≡ 0)
 
 abbrev μ-loop : tie.MeasureT-loop
-μ-loop row₀ vram colours names sx y width cut first prio marks₀ x₀ row marks x = width - x
+μ-loop row₀ vram colours names sx y width cut first prio table marks₀ x₀ row marks x = width - x
 
 new-requires : tie.Need-new-requires Inv-loop μ-loop
 new-requires c κs = search needs
@@ -61,10 +61,13 @@ render-tile-requires c κs =
       ),
     )
 
+bytes-of-requires : tie.Need-bytes-of-requires Inv-loop μ-loop
+bytes-of-requires c κs = search needs
+
 loop-holds : tie.Need-loop-holds Inv-loop μ-loop
 loop-holds c =
-    let at-smaller = c .before .before .before .before in
-    let at-start = c .before .before .before .before .before .before .before .before in
+    let at-smaller = c .before .before .before .before .before in
+    let at-start = at-smaller .before .before .before .before in
     let a = at-start .args in
     let m = at-smaller .smaller .result in (
       omega arith,
@@ -82,9 +85,11 @@ add-loop c = search needs
 
 render-whole-tile-requires : tie.Need-render-whole-tile-requires Inv-loop μ-loop
 render-whole-tile-requires c κs =
-    let at-loop = c .before .before in
+    let at-loop = c .before .before .before in
+    let at-start = at-loop .before .before .before .before .before .before .before .before .before .before in
+    let p = at-start .pre .1 in
     let u = at-loop .loop .inv .4 (omega arith) in
-    (search needs, (u .1, omega arith, omega arith))
+    (search needs, (u .1, omega (arith, p .1), omega (arith, p .0)))
 
 add-marks : tie.Need-add-marks Inv-loop μ-loop
 add-marks c = search needs
@@ -101,22 +106,27 @@ loop-less c = search needs
 loop-again : tie.Need-loop-again Inv-loop μ-loop
 loop-again c =
     let at-render-whole-tile = c .before .before in
-    let at-loop = at-render-whole-tile .before .before .before in
-    let at-render-tile = at-loop .before .before .before in
+    let at-test = at-render-whole-tile .before .before .before in
+    let at-loop = at-test .before in
+    let at-bytes-of = at-loop .before in
+    let at-render-tile = at-bytes-of .before .before .before in
     let at-smaller = at-render-tile .before .before in
     let at-start = at-smaller .before .before .before .before in
     let a = at-start .args in
     let v = at-loop .loop .inv in
     let x = at-loop .loop .x in
     let bits = at-render-whole-tile .render-whole-tile .result in
-    let l : x < a .width = omega arith in
+    let t = at-test .loop-test .taken in
+    let l : x < a .width = omega (arith, t) in
     let u = v .4 l in
     let z : x ≢ 0 = λ e. omega arith in
     let f : (a .sx + x) % 8 + 8 ≤ 8 = omega (arith, u .1) in
-    let r : x + 8 ≤ 256 = omega arith in
+    let r : x + 8 ≤ 256 = omega (arith, at-start .pre .1 .0) in
     let w = whole (a .sx) (a .width) (a .cut) x 8 (at-start .pre .1 .2) (inr (v .4)) l f r in (
       omega arith,
-      λ base e. painted-on _ _ _ _ (v .1 base e) (at-render-whole-tile .render-whole-tile .ensures .0),
+      λ base e.
+          painted-on _ _ _ _ (v .1 base e)
+          (rw (at-bytes-of .bytes-of .ensures .1) at (at-render-whole-tile .render-whole-tile .ensures .0)),
       λ e.
           tile-marks (a .vram .now) (a .names) (a .sx) (a .y) (a .cut) x 8 (omega arith) w
           (λ j. backFront (a .vram .now) (a .names) (a .sx) (a .y) (x + j)) true (λ j h. refl) (v .2 e)
@@ -140,7 +150,7 @@ sub-render-tile c = search needs
 render-tile-requires-2 : tie.Need-render-tile-requires-2 Inv-loop μ-loop
 render-tile-requires-2 c κs =
     let at-loop = c .before .before .before .before in
-    let at-start = at-loop .before .before .before .before .before .before .before .before .before in
+    let at-start = at-loop .before .before .before .before .before .before .before .before .before .before in
     let a = at-start .args in
     let v = at-loop .loop .inv in
     let x = at-loop .loop .x in
@@ -170,7 +180,7 @@ returns c =
     let at-render-tile2 = c .before .before in
     let at-lay = at-render-tile2 .before .before .before in
     let at-loop = at-lay .before .before in
-    let at-render-tile = at-loop .before .before .before in
+    let at-render-tile = at-loop .before .before .before .before in
     let at-smaller = at-render-tile .before .before in
     let at-new = at-smaller .before in
     let at-start = at-new .before .before .before in
@@ -195,7 +205,7 @@ unfolding painted cleared prioTo any
 returns-2 c =
     let at-lay = c .before in
     let at-loop = at-lay .before .before in
-    let at-render-tile = at-loop .before .before .before in
+    let at-render-tile = at-loop .before .before .before .before in
     let at-smaller = at-render-tile .before .before in
     let at-new = at-smaller .before in
     let at-start = at-new .before .before .before in
@@ -219,6 +229,7 @@ render-background-line-spec =
     sub-smaller
     smaller-requires
     render-tile-requires
+    bytes-of-requires
     loop-holds
     add-loop
     render-whole-tile-requires

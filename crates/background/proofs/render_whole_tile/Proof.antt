@@ -6,7 +6,7 @@ use native.Mathlib.Omega.{arith}
 use lib.Dec.{eqb}
 use Rattle.laws.proofs.Bits.{number-ext}
 use Rattle.laws.proofs.Paint.{painted-cong}
-use Rattle.tile.specs.Line.{lineSolid}
+use Rattle.tile.specs.Line.{coloursIn, lineSolid}
 use Rattle.background.proofs.Laws.{entry-bit, entry-palette, entry-line, back-shade, back-in-front, where-front}
 use Rattle.background.proofs.render_whole_tile.Statement.{statement}
 use Rattle.background.proofs.render_whole_tile.Tie as tie
@@ -87,7 +87,7 @@ returns c =
       at-character-whole .character-whole .ensures .0
           ∙ painted-cong _ _ _ _ _ (λ i h.
           let l : (a .sx + a .x) % 8 + i < 8 = omega (arith, p .1 .0) in
-          rw z at (back-shade (a .vram .now) (a .names) (a .sx) (a .y) (a .x) i l (a .colours .now) fl (entry-bit (w .1) (w .0) (w2 .0) 3)
+          rw z at (back-shade (a .vram .now) (a .names) (a .sx) (a .y) (a .x) i l (coloursIn (a .table .now)) fl (entry-bit (w .1) (w .0) (w2 .0) 3)
           (entry-palette (w .1) (w .0) (w2 .0)) ad)),
       c .where-on .ensures
           ∙ rw (at-character-whole .character-whole .ensures .1)

@@ -21,7 +21,7 @@ use Rattle.sprites.proofs.sprites_line.Statement.{statement}
 use Rattle.sprites.proofs.sprites_line.Tie as tie
 
 abbrev Inv-loop : tie.InvT-loop
-Inv-loop row₀ layers₀ vram colours screen line width reg prio mask₀ table lines e hit₀ count₀ next₀ row layers mask hit count next =
+Inv-loop row₀ layers₀ vram colours bytes screen line width reg prio mask₀ table lines e hit₀ count₀ next₀ row layers mask hit count next =
     (next .n ≤ 64)
     × (next .d < 16)
     × (count ≤ 8)
@@ -34,7 +34,7 @@ Inv-loop row₀ layers₀ vram colours screen line width reg prio mask₀ table 
     (Told base told colours width row (mask .bits) layers hit))
 
 abbrev μ-loop : tie.MeasureT-loop
-μ-loop row₀ layers₀ vram colours screen line width reg prio mask₀ table lines e hit₀ count₀ next₀ row layers mask hit count next = 64 - next .n
+μ-loop row₀ layers₀ vram colours bytes screen line width reg prio mask₀ table lines e hit₀ count₀ next₀ row layers mask hit count next = 64 - next .n
 
 table-at-requires : tie.Need-table-at-requires Inv-loop μ-loop
 table-at-requires c κs = search needs
@@ -70,7 +70,7 @@ loop-holds c =
           record {
             from = 0;
             going = row-starts _ _ _ _ _ _ _ _ _ _ re le me refl;
-            follows = c .next-on .ensures .0 (at (a .t6)) (at-table-at .table-at .ensures .0)
+            follows = c .next-on .ensures .0 (at (a .t7)) (at-table-at .table-at .ensures .0)
                 (at-height .height .ensures .0 ∙ rw (at-is-set .is-set .ensures));
           },
     )
@@ -147,11 +147,12 @@ render-sprite-requires c κs =
     let at-start = at-loop .before .before .before .before .before .before .before .before .before in (
       at-settings .settings .ensures .1,
       (
-        omega (arith, at-line-at .line-at .ensures .1, at-start .pre .memory),
+        omega (arith, at-line-at .line-at .ensures .1, at-start .pre .0 .memory),
         omega
-            (arith, at-start .pre .bytes, at-loop .loop .inv .3),
+            (arith, at-start .pre .0 .bytes, at-loop .loop .inv .3),
         omega (arith, at-if2 .if2 .left),
         omega (arith, at-if1 .if1 .taken),
+        at-start .pre .1,
       ),
     )
 
@@ -192,7 +193,7 @@ next-on-requires-2 c κs =
     let at-height = at-if1 .before .before .before .before .before in
     let at-table-at = at-height .before .before in
     let at-start = at-table-at .before .before .before .before in
-    (at-start .pre .memory, at-table-at .table-at .ensures .1, omega (arith, at-if1 .if1 .taken), omega (arith, at-height .height .ensures .1))
+    (at-start .pre .0 .memory, at-table-at .table-at .ensures .1, omega (arith, at-if1 .if1 .taken), omega (arith, at-height .height .ensures .1))
 
 loop-less : tie.Need-loop-less Inv-loop μ-loop
 loop-less c =
@@ -242,24 +243,24 @@ loop-again c =
           facing-on _ _ _ _ _ _ _ l k (at-render-sprite .render-sprite .ensures .1 .1 .0) o
           (record {
             canvas =
-                rw (← with-sprite-is (a .vram .now) (a .t6) (a .screen) (a .line) (at-loop .loop .next .n) (at-loop .loop .next .d) f q
+                rw (← with-sprite-is (a .vram .now) (a .t7) (a .screen) (a .line) (at-loop .loop .next .n) (at-loop .loop .next .d) f q
                 (at-table-at .table-at .ensures .0) (at-early-of .early-of .ensures .0) (at-settings .settings .ensures .0) below
                 (at-line-at .line-at .ensures .0))
                 (shows-laid s (a .vram .now) (at-line-at .line-at .result) f q (at-settings .settings .ensures .1 .end-low) (a .width)
-                (a .colours .now) base (omega (arith, at-start .pre .bytes, v .3)) pe sh
+                (a .colours .now) base (omega (arith, at-start .pre .0 .bytes, v .3)) pe sh
                 held taken (small .fits)
                 (at-render-sprite .render-sprite .ensures .0) (at-render-sprite .render-sprite .ensures .1 .0)
                 (at-or .or .ensures ∙ ap (λ (b : Bool). at-loop .loop .hit || b) (at-collision-calc .collision-calc .ensures))
                 (rw (at-lower .lower .ensures, at-upper .upper .ensures) (mark-is (q .mask) (s .mark) bits (sh .mask) (small .fits))));
             owners =
-                rw (← owned-is (a .vram .now) (a .t6) (a .screen) (a .line) (at-loop .loop .next .n) (at-loop .loop .next .d) f q (o .going .layer)
+                rw (← owned-is (a .vram .now) (a .t7) (a .screen) (a .line) (at-loop .loop .next .n) (at-loop .loop .next .d) f q (o .going .layer)
                 (at-table-at .table-at .ensures .0) (at-early-of .early-of .ensures .0) (at-settings .settings .ensures .0) below
                 (at-line-at .line-at .ensures .0))
                 (owns-laid s (a .vram .now) (at-line-at .line-at .result) f q (at-settings .settings .ensures .1 .end-low) (a .width)
                 (at-loop .loop .next .n) told (o .going .layer) pe sh (o .going .shows .owners)
                 held taken (at-render-sprite .render-sprite .ensures .1 .1 .1));
           })
-          (c .next-on2 .ensures .0 (at (a .t6)) (at-table-at .table-at .ensures .0)
+          (c .next-on2 .ensures .0 (at (a .t7)) (at-table-at .table-at .ensures .0)
           (at-height .height .ensures .0 ∙ rw (at-is-set .is-set .ensures))),
     )
 

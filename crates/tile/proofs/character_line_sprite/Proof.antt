@@ -42,7 +42,7 @@ returns c =
     let u = both (eqb (at-start .args .start) 0) (eqb (at-start .args .end) 8) (sym (at-both .both .ensures) ∙ t .0) in
     let s : at-start .args .start ≡ 0 = eqb-true _ _ (u .0) in
     let n : at-start .args .end ≡ 8 = eqb-true _ _ (u .1) in
-    rw (s, n) (at-sprite-whole .sprite-whole .ensures)
+    rw (s, n, ← at-start .pre .5) (at-sprite-whole .sprite-whole .ensures)
 
 sprite-columns-requires : tie.Need-sprite-columns-requires
 sprite-columns-requires c κs = search needs

@@ -9,6 +9,7 @@ use Rattle.laws.proofs.Bits.{number-ext}
 use Rattle.laws.proofs.Paint.{painted-cong}
 use Rattle.picture.specs.Tile.{turned}
 use Rattle.tile.specs.Lanes.{lane}
+use Rattle.tile.specs.Line.{coloursIn}
 use Rattle.tile.proofs.Lanes.{lane-code, code-lt}
 use Rattle.tile.proofs.Whole.{all, line-colour, line-solid}
 use Rattle.tile.proofs.character_whole.Statement.{statement}
@@ -25,7 +26,7 @@ paint-whole-by-requires c κs =
     let at-start = c .before .before .before .before .before .before in
     let a = at-start .args in
     let q = lane-code _ _ _ _ (c .codes-of .result) (turned (a .flip)) (c .codes-of .ensures) in
-    (search needs, search needs, search needs, λ k h. rw (q k h) (code-lt _ _ _ _ _))
+    (search needs, search needs, search needs, search needs, λ k h. rw (q k h) (code-lt _ _ _ _ _))
 
 solid-of-requires : tie.Need-solid-of-requires
 solid-of-requires c κs = search needs
@@ -49,8 +50,8 @@ returns c =
     let z : (k : _) → k ≡ 0 + k = λ k. omega arith in (
       at-paint-whole-by .paint-whole-by .ensures
           ∙ painted-cong _ _ _ _ _ (λ k h.
-          ap (λ i. at (a .colours .now) (a .palette + lane w i)) (z k)
-          ∙ line-colour (a .vram .now) (a .addr) _ small (at-four-at .four-at .ensures) (a .flip) (a .colours .now) (a .palette) 0 w
+          ap (λ i. at (coloursIn (a .table .now)) (a .palette + lane w i)) (z k)
+          ∙ line-colour (a .vram .now) (a .addr) _ small (at-four-at .four-at .ensures) (a .flip) (coloursIn (a .table .now)) (a .palette) 0 w
           (at-codes-of .codes-of .ensures) k (omega (arith, z k))),
       c .faced .ensures
           ∙ number-ext 8 _ _ (λ k h.

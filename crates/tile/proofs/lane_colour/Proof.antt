@@ -1,26 +1,22 @@
--- `tile::lane_colour` meets its contract: the colour that lane k names.
+-- `tile::lane_colour` meets its contract: the colour whose first byte lane k names.
 use borrow.Author.Needs.{needs}
-use mathlib.Core.Path.{refl}
 use Rattle.tile.specs.Lanes.{lane}
 use Rattle.tile.proofs.lane_colour.Statement.{statement}
 use Rattle.tile.proofs.lane_colour.Tie as tie
 
-mul-c : tie.Need-mul-c
-mul-c c = search needs
+mul-four-at : tie.Need-mul-four-at
+mul-four-at c = search needs
 
-shr-c : tie.Need-shr-c
-shr-c c = search needs
+shr-four-at : tie.Need-shr-four-at
+shr-four-at c = search needs
 
-mul-result : tie.Need-mul-result
-mul-result c = search needs
-
-shared-slice-read-result : tie.Need-shared-slice-read-result
+four-at-requires : tie.Need-four-at-requires
 unfolding lane
-shared-slice-read-result c = c .before .pre .1
+four-at-requires c κs = c .before .pre .1
 
 returns : tie.Need-returns
 unfolding lane
-returns c = refl
+returns c = c .four-at .ensures
 
 pub lane-colour-spec : {M : Type 1} → statement M
-lane-colour-spec = tie.close (tie.spec mul-c shr-c mul-result shared-slice-read-result returns)
+lane-colour-spec = tie.close (tie.spec mul-four-at shr-four-at four-at-requires returns)

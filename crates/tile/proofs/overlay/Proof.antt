@@ -2,7 +2,7 @@
 use borrow.Author.Needs.{needs}
 use native.Mathlib.Omega.{arith}
 use Rattle.laws.specs.Bits.{bit}
-use Rattle.laws.specs.Lists.{at}
+use Rattle.laws.specs.Paint.{fourAt}
 use Rattle.tile.specs.Lanes.{lane}
 use Rattle.tile.proofs.Store.{picked, eight-chosen}
 use Rattle.tile.proofs.overlay.Statement.{statement}
@@ -343,22 +343,22 @@ returns c =
     let at-slice-known = at-four-at .before .before .before in
     let at-start = at-slice-known .before in
     let a = at-start .args in
-    eight-chosen _ _ (bit (a .drawn)) (λ k. at (a .colours .now) (lane (a .codes) k)) (λ k. omega (arith, at-slice-known .slice-known .given k))
-    (picked (bit (a .drawn)) (λ k. at (a .colours .now) (lane (a .codes) k)) 0 (at-is-set .is-set .ensures) (at-lane-colour .lane-colour .ensures)
+    eight-chosen _ _ (bit (a .drawn)) (λ k. fourAt (a .table .now) (lane (a .codes) k)) (λ k. omega (arith, at-slice-known .slice-known .given k))
+    (picked (bit (a .drawn)) (λ k. fourAt (a .table .now) (lane (a .codes) k)) 0 (at-is-set .is-set .ensures) (at-lane-colour .lane-colour .ensures)
     (at-four-at .four-at .ensures) (at-chosen .chosen .ensures))
-    (picked (bit (a .drawn)) (λ k. at (a .colours .now) (lane (a .codes) k)) 1 (at-is-set2 .is-set2 .ensures)
+    (picked (bit (a .drawn)) (λ k. fourAt (a .table .now) (lane (a .codes) k)) 1 (at-is-set2 .is-set2 .ensures)
     (at-lane-colour2 .lane-colour2 .ensures) (at-four-at2 .four-at2 .ensures) (at-chosen2 .chosen2 .ensures))
-    (picked (bit (a .drawn)) (λ k. at (a .colours .now) (lane (a .codes) k)) 2 (at-is-set3 .is-set3 .ensures)
+    (picked (bit (a .drawn)) (λ k. fourAt (a .table .now) (lane (a .codes) k)) 2 (at-is-set3 .is-set3 .ensures)
     (at-lane-colour3 .lane-colour3 .ensures) (at-four-at3 .four-at3 .ensures) (at-chosen3 .chosen3 .ensures))
-    (picked (bit (a .drawn)) (λ k. at (a .colours .now) (lane (a .codes) k)) 3 (at-is-set4 .is-set4 .ensures)
+    (picked (bit (a .drawn)) (λ k. fourAt (a .table .now) (lane (a .codes) k)) 3 (at-is-set4 .is-set4 .ensures)
     (at-lane-colour4 .lane-colour4 .ensures) (at-four-at4 .four-at4 .ensures) (at-chosen4 .chosen4 .ensures))
-    (picked (bit (a .drawn)) (λ k. at (a .colours .now) (lane (a .codes) k)) 4 (at-is-set5 .is-set5 .ensures)
+    (picked (bit (a .drawn)) (λ k. fourAt (a .table .now) (lane (a .codes) k)) 4 (at-is-set5 .is-set5 .ensures)
     (at-lane-colour5 .lane-colour5 .ensures) (at-four-at5 .four-at5 .ensures) (at-chosen5 .chosen5 .ensures))
-    (picked (bit (a .drawn)) (λ k. at (a .colours .now) (lane (a .codes) k)) 5 (at-is-set6 .is-set6 .ensures)
+    (picked (bit (a .drawn)) (λ k. fourAt (a .table .now) (lane (a .codes) k)) 5 (at-is-set6 .is-set6 .ensures)
     (at-lane-colour6 .lane-colour6 .ensures) (at-four-at6 .four-at6 .ensures) (at-chosen6 .chosen6 .ensures))
-    (picked (bit (a .drawn)) (λ k. at (a .colours .now) (lane (a .codes) k)) 6 (at-is-set7 .is-set7 .ensures)
+    (picked (bit (a .drawn)) (λ k. fourAt (a .table .now) (lane (a .codes) k)) 6 (at-is-set7 .is-set7 .ensures)
     (at-lane-colour7 .lane-colour7 .ensures) (at-four-at7 .four-at7 .ensures) (at-chosen7 .chosen7 .ensures))
-    (picked (bit (a .drawn)) (λ k. at (a .colours .now) (lane (a .codes) k)) 7 (at-is-set8 .is-set8 .ensures)
+    (picked (bit (a .drawn)) (λ k. fourAt (a .table .now) (lane (a .codes) k)) 7 (at-is-set8 .is-set8 .ensures)
     (at-lane-colour8 .lane-colour8 .ensures) (at-four-at8 .four-at8 .ensures) (at-chosen8 .chosen8 .ensures))
     (at-pixel-set-full .pixel-set-full .ensures)
     (at-pixel-set-full2 .pixel-set-full2 .ensures)

@@ -11,6 +11,7 @@ use Rattle.laws.specs.Lists.{at}
 use Rattle.laws.proofs.Bits.{number-lt, bit-number}
 use Rattle.picture.specs.Tile.{turned, codeAt}
 use Rattle.picture.specs.Picture.{solid}
+use Rattle.tile.specs.Line.{coloursIn}
 use Rattle.tile.proofs.Lanes.{lane-code, code-lt}
 use Rattle.tile.proofs.Whole.{all, lane-at, line-solid, overlaid-cong, draw-at, marks-are, drawn-are, held-are, whole-room, whole-solid}
 use Rattle.tile.proofs.sprite_whole.Statement.{statement}
@@ -70,8 +71,8 @@ returns c =
       at-overlay-by .overlay-by .ensures
           ∙ overlaid-cong _ _ 8 _ _ _ _ (λ k h. ap (λ n. bit n k) (f .1) ∙ draw-at v (a .addr) 0 8 (a .held) (a .taken) (a .width) (a .x) b 255 hh ht
           hb e er k h)
-          (λ k h. ap (λ i. at (a .colours .now) (16 + i)) (lane-at v (a .addr) x small (at-four-at .four-at .ensures) false
-          (at-codes-of .codes-of .result) (at-codes-of .codes-of .ensures) k h) ∙ ap (λ i. at (a .colours .now) (16 + codeAt (at v) (a .addr) i))
+          (λ k h. ap (λ i. at (coloursIn (a .table .now)) (16 + i)) (lane-at v (a .addr) x small (at-four-at .four-at .ensures) false
+          (at-codes-of .codes-of .result) (at-codes-of .codes-of .ensures) k h) ∙ ap (λ i. at (coloursIn (a .table .now)) (16 + codeAt (at v) (a .addr) i))
           (sym (zero-add k))),
       (
         f .0 ∙ marks-are v (a .addr) 0 8 (a .held) (a .taken) (a .width) (a .x) b 255 hh ht hb e er,
