@@ -158,8 +158,6 @@ for edit in crates/*/must-fail/*.edit; do
     fi
     # The first error, with the lines that it goes on by; a hint among them may speak of a scope.
     first=$(awk '/: error: / { if (on++) exit; print; next } on { if (!/^  /) exit; print }' "$log")
-    # Where the toolchain has made the proof itself it tells of no error: its note says that the function's promise does not hold.
-    [ -n "$first" ] || first=$(grep -m 1 -E '^note: .*: it is not proved that what the function ensures holds when it returns ' "$log")
     case ${first%%$'\n'*} in
     *'that can be named from here'* | *'is not in scope'* | *'expected type `tie.'* | *'was not admitted'* | '') unfit="$unfit $log" ;;
     *) case $first in *'has no field'*) unfit="$unfit $log" ;; esac ;;

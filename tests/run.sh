@@ -64,8 +64,8 @@ if ! sh tools/setup.sh rust; then
     total
     exit 1
 fi
-# From nothing: what an earlier make left is made again, of what is proved now.
-rm -rf build/bin build/libvdp.a build/native build/modules build/cross build/toolchain build/oracle $logs
+# From nothing: what an earlier make left is made again, of what is proved now. (target/must-fail is the sign that rt has come to the edits: none of an earlier run.)
+rm -rf target/must-fail build/bin build/libvdp.a build/native build/modules build/cross build/toolchain build/oracle $logs
 mkdir -p $logs
 
 # What the suites test, made once, in a copy of the project beside the edits: rt has proved every crate when it begins with these, and leaves a processor idle
@@ -88,7 +88,8 @@ printf '\n== make\n'
 wait "$beside"
 cat $logs/make.log
 cp -a "$copy/build/." build/
-read -r status seconds <$logs/make.end
+status=1 seconds=no
+[ ! -s $logs/make.end ] || read -r status seconds <$logs/make.end
 tell "make build native desk page ($seconds s, beside the edits)" "$status"
 export BUILT=1
 
