@@ -7,9 +7,12 @@ CALLS ?= 1000000
 SEED ?= 1
 ROUNDS ?= 400
 PREFIX ?= /usr/local
-PROGRAMS := trace snapshot layers trace_261 snapshot_261 home_trace home_snapshot sheet repair
-# A program's file has a hyphen where its crate has a line.
-BINS := $(addprefix build/bin/,$(subst _,-,$(PROGRAMS)))
+# The crates of the programs, and the names that each of them is a program under.
+PROGRAMS := trace snapshot sheet repair
+NAMES_trace := trace trace-261 home-trace
+NAMES_snapshot := snapshot snapshot-261 home-snapshot layers
+bins = $(addprefix build/bin/,$(or $(NAMES_$(1)),$(1)))
+BINS := $(foreach crate,$(PROGRAMS),$(call bins,$(crate)))
 NATIVE := build/native/libvdp.a build/native/libvdp.so
 # What compiles a module for a machine.
 COMPILE := tools/native-module.sh tools/target.sh tools/toolchain.sh
@@ -39,9 +42,9 @@ $(PROGRAMS:%=build/modules/%.ll): build/modules/programs
 	@[ -e $@ ] || $(PROVE) programs $(PROGRAMS)
 
 define program
-build/bin/$(subst _,-,$(1)): build/modules/$(1).ll tools/native-program.sh tools/program.c $(COMPILE)
-	@TARGET= sh tools/native-program.sh $$< $$@
-	@echo "$$@ compiled for this machine"
+$(call bins,$(1)) &: build/modules/$(1).ll tools/native-program.sh tools/program.c $(COMPILE)
+	@TARGET= sh tools/native-program.sh $$< $(call bins,$(1))
+	@echo "$(call bins,$(1)) compiled for this machine"
 endef
 $(foreach name,$(PROGRAMS),$(eval $(call program,$(name))))
 

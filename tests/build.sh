@@ -42,12 +42,12 @@ END
 chmod +x "$work/bin/rt"
 echo one >"$work/version"
 
-# made NAME CALLS WORDS..: make with these words calls rt so, and leaves what a user takes away. Two programs are as good as nine here.
+# made NAME CALLS WORDS..: make with these words calls rt so, and leaves what a user takes away. Two crates of programs are as good as all here.
 made() {
     local name=$1 calls=$2 status
     shift 2
     : >"$work/calls"
-    (cd "$copy" && PATH="$work/bin:$PATH" make --no-print-directory PROGRAMS='trace snapshot_261' "$@" </dev/null) >"$work/said" 2>&1
+    (cd "$copy" && PATH="$work/bin:$PATH" make --no-print-directory PROGRAMS='trace snapshot' "$@" </dev/null) >"$work/said" 2>&1
     status=$?
     [ "$status" -eq 0 ] || cat "$work/said"
     [ "$status" -eq 0 ] && [ "$(tr '\n' ' ' <"$work/calls")" = "$calls" ] && ! grep -q warning "$work/said"
@@ -69,13 +69,12 @@ while read -r line; do
     lines=$((lines + 1))
     case $line in
     'make page' | 'make install PREFIX="$HOME/.local"' | 'make test') ;;
-    build/bin/snapshot\ *) (cd "$copy" && eval "${line/snapshot/snapshot-261}") >"$work/tried" 2>&1 || { cat "$work/tried"; status=1; } ;;
     *) (cd "$copy" && eval "$line") >"$work/tried" 2>&1 || { cat "$work/tried"; status=1; } ;;
     esac
 done < <(sed -n '/^Try:$/,$p' "$work/said" | sed 1d)
 [ $lines -ge 4 ] && [ $status -eq 0 ]
 tell "its last lines say what to try, and each of the commands works" $?
-[ "$(sed -n 's/^  build\/bin  *//p' "$work/said")" = 'desk snapshot-261 trace' ] && grep -q "^Built for this machine, $(uname -m):$" "$work/said"
+[ "$(sed -n 's/^  build\/bin  *//p' "$work/said")" = 'desk home-snapshot home-trace layers snapshot snapshot-261 trace trace-261' ] && grep -q "^Built for this machine, $(uname -m):$" "$work/said"
 tell "and what is there" $?
 made "make again: rt is not called" "" all
 later crates/laws/src/lib.rt

@@ -17,6 +17,12 @@ for name in p5 refusals; do
     tell "home-trace $name: accepted where the handheld has refusal 6" $?
 done
 
+# A short trace of every kind of record, with refusals and a bad area at its end; and a picture with the fill, as the rules give it.
+build/bin/home-trace tests/programs/home-trace.trace | cmp tests/programs/home-trace.text -
+tell "home-trace: the text beside its trace" $?
+build/bin/home-snapshot tests/programs/home-snapshot.trace | cmp tests/programs/home-snapshot.ppm -
+tell "home-snapshot: the picture beside its trace" $?
+
 # Damaged ones, behind records of 0, 3 and 7 bytes. START and RECORDS are as printf takes them; START prints TEXT.
 bad() {
     printf "$1$3" >$work/damaged

@@ -5,8 +5,21 @@
 . "$(dirname "$0")/begin.sh"
 needs build
 programs=$(cd build/bin && ls | grep -vx desk)
-crate() { echo "$1" | tr - _; }
-for name in $programs; do [ -x target/bin/"$(crate $name)" ] || rt check "$(crate $name)" >/dev/null || exit 1; done
+# crate NAME: the crate that is the program of this name.
+crate() {
+    case $1 in
+    trace-261 | home-trace) echo trace ;;
+    snapshot-261 | home-snapshot | layers) echo snapshot ;;
+    *) echo "$1" ;;
+    esac
+}
+# rt's own go by the word that they are started by: their name alone.
+root=$PWD
+mkdir $work/rt
+for name in $programs; do
+    [ -x target/bin/"$(crate $name)" ] || rt check "$(crate $name)" >/dev/null || exit 1
+    cp target/bin/"$(crate $name)" $work/rt/$name
+done
 
 # kind FILE: the machine that a program is for, two bytes of its header.
 kind() { od -An -tx1 -j 18 -N 2 "$1"; }
@@ -28,7 +41,7 @@ compared() {
     local name=$1 same=0 count=0 input due ended
     shift
     for input in $(inputs $name); do
-        $RUN target/bin/"$(crate $name)" $input >$work/rt.out 2>$work/rt.err
+        (cd $work/rt && PATH=.:$PATH $RUN $name "$root/$input") >$work/rt.out 2>$work/rt.err
         "$@" $input >$work/own.out 2>$work/own.err
         ended=$? due=$(status_due $work/rt.out)
         [ ! -s $work/rt.err ] || due=1
@@ -43,6 +56,8 @@ compared() {
 }
 machine="this machine"
 for name in $programs; do compared $name build/bin/$name; done
+cp build/bin/home-trace $work/trace && $work/trace --help | grep -q '^usage: home-trace \[FILE\]'
+tell "a program of build/bin that is renamed goes on as the same program" $?
 
 # The other machine's.
 other=aarch64
@@ -50,8 +65,11 @@ other=aarch64
 why=$(sh tools/setup.sh cross 2>&1 >/dev/null)
 if TARGET=$other && . tools/target.sh && command -v $cc >/dev/null && sh tools/emulate.sh $other; then
     machine=$other
+    for one in $(for name in $programs; do crate $name; done | sort -u); do
+        TARGET=$other sh tools/native-program.sh build/modules/$one.ll $(for name in $programs; do [ "$(crate $name)" != $one ] || echo $work/$other/$name; done)
+    done
     for name in $programs; do
-        TARGET=$other sh tools/native-program.sh build/modules/"$(crate $name)".ll $work/$other/$name && [ "$(kind $work/$other/$name)" != "$(kind build/bin/$name)" ]
+        [ -x $work/$other/$name ] && [ "$(kind $work/$other/$name)" != "$(kind build/bin/$name)" ]
         tell "$name is compiled for $other" $?
         compared $name sh tools/emulate.sh $other $work/$other/$name
     done

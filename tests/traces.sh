@@ -47,6 +47,8 @@ for both in "trace 219 00" "trace-261 218 01"; do
     build/bin/$program < tests/traces/p7.trace | cmp $work/expected -
     tell "262 steps: $program goes by its own table" $?
 done
+build/bin/snapshot-261 tests/traces/split90.trace | cmp crates/snapshot/stdout -
+tell "snapshot-261 of the split: a pass of 261 steps draws the same" $?
 # After 285 steps the one has drawn a row of its second pass, and the other has not.
 build/bin/snapshot tests/traces/late.trace > $work/late.ppm && build/bin/snapshot-261 tests/traces/late.trace > $work/late-261.ppm
 for both in "late 0" "late-261 1"; do
@@ -147,7 +149,7 @@ done
 tell 'split at line 90: all other rows' $status
 
 # Layers: the scene of docs/TRACES.md, its picture and its layers as they stand there.
-build/bin/layers < tests/traces/layers.trace > $work/layers.ppm && cmp crates/layers/stdout $work/layers.ppm && cmp tests/traces/layers.trace crates/layers/data/layers.trace
+build/bin/layers < tests/traces/layers.trace > $work/layers.ppm && cmp tests/programs/layers.ppm $work/layers.ppm
 tell 'layers of the scene' $?
 for both in "picture -picture" "layers "; do
     read -r what suffix <<<"$both"

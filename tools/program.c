@@ -14,7 +14,7 @@ int open(const char *path, int flags, ...);
 long write(int to, const void *from, size count);
 void program_main(void);
 
-static int words;         /* the arguments */
+static int words;         /* the arguments: word 0 is NAME, whatever the file is called */
 static char **word;
 static int told;          /* something was to be told on standard error */
 static size written;      /* bytes of output */
@@ -70,10 +70,11 @@ long rattle_arg(size i, char *buffer, size room)
     size n = 0;
     if (i >= (size)words)
         return -1;
-    for (; word[i][n] != 0; n++) {
+    const char *from = i == 0 ? NAME : word[i];
+    for (; from[n] != 0; n++) {
         if (n == room)
             return -2;
-        buffer[n] = word[i][n];
+        buffer[n] = from[n];
     }
     return (long)n;
 }

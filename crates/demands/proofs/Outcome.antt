@@ -133,6 +133,7 @@ use Rattle.block.proofs.cached_colour
 use Rattle.block.proofs.store_raster
 use Rattle.block.proofs.store_cache
 use Rattle.block_repair.proofs.repair
+use Rattle.program.proofs.same
 use Rattle.trace_record.proofs.record_at
 use Rattle.trace_record.proofs.area_number
 use Rattle.trace_record.proofs.put_all
@@ -574,6 +575,10 @@ read-tile-once κs a q z z′ w w′ e f = (e .refusal ∙ sym (f .refusal), λ 
 
 pub sheet-once : OneOutcome 2 sheet.Kinds.ps sheet.Kinds.r sheet.Reads.Asked sheet.Reads.Learnt
 sheet-once κs a q z z′ w w′ e f = (e .0 .count ∙ sym (f .0 .count), λ i. (tt, ((e .0 .bytes ∙ sym (f .0 .bytes)) i, tt)))
+
+-- ---- program
+pub same-once : OneOutcome 2 same.Kinds.ps same.Kinds.r same.Reads.Asked same.Reads.Learnt
+same-once κs a q z z′ w w′ e f = (e ∙ sym f, refl)
 
 -- ---- block
 pub well-formed-once : OneOutcome 1 well_formed.Kinds.ps well_formed.Kinds.r well_formed.Reads.Asked well_formed.Reads.Learnt

@@ -4,9 +4,11 @@ ghost use mathlib.Core.Path.{_≡_};
 ghost use Prim.Native.Nat.{_≤_};
 ghost use lib.ListN.{length, replicate};
 ghost use Rattle.io.specs.Counts.{Counts};
+ghost use Rattle.program.specs.Same.{same};
 use libc::STDERR_FILENO;
 use libc::STDIN_FILENO;
 use libc::STDOUT_FILENO;
+use picture::GG_VISIBLE_FRAME_SIZE;
 
 // What was taken in: whether there is an input to work on, and how many bytes it has.
 pub struct Taken {
@@ -33,18 +35,19 @@ fn tell(name: &[u8], what: &[u8]) {
 }
 
 // Whether two texts are the same.
-fn same(a: &[u8], b: &[u8]) -> bool {
+pub fn same(a: &[u8], b: &[u8]) -> bool
+    ensures { λ r. ⌜ r ≡ same (now (a .entry)) (now (b .entry)) ⌝ }
+{
     if a.len() != b.len() {
         return false;
     }
+    let mut differ = false;
     let mut i = 0;
     while i < a.len() {
-        if a[i] != b[i] {
-            return false;
-        }
+        differ = (a[i] != b[i]) | differ;
         i += 1;
     }
-    true
+    !differ
 }
 
 // Reads until buf is full or the input ends.
@@ -124,11 +127,11 @@ pub fn text_room() -> [u8; 327_700]
 }
 
 // A visible frame, zeroed.
-pub fn visible_frame() -> [u8; 92_160]
+pub fn visible_frame() -> [u8; GG_VISIBLE_FRAME_SIZE]
     ensures { λ r. ⌜ r ≡ replicate 92160 0 ⌝ }
     ensures { λ r. ⌜ 92160 ≡ length r ⌝ }
 {
-    [0; 92_160]
+    [0; GG_VISIBLE_FRAME_SIZE]
 }
 
 // Room for its picture.

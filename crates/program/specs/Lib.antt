@@ -1,0 +1,2 @@
+-- What the contracts of `program` cite.
+pub mod Same
