@@ -125,7 +125,7 @@ done
 mkdir "$work/few"
 linker=
 [ "$(uname -m)" = x86_64 ] || linker='cc ld as'
-for word in sh bash make awk cat chmod cmp cp cut dirname env find grep id ln mkdir mktemp mv nproc readlink rm sed sleep sort tail tee touch tr uname $linker; do ln -s "$(command -v $word)" "$work/few/"; done
+for word in sh bash make awk cat chmod cmp cp cut df dirname env find grep id ln mkdir mktemp mv nproc readlink rm sed sleep sort tail tee touch tr uname $linker; do ln -s "$(command -v $word)" "$work/few/"; done
 for word in dpkg apt-get; do printf '#!/bin/sh\necho "E: Unable to locate package rustc" >&2\nexit 100\n' >"$work/few/$word"; done
 chmod +x "$work/few"/dpkg "$work/few"/apt-get
 printf '#!/bin/sh\nexec "$@"\n' >"$work/few/sudo"

@@ -80,7 +80,7 @@ trap 'exit 143' TERM
 
 printf '\n== proofs\n'
 began=$(date +%s)
-RT_JOBS=${RT_JOBS:-$(sh tools/jobs.sh)} rt ci 2>&1 </dev/null | tee $logs/proofs.log
+RT_JOBS=${RT_JOBS:-$(sh tools/jobs.sh)} bash tools/scratch.sh rt ci 2>&1 </dev/null | tee $logs/proofs.log
 echo "${PIPESTATUS[0]} $(($(date +%s) - began))" >$logs/proofs.end
 count proofs
 

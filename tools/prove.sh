@@ -65,7 +65,7 @@ look() {
 through() {
     local doing=$1 began=$SECONDS
     shift
-    bash tools/whole.sh "$@" 3>&1 >>"$log" 2>&1 &
+    bash tools/whole.sh bash tools/scratch.sh "$@" 3>&1 >>"$log" 2>&1 &
     job=$!
     while kill -0 "$job" 2>/dev/null; do
         look $open
