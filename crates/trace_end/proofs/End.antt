@@ -9,89 +9,104 @@ use borrow.Author.Tests.{le-leb, lt-leb}
 use lib.Dec.{leb}
 use lib.ListN.{length, length-append}
 use Rattle.laws.specs.Lists.{at, written}
+use Rattle.picture.specs.declared.Screen.{Screen}
+use Rattle.picture.specs.declared.Screen.the-variants.{VisibleOnly, EffectiveArea, TrueEdges, Home}
 use Rattle.picture.specs.Screen.{frameSize}
-use Rattle.trace_run.specs.declared.Machine.{Machine}
-use Rattle.trace_run.specs.declared.Machine.the-variants.{Handheld, Home}
-use Rattle.trace_run.specs.declared.Run.{Run}
 use Rattle.trace_text.specs.Text.{decimal, numbered, endLine, badLine}
-use Rattle.trace_end.specs.End.{lastLine, pixels, screenFor, pixelCount, header, ppm, pictureRoom, drawn}
+use Rattle.trace_end.specs.End.{lastLine, pixels, pixelCount, header, ppm, pictureRoom, drawn}
 use Rattle.laws.proofs.Lists.{written-nil, written-on}
 use Rattle.laws.proofs.Tests.{either}
 use Rattle.trace_text.proofs.Lines.{decimal-short}
 
 -- ---- the last line
-pub last-end : (s : List ℕ) (run : Run) → length s ≤ run .at → numbered (0x65 ∷ 0x6E ∷ 0x64 ∷ 0x20 ∷ []) (run .count) ≡ lastLine s run
+pub last-end : (s : List ℕ) (k n : ℕ) → length s ≤ k → numbered (0x65 ∷ 0x6E ∷ 0x64 ∷ 0x20 ∷ []) n ≡ lastLine s k n
 unfolding lastLine endLine
-last-end s run h = rw (le-leb (length s) (run .at) h)
+last-end s k n h = rw (le-leb (length s) k h)
 
-pub last-bad : (s : List ℕ) (run : Run) → run .at < length s → numbered (0x62 ∷ 0x61 ∷ 0x64 ∷ 0x20 ∷ []) (run .at) ≡ lastLine s run
+pub last-bad : (s : List ℕ) (k n : ℕ) → k < length s → numbered (0x62 ∷ 0x61 ∷ 0x64 ∷ 0x20 ∷ []) k ≡ lastLine s k n
 unfolding lastLine badLine
-last-bad s run h = rw (lt-leb (length s) (run .at) h)
+last-bad s k n h = rw (lt-leb (length s) k h)
 
 numbered-short : (h : List ℕ) (n : ℕ) → length (numbered h n) ≤ length h + 6
 numbered-short h n = simp length-append (omega (arith, decimal-short n))
 
-pub last-short : (s : List ℕ) (run : Run) → length (lastLine s run) ≤ 10
+pub last-short : (s : List ℕ) (k n : ℕ) → length (lastLine s k n) ≤ 10
 unfolding lastLine endLine badLine
-last-short s run =
-    either (λ (l : List ℕ). length l ≤ 10) (leb (length s) (run .at))
-    (λ _. numbered-short (0x65 ∷ 0x6E ∷ 0x64 ∷ 0x20 ∷ []) (run .count))
-    (λ _. numbered-short (0x62 ∷ 0x61 ∷ 0x64 ∷ 0x20 ∷ []) (run .at))
+last-short s k n =
+    either (λ (l : List ℕ). length l ≤ 10) (leb (length s) k)
+    (λ _. numbered-short (0x65 ∷ 0x6E ∷ 0x64 ∷ 0x20 ∷ []) n)
+    (λ _. numbered-short (0x62 ∷ 0x61 ∷ 0x64 ∷ 0x20 ∷ []) k)
 
 -- ---- the picture
-pub drawn-end : (m : Machine) (s : List ℕ) (run : Run) (frame : List ℕ) → length s ≤ run .at → ppm m frame ≡ drawn m s run frame
+pub drawn-end : (d : Screen) (s : List ℕ) (k : ℕ) (frame : List ℕ) → length s ≤ k → ppm d frame ≡ drawn d s k frame
 unfolding drawn
-drawn-end m s run frame h = rw (le-leb (length s) (run .at) h)
+drawn-end d s k frame h = rw (le-leb (length s) k h)
 
-pub drawn-bad :
-    (m : Machine) (s : List ℕ) (run : Run) (frame : List ℕ) → run .at < length s
-    → numbered (0x62 ∷ 0x61 ∷ 0x64 ∷ 0x20 ∷ []) (run .at) ≡ drawn m s run frame
+pub drawn-bad : (d : Screen) (s : List ℕ) (k : ℕ) (frame : List ℕ) → k < length s → numbered (0x62 ∷ 0x61 ∷ 0x64 ∷ 0x20 ∷ []) k ≡ drawn d s k frame
 unfolding drawn badLine
-drawn-bad m s run frame h = rw (lt-leb (length s) (run .at) h)
+drawn-bad d s k frame h = rw (lt-leb (length s) k h)
 
 pub length-pixels : (n : ℕ) (frame : List ℕ) → length (pixels n frame) ≡ 3 * n
 unfolding pixels
 length-pixels zero frame = refl
 length-pixels (suc n) frame = simp length-append (omega (arith, length-pixels n frame))
 
--- the sizes of each machine's picture
-pub header-handheld :
-    {m : Machine} → m ≡ Handheld
-    → 0x50 ∷ 0x36 ∷ 0x0A ∷ 0x31 ∷ 0x36 ∷ 0x30 ∷ 0x20 ∷ 0x31 ∷ 0x34 ∷ 0x34 ∷ 0x0A ∷ 0x32 ∷ 0x35 ∷ 0x35 ∷ 0x0A ∷ [] ≡ header m
+-- the sizes of each screen's picture
+pub header-visible :
+    {d : Screen} → d ≡ VisibleOnly
+    → 0x50 ∷ 0x36 ∷ 0x0A ∷ 0x31 ∷ 0x36 ∷ 0x30 ∷ 0x20 ∷ 0x31 ∷ 0x34 ∷ 0x34 ∷ 0x0A ∷ 0x32 ∷ 0x35 ∷ 0x35 ∷ 0x0A ∷ [] ≡ header d
 unfolding header decimal
-header-handheld e = rw e
+header-visible e = rw e
+
+pub header-effective :
+    {d : Screen} → d ≡ EffectiveArea
+    → 0x50 ∷ 0x36 ∷ 0x0A ∷ 0x32 ∷ 0x35 ∷ 0x36 ∷ 0x20 ∷ 0x32 ∷ 0x32 ∷ 0x34 ∷ 0x0A ∷ 0x32 ∷ 0x35 ∷ 0x35 ∷ 0x0A ∷ [] ≡ header d
+unfolding header decimal
+header-effective e = rw e
+
+pub header-edges :
+    {d : Screen} → d ≡ TrueEdges
+    → 0x50 ∷ 0x36 ∷ 0x0A ∷ 0x31 ∷ 0x36 ∷ 0x30 ∷ 0x20 ∷ 0x31 ∷ 0x34 ∷ 0x34 ∷ 0x0A ∷ 0x32 ∷ 0x35 ∷ 0x35 ∷ 0x0A ∷ [] ≡ header d
+unfolding header decimal
+header-edges e = rw e
 
 pub header-home :
-    {m : Machine} → m ≡ Home
-    → 0x50 ∷ 0x36 ∷ 0x0A ∷ 0x32 ∷ 0x35 ∷ 0x36 ∷ 0x20 ∷ 0x31 ∷ 0x39 ∷ 0x32 ∷ 0x0A ∷ 0x32 ∷ 0x35 ∷ 0x35 ∷ 0x0A ∷ [] ≡ header m
+    {d : Screen} → d ≡ Home
+    → 0x50 ∷ 0x36 ∷ 0x0A ∷ 0x32 ∷ 0x35 ∷ 0x36 ∷ 0x20 ∷ 0x31 ∷ 0x39 ∷ 0x32 ∷ 0x0A ∷ 0x32 ∷ 0x35 ∷ 0x35 ∷ 0x0A ∷ [] ≡ header d
 unfolding header decimal
 header-home e = rw e
 
-length-header : (m : Machine) → length (header m) ≡ 15
+length-header : (d : Screen) → length (header d) ≡ 15
 unfolding header decimal
-length-header Handheld = refl
+length-header VisibleOnly = refl
+length-header EffectiveArea = refl
+length-header TrueEdges = refl
 length-header Home = refl
 
-pub frame-bytes : (m : Machine) → frameSize (screenFor m) ≡ 4 * pixelCount m
+pub frame-bytes : (d : Screen) → frameSize d ≡ 4 * pixelCount d
 unfolding pixelCount
-frame-bytes Handheld = refl
+frame-bytes VisibleOnly = refl
+frame-bytes EffectiveArea = refl
+frame-bytes TrueEdges = refl
 frame-bytes Home = refl
 
-pub many-pixels : (m : Machine) → 23040 ≤ pixelCount m
+pub many-pixels : (d : Screen) → 23040 ≤ pixelCount d
 unfolding pixelCount
-many-pixels Handheld = omega arith
+many-pixels VisibleOnly = omega arith
+many-pixels EffectiveArea = omega arith
+many-pixels TrueEdges = omega arith
 many-pixels Home = omega arith
 
-pub length-ppm : (m : Machine) (frame : List ℕ) → length (ppm m frame) ≡ pictureRoom m
+pub length-ppm : (d : Screen) (frame : List ℕ) → length (ppm d frame) ≡ pictureRoom d
 unfolding ppm
-length-ppm m frame = simp length-append (omega (arith, length-header m, length-pixels (pixelCount m) frame))
+length-ppm d frame = simp length-append (omega (arith, length-header d, length-pixels (pixelCount d) frame))
 
-pub drawn-short : (m : Machine) (s : List ℕ) (run : Run) (frame : List ℕ) → length (drawn m s run frame) ≤ pictureRoom m
+pub drawn-short : (d : Screen) (s : List ℕ) (k : ℕ) (frame : List ℕ) → length (drawn d s k frame) ≤ pictureRoom d
 unfolding drawn badLine
-drawn-short m s run frame =
-    either (λ (l : List ℕ). length l ≤ pictureRoom m) (leb (length s) (run .at))
-    (λ _. omega (arith, length-ppm m frame))
-    (λ _. omega (arith, numbered-short (0x62 ∷ 0x61 ∷ 0x64 ∷ 0x20 ∷ []) (run .at), many-pixels m))
+drawn-short d s k frame =
+    either (λ (l : List ℕ). length l ≤ pictureRoom d) (leb (length s) k)
+    (λ _. omega (arith, length-ppm d frame))
+    (λ _. omega (arith, numbered-short (0x62 ∷ 0x61 ∷ 0x64 ∷ 0x20 ∷ []) k, many-pixels d))
 
 -- behind the 15 bytes of the header: n pixels, one pixel more, and all
 pub no-pixel : (o frame : List ℕ) → o ≡ written o 15 (pixels 0 frame)
@@ -111,11 +126,11 @@ pixel-more o frame n {a} h ea eo p =
     ∙ ap (λ (k : ℕ). written o 15 (pixels k frame)) (sym (add-one n))
 
 pub all-pixels :
-    (m : Machine) (o frame : List ℕ) {o′ o″ : List ℕ} → 15 ≤ length o → o′ ≡ written o 0 (header m) → o″ ≡ written o′ 15 (pixels (pixelCount m) frame)
-    → o″ ≡ written o 0 (ppm m frame)
+    (d : Screen) (o frame : List ℕ) {o′ o″ : List ℕ} → 15 ≤ length o → o′ ≡ written o 0 (header d) → o″ ≡ written o′ 15 (pixels (pixelCount d) frame)
+    → o″ ≡ written o 0 (ppm d frame)
 unfolding ppm
-all-pixels m o frame h e p =
-    let n = length-header m in
+all-pixels d o frame h e p =
+    let n = length-header d in
     p
-    ∙ ap (λ (y : List ℕ). written y 15 (pixels (pixelCount m) frame)) e
-    ∙ written-on o 0 (header m) (pixels (pixelCount m) frame) (omega arith) (omega arith)
+    ∙ ap (λ (y : List ℕ). written y 15 (pixels (pixelCount d) frame)) e
+    ∙ written-on o 0 (header d) (pixels (pixelCount d) frame) (omega arith) (omega arith)

@@ -4,53 +4,56 @@ ghost use Prim.Native.Nat.{_+_, _*_, _≤_};
 ghost use lib.ListN.{length};
 ghost use Rattle.laws.specs.Lists.{written};
 ghost use Rattle.trace_end.specs.End.{pixelCount, pictureRoom, lastLine, header, ppm, drawn};
+use picture::Screen;
 use trace_record::put_all;
-use trace_run::Machine;
-use trace_run::Run;
 use trace_text::put_numbered;
 
-// The last line of a trace: the count of records, or where the recording is bad.
-pub fn put_last(out: &mut [u8], at: usize, input: &[u8], run: Run) -> usize
+// The last line of a trace that stopped at an offset of its input: the count of records, or where the recording is bad.
+pub fn put_last(out: &mut [u8], at: usize, input: &[u8], stopped: usize, count: usize) -> usize
     requires { ⌜ at + 10 ≤ length (now out) ⌝ }
-    ensures { λ r. ⌜ r ≡ at + length (lastLine (now (input .entry)) run) ⌝ }
-    ensures { λ _. ⌜ now (out .exit) ≡ written (now (out .entry)) at (lastLine (now (input .entry)) run) ⌝ }
+    ensures { λ r. ⌜ r ≡ at + length (lastLine (now (input .entry)) stopped count) ⌝ }
+    ensures { λ _. ⌜ now (out .exit) ≡ written (now (out .entry)) at (lastLine (now (input .entry)) stopped count) ⌝ }
 {
-    if input.len() <= run.at {
-        return put_numbered(out, at, b"end ", run.count);
+    if input.len() <= stopped {
+        return put_numbered(out, at, b"end ", count);
     }
-    put_numbered(out, at, b"bad ", run.at)
+    put_numbered(out, at, b"bad ", stopped)
 }
 
-// The pixels of a machine's picture, of which its frame has four bytes each and its picture three.
-pub fn pixel_count(machine: Machine) -> usize
-    ensures { λ n. ⌜ (n ≡ pixelCount machine) × (n ≤ 49152) ⌝ }
+// The pixels of a screen, of which its frame has four bytes each and its picture three.
+pub fn pixel_count(screen: Screen) -> usize
+    ensures { λ n. ⌜ (n ≡ pixelCount screen) × (n ≤ 57344) ⌝ }
 {
-    match machine {
-        Machine::Handheld => 23040,
-        Machine::Home => 49152,
+    match screen {
+        Screen::VisibleOnly => 23040,
+        Screen::EffectiveArea => 57344,
+        Screen::TrueEdges => 23040,
+        Screen::Home => 49152,
     }
 }
 
 // The header of a binary PPM.
-fn put_header(out: &mut [u8], machine: Machine) -> usize
+fn put_header(out: &mut [u8], screen: Screen) -> usize
     requires { ⌜ 15 ≤ length (now out) ⌝ }
     ensures { λ r. ⌜ r ≡ 15 ⌝ }
-    ensures { λ _. ⌜ now (out .exit) ≡ written (now (out .entry)) 0 (header machine) ⌝ }
+    ensures { λ _. ⌜ now (out .exit) ≡ written (now (out .entry)) 0 (header screen) ⌝ }
 {
-    match machine {
-        Machine::Handheld => put_all(out, 0, b"P6\n160 144\n255\n"),
-        Machine::Home => put_all(out, 0, b"P6\n256 192\n255\n"),
+    match screen {
+        Screen::VisibleOnly => put_all(out, 0, b"P6\n160 144\n255\n"),
+        Screen::EffectiveArea => put_all(out, 0, b"P6\n256 224\n255\n"),
+        Screen::TrueEdges => put_all(out, 0, b"P6\n160 144\n255\n"),
+        Screen::Home => put_all(out, 0, b"P6\n256 192\n255\n"),
     }
 }
 
 // The picture of a frame: red, green and blue of each pixel, behind the header.
-fn put_ppm(out: &mut [u8], machine: Machine, frame: &[u8]) -> usize
-    requires { ⌜ (pictureRoom machine ≤ length (now out)) × (4 * pixelCount machine ≤ length (now frame)) ⌝ }
-    ensures { λ r. ⌜ r ≡ length (ppm machine (now (frame .entry))) ⌝ }
-    ensures { λ _. ⌜ now (out .exit) ≡ written (now (out .entry)) 0 (ppm machine (now (frame .entry))) ⌝ }
+fn put_ppm(out: &mut [u8], screen: Screen, frame: &[u8]) -> usize
+    requires { ⌜ (pictureRoom screen ≤ length (now out)) × (4 * pixelCount screen ≤ length (now frame)) ⌝ }
+    ensures { λ r. ⌜ r ≡ length (ppm screen (now (frame .entry))) ⌝ }
+    ensures { λ _. ⌜ now (out .exit) ≡ written (now (out .entry)) 0 (ppm screen (now (frame .entry))) ⌝ }
 {
-    let count = pixel_count(machine);
-    let mut at = put_header(out, machine);
+    let count = pixel_count(screen);
+    let mut at = put_header(out, screen);
     let mut i = 0;
     while i < count {
         let k = 4 * i;
@@ -60,14 +63,20 @@ fn put_ppm(out: &mut [u8], machine: Machine, frame: &[u8]) -> usize
     at
 }
 
-// What is written at the end of a run: its picture, or where the recording is bad.
-pub fn put_picture(out: &mut [u8], machine: Machine, input: &[u8], run: Run, frame: &[u8]) -> usize
-    requires { ⌜ (pictureRoom machine ≤ length (now out)) × (4 * pixelCount machine ≤ length (now frame)) ⌝ }
-    ensures { λ r. ⌜ r ≡ length (drawn machine (now (input .entry)) run (now (frame .entry))) ⌝ }
-    ensures { λ _. ⌜ now (out .exit) ≡ written (now (out .entry)) 0 (drawn machine (now (input .entry)) run (now (frame .entry))) ⌝ }
+// What is written of a run that stopped at an offset of its input: its picture, or where the recording is bad.
+pub fn put_picture(
+    out: &mut [u8],
+    screen: Screen,
+    input: &[u8],
+    stopped: usize,
+    frame: &[u8],
+) -> usize
+    requires { ⌜ (pictureRoom screen ≤ length (now out)) × (4 * pixelCount screen ≤ length (now frame)) ⌝ }
+    ensures { λ r. ⌜ r ≡ length (drawn screen (now (input .entry)) stopped (now (frame .entry))) ⌝ }
+    ensures { λ _. ⌜ now (out .exit) ≡ written (now (out .entry)) 0 (drawn screen (now (input .entry)) stopped (now (frame .entry))) ⌝ }
 {
-    if input.len() <= run.at {
-        return put_ppm(out, machine, frame);
+    if input.len() <= stopped {
+        return put_ppm(out, screen, frame);
     }
-    put_numbered(out, 0, b"bad ", run.at)
+    put_numbered(out, 0, b"bad ", stopped)
 }

@@ -11,25 +11,26 @@ use lib.ListN.{length, take}
 use lib.Seq.{length-take-le}
 use Rattle.laws.specs.Lists.{written}
 use Rattle.picture.specs.declared.RenderArea.{RenderArea}
+use Rattle.picture.specs.declared.Screen.{Screen}
 use Rattle.picture.specs.Screen.{frameSize}
-use Rattle.trace_run.specs.declared.Machine.{Machine}
 use Rattle.trace_run.specs.declared.Device.{Device}
 use Rattle.trace_text.specs.Text.{longLine}
 use Rattle.trace_run.specs.Run.{World, Turn, start, rowTurn, after, lines, ran}
-use Rattle.trace_end.specs.End.{lastLine, pixels, screenFor, pictureRoom, drawn}
-use Rattle.trace_output.specs.Output.{text, printed, pictured, Left, left, leaves, traced, snapped, TraceLeaves, PictureLeaves}
+use Rattle.trace_end.specs.End.{lastLine, pixels, pictureRoom, drawn}
+use Rattle.trace_output.specs.Output.{text, printed, screenFor, pictured, Left, left, leaves, traced, snapped, TraceLeaves, PictureLeaves}
 use Rattle.trace_text.proofs.Lines.{grow}
 
 -- ---- the whole text
 module _ (s : List ℕ) (w : World) {x : World} (e : x ≡ after rowTurn (length s) s w) where
   pub text-whole :
       (o : List ℕ) {n n′ : ℕ} {o′ o″ : List ℕ} → length (lines rowTurn (length s) s w) ≤ length o → n ≡ length (lines rowTurn (length s) s w)
-      → o′ ≡ written o 0 (lines rowTurn (length s) s w) → (n′ ≡ n + length (lastLine s (x .run))) × (o″ ≡ written o′ n (lastLine s (x .run)))
+      → o′ ≡ written o 0 (lines rowTurn (length s) s w)
+      → (n′ ≡ n + length (lastLine s (x .run .at) (x .run .count))) × (o″ ≡ written o′ n (lastLine s (x .run .at) (x .run .count)))
       → (n′ ≡ length (text s w)) × (o″ ≡ written o 0 (text s w))
   unfolding text ran
   text-whole o room en eo p =
-      let g = grow o (lines rowTurn (length s) s w) (lastLine s (x .run)) room en eo p in
-      let q = ap (λ (y : World). lines rowTurn (length s) s w ++ lastLine s (y .run)) e in
+      let g = grow o (lines rowTurn (length s) s w) (lastLine s (x .run .at) (x .run .count)) room en eo p in
+      let q = ap (λ (y : World). lines rowTurn (length s) s w ++ lastLine s (y .run .at) (y .run .count)) e in
       (g .0 ∙ ap length q, g .1 ∙ ap (written o 0) q)
 
 -- ---- what a call leaves, of either program
@@ -70,28 +71,28 @@ module _ (s : List ℕ) (w : World) (o : List ℕ) where
         let b : text s w ≡ printed s w = rw (le-ltb 65535 (length s) k) in
         whole (leb 327700 (length o)) rowTurn (printed s w) s w o (le-leb 327700 (length o) h) k ex (p .0 ∙ ap length b) (p .1 ∙ ap (written o 0) b)
 
--- with steps made as `step` makes them, by a machine m
+-- with steps made as `step` makes them
 module _ (step : RenderArea → World → Turn) (s : List ℕ) (w : World) (o : List ℕ) where
-  abbrev machine : Machine
-  machine = w .run .device .machine
+  abbrev screen : Screen
+  screen = screenFor (w .run .device .machine)
 
   abbrev room : Bool
-  room = leb (pictureRoom machine) (length o) && eqb (length (w .frame)) (frameSize (screenFor machine))
+  room = leb (pictureRoom screen) (length o) && eqb (length (w .frame)) (frameSize screen)
 
-  pub snapshot-no-room : length o < pictureRoom machine → left w 0 o ≡ snapped step s w o
+  pub snapshot-no-room : length o < pictureRoom screen → left w 0 o ≡ snapped step s w o
   unfolding snapped
-  snapshot-no-room h = no-room room step (pictured step s w) s w o (rw (lt-leb (pictureRoom machine) (length o) h))
+  snapshot-no-room h = no-room room step (pictured step s w) s w o (rw (lt-leb (pictureRoom screen) (length o) h))
 
-  module _ (h : pictureRoom machine ≤ length o) where
-    pub snapshot-no-frame : length (w .frame) ≢ frameSize (screenFor machine) → left w 0 o ≡ snapped step s w o
+  module _ (h : pictureRoom screen ≤ length o) where
+    pub snapshot-no-frame : length (w .frame) ≢ frameSize screen → left w 0 o ≡ snapped step s w o
     unfolding snapped
     snapshot-no-frame k =
         no-room room step (pictured step s w) s w o
-        (rw (le-leb (pictureRoom machine) (length o) h, ne-eqb (length (w .frame)) (frameSize (screenFor machine)) k))
+        (rw (le-leb (pictureRoom screen) (length o) h, ne-eqb (length (w .frame)) (frameSize screen) k))
 
-    module _ (g : length (w .frame) ≡ frameSize (screenFor machine)) where
+    module _ (g : length (w .frame) ≡ frameSize screen) where
       enough : room ≡ true
-      enough = rw (le-leb (pictureRoom machine) (length o) h, eq-eqb (length (w .frame)) (frameSize (screenFor machine)) g)
+      enough = rw (le-leb (pictureRoom screen) (length o) h, eq-eqb (length (w .frame)) (frameSize screen) g)
 
       pub snapshot-long : 65535 < length s → {n : ℕ} {o′ : List ℕ} → n ≡ length longLine → o′ ≡ written o 0 longLine → left w n o′ ≡ snapped step s w
           o
@@ -102,12 +103,12 @@ module _ (step : RenderArea → World → Turn) (s : List ℕ) (w : World) (o : 
 
       pub snapshot-whole :
           length s ≤ 65535 → {x : World} {n : ℕ} {o′ : List ℕ} → x ≡ after step (length s) s w
-          → (n ≡ length (drawn machine s (x .run) (x .frame))) × (o′ ≡ written o 0 (drawn machine s (x .run) (x .frame))) → left x n o′ ≡ snapped
+          → (n ≡ length (drawn screen s (x .run .at) (x .frame))) × (o′ ≡ written o 0 (drawn screen s (x .run .at) (x .frame))) → left x n o′ ≡ snapped
           step s w o
       unfolding snapped pictured ran
       snapshot-whole k {x} ex p =
-          let b : drawn machine s (x .run) (x .frame) ≡ pictured step s w =
-          ap (λ (y : World). drawn machine s (y .run) (y .frame)) ex ∙ sym (rw (le-ltb 65535 (length s) k)) in
+          let b : drawn screen s (x .run .at) (x .frame) ≡ pictured step s w =
+          ap (λ (y : World). drawn screen s (y .run .at) (y .frame)) ex ∙ sym (rw (le-ltb 65535 (length s) k)) in
           whole room step (pictured step s w) s w o enough k ex (p .0 ∙ ap length b) (p .1 ∙ ap (written o 0) b)
 
 pub trace-leaves :

@@ -43,7 +43,7 @@ use Rattle.trace_run.specs.Device.{deviceWrite, deviceRead, deviceRowStep, devi
 use Rattle.trace_text.specs.Text.{lineOf}
 use Rattle.trace_run.specs.Run.{World, Turn, held, start, on, stepAnswer, rowTurn, intoFrame, frameTurn, layersPainted, layersOn, layersInto}
 use Rattle.trace_run.specs.Run.{layerTurn, turnFor, turnBy, recordOn, turnOf, after, lines}
-use Rattle.trace_end.specs.End.{screenFor}
+use Rattle.trace_output.specs.Output.{screenFor}
 use Rattle.trace_run.proofs.Runs.{write-machine, read-machine, row-machine, frame-machine}
 
 -- ---- what a call writes keeps its length

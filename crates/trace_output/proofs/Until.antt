@@ -152,7 +152,7 @@ marked-bad s k n m run =
     either P (eqb m 0x5052) (λ _ e. clash e)
     (λ _. either P (eqb m 0x4C53) (λ _. either P (ltb 2 (at s (k + 2))) (λ _ _. refl) (λ _. step-bad run (areaFrom (at s (k + 2))))) (λ _ _. refl)))
 
-pub last-is : (s : List ℕ) (run : Run) → isCall (here s run) ≡ false → lastLine s run ≡ closing (here s run) run
+pub last-is : (s : List ℕ) (run : Run) → isCall (here s run) ≡ false → lastLine s (run .at) (run .count) ≡ closing (here s run) run
 unfolding lastLine recordAt
 last-is s run =
     let k = run .at in
@@ -167,8 +167,8 @@ unfolding text
 text-reads s w {e} {t} r =
     let h = one-end rowTurn s (reads-all row-moves s w) r in
     let c = stopped r in
-    ap (λ (l : List ℕ). l ++ lastLine s (ran rowTurn s w .run)) (h .1)
-    ∙ ap (λ (x : World). t ++ lastLine s (x .run)) (h .0)
+    ap (λ (l : List ℕ). l ++ lastLine s (ran rowTurn s w .run .at) (ran rowTurn s w .run .count)) (h .1)
+    ∙ ap (λ (x : World). t ++ lastLine s (x .run .at) (x .run .count)) (h .0)
     ∙ ap (λ (l : List ℕ). t ++ l) (last-is s (e .run) c)
   where
     stopped : {w e : World} {t : List ℕ} → Reads rowTurn s w e t → calls s e ≡ false

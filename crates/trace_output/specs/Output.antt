@@ -8,10 +8,14 @@ use lib.Dec.{ltb, leb, eqb}
 use lib.ListN.{length}
 use Rattle.laws.specs.Lists.{written}
 use Rattle.picture.specs.declared.RenderArea.{RenderArea}
+use Rattle.picture.specs.declared.Screen.{Screen}
+use Rattle.picture.specs.declared.Screen.the-variants as On
 use Rattle.picture.specs.Screen.{frameSize}
+use Rattle.trace_run.specs.declared.Machine.{Machine}
+use Rattle.trace_run.specs.declared.Machine.the-variants.{Handheld, Home}
 use Rattle.trace_run.specs.declared.Device.{Device}
 use Rattle.trace_text.specs.Text.{longLine}
-use Rattle.trace_end.specs.End.{lastLine, drawn, pictureRoom, screenFor}
+use Rattle.trace_end.specs.End.{lastLine, drawn, pictureRoom}
 use Rattle.trace_run.specs.Run.{World, Turn, rowTurn, lines, ran, start}
 
 -- R7.8: the longest recording that is run
@@ -22,16 +26,23 @@ abbrev pub tooLong : List ℕ → Bool
 tooLong s = ltb longest (length s)
 
 unfoldable pub text : List ℕ → World → List ℕ
-text s w = lines rowTurn (length s) s w ++ lastLine s (ran rowTurn s w .run)
+text s w =
+    let run = ran rowTurn s w .run in
+    lines rowTurn (length s) s w ++ lastLine s (run .at) (run .count)
 
 -- WHAT `trace` PRINTS of the recording s, from the world w on
 unfoldable pub printed : List ℕ → World → List ℕ
 printed s w = cond (tooLong s) longLine (text s w)
 
+-- R7.13, R20.9: the screen whose frame a machine's picture is made of
+abbrev pub screenFor : Machine → Screen
+screenFor Handheld = On.VisibleOnly
+screenFor Home = On.Home
+
 -- WHAT `snapshot` AND `layers` WRITE of the recording s, from the world w on, with steps made as `step` makes them: the picture, or the one line of a bad or
 -- long recording
 unfoldable pub pictured : (RenderArea → World → Turn) → List ℕ → World → List ℕ
-pictured step s w = cond (tooLong s) longLine (drawn (w .run .device .machine) s (ran step s w .run) (ran step s w .frame))
+pictured step s w = cond (tooLong s) longLine (drawn (screenFor (w .run .device .machine)) s (ran step s w .run .at) (ran step s w .frame))
 
 -- What a call leaves: a number of bytes at the start of its buffer, and the buffers of the run.
 pub record Left : Type 0 where
@@ -58,8 +69,8 @@ traced s w out = leaves (leb textRoom (length out)) rowTurn (printed s w) s w ou
 
 unfoldable pub snapped : (RenderArea → World → Turn) → List ℕ → World → List ℕ → Left
 snapped step s w out =
-    let m = w .run .device .machine in
-    leaves (leb (pictureRoom m) (length out) && eqb (length (w .frame)) (frameSize (screenFor m))) step (pictured step s w) s w out
+    let screen = screenFor (w .run .device .machine) in
+    leaves (leb (pictureRoom screen) (length out) && eqb (length (w .frame)) (frameSize screen)) step (pictured step s w) s w out
 
 -- What `trace`, from device d on, promises of its answer n and of the buffers after it, and what `snapshot` and `layers` do.
 pub record TraceLeaves (d : Device) (s vram row out : List ℕ) (n : ℕ) (vram′ row′ out′ : List ℕ) : Type 0 where

@@ -4,10 +4,12 @@ ghost use Prim.Native.Nat.{_+_, _*_, _≤_};
 ghost use lib.ListN.{length, take};
 ghost use Rattle.laws.specs.Lists.{written};
 ghost use Rattle.trace_run.specs.Device.{handheld};
-ghost use Rattle.trace_output.specs.Output.{TraceLeaves, PictureLeaves};
+ghost use Rattle.trace_output.specs.Output.{screenFor, TraceLeaves, PictureLeaves};
 ghost use Rattle.trace_run.specs.Run.{frameTurn, layerTurn, turnFor};
+use picture::Screen;
 use trace_record::put_all;
 use trace_run::Device;
+use trace_run::Machine;
 use trace_run::Run;
 use trace_run::Shown;
 use trace_run::frame_turn;
@@ -45,7 +47,17 @@ pub fn trace(device: Device, input: &[u8], vram: &mut [u8], row: &mut [u8], out:
         run = turned.run;
         i += 1;
     }
-    trace_end::put_last(out, len, input, run)
+    trace_end::put_last(out, len, input, run.at, run.count)
+}
+
+// The screen whose frame a machine's picture is made of.
+fn screen_for(machine: Machine) -> Screen
+    ensures { λ r. ⌜ r ≡ screenFor machine ⌝ }
+{
+    match machine {
+        Machine::Handheld => Screen::VisibleOnly,
+        Machine::Home => Screen::Home,
+    }
 }
 
 // What a recording's visible steps show in the frame, run on this device, at the start of out, and how long it is; of a bad or long recording, only
@@ -63,7 +75,8 @@ fn pictured(
     ensures { λ n. ⌜ (n ≤ length (now (out .exit))) × (n ≡ length (take n (now (out .exit)))) ⌝ }
 {
     let machine = device.machine;
-    let count = trace_end::pixel_count(machine);
+    let screen = screen_for(machine);
+    let count = trace_end::pixel_count(screen);
     if out.len() < 15 + 3 * count {
         return 0;
     }
@@ -84,7 +97,7 @@ fn pictured(
         run = turned.run;
         i += 1;
     }
-    trace_end::put_picture(out, machine, input, run, frame)
+    trace_end::put_picture(out, screen, input, run.at, frame)
 }
 
 // R7.13, R20.9: the picture that the steps of the visible size draw, and those of the home machine.

@@ -18,9 +18,9 @@ returns : tie.Need-returns
 returns c =
     let at-put-numbered = c .before .before in
     let at-if1 = at-put-numbered .before .before .before in
-    let at-start = at-if1 .before .before .before .before in
+    let at-start = at-if1 .before .before .before in
     let a = at-start .args in
-    put-as (a .out .now) (a .at) (last-end (a .input .now) (a .run) (at-if1 .if1 .taken)) (at-put-numbered .put-numbered .ensures)
+    put-as (a .out .now) (a .at) (last-end (a .input .now) (a .stopped) (a .count) (at-if1 .if1 .taken)) (at-put-numbered .put-numbered .ensures)
 
 slice-aggregate-put-numbered-2 : tie.Need-slice-aggregate-put-numbered-2
 slice-aggregate-put-numbered-2 c = search needs
@@ -35,9 +35,9 @@ returns-2 : tie.Need-returns-2
 returns-2 c =
     let at-put-numbered2 = c .before .before in
     let at-if1 = at-put-numbered2 .before .before .before in
-    let at-start = at-if1 .before .before .before .before in
+    let at-start = at-if1 .before .before .before in
     let a = at-start .args in
-    put-as (a .out .now) (a .at) (last-bad (a .input .now) (a .run) (at-if1 .if1 .left)) (at-put-numbered2 .put-numbered2 .ensures)
+    put-as (a .out .now) (a .at) (last-bad (a .input .now) (a .stopped) (a .count) (at-if1 .if1 .left)) (at-put-numbered2 .put-numbered2 .ensures)
 
 pub put-last-spec : {M : Type 1} → statement M
 put-last-spec =

@@ -1,4 +1,4 @@
--- `trace_end::put_picture` meets its contract: what is written at the end of a run: its picture, or where the recording is bad.
+-- `trace_end::put_picture` meets its contract: what is written of a run that stopped: its picture, or where the recording is bad.
 use borrow.Author.Needs.{needs}
 use mathlib.Core.Path.{ap, _∙_}
 use lib.ListN.{length}
@@ -20,9 +20,9 @@ returns : tie.Need-returns
 returns c =
     let at-put-ppm = c .before .before in
     let at-if1 = at-put-ppm .before .before in
-    let at-start = at-if1 .before .before .before .before .before in
+    let at-start = at-if1 .before .before .before .before in
     let a = at-start .args in
-    let q = drawn-end (a .machine) (a .input .now) (a .run) (a .frame .now) (at-if1 .if1 .taken) in
+    let q = drawn-end (a .screen) (a .input .now) (a .stopped) (a .frame .now) (at-if1 .if1 .taken) in
     let p = at-put-ppm .put-ppm .ensures in
     (p .0 ∙ ap length q, p .1 ∙ ap (written (a .out .now) 0) q)
 
@@ -39,11 +39,11 @@ returns-2 : tie.Need-returns-2
 returns-2 c =
     let at-put-numbered = c .before .before in
     let at-if1 = at-put-numbered .before .before .before in
-    let at-start = at-if1 .before .before .before .before .before in
+    let at-start = at-if1 .before .before .before .before in
     let a = at-start .args in
-    let g = put-as (a .out .now) 0 (drawn-bad (a .machine) (a .input .now) (a .run) (a .frame .now) (at-if1 .if1 .left))
+    let g = put-as (a .out .now) 0 (drawn-bad (a .screen) (a .input .now) (a .stopped) (a .frame .now) (at-if1 .if1 .left))
     (at-put-numbered .put-numbered .ensures) in
-    (g .0 ∙ zero-add (length (drawn (a .machine) (a .input .now) (a .run) (a .frame .now))), g .1)
+    (g .0 ∙ zero-add (length (drawn (a .screen) (a .input .now) (a .stopped) (a .frame .now))), g .1)
 
 pub put-picture-spec : {M : Type 1} → statement M
 put-picture-spec =

@@ -93,10 +93,10 @@ returns c =
     let at-start = at-pixel-count .before .before .before in
     let a = at-start .args in
     let l = c .before .loop in
-    let e : l .i ≡ pixelCount (a .machine) = omega (arith, at-pixel-count .pixel-count .ensures .0, l .inv .0, c .loop-test .left) in
+    let e : l .i ≡ pixelCount (a .screen) = omega (arith, at-pixel-count .pixel-count .ensures .0, l .inv .0, c .loop-test .left) in
     let o = at-put-header .put-header .last .0 in (
-      omega (arith, length-ppm (a .machine) (a .frame .now)),
-      all-pixels (a .machine) (a .out .now) (a .frame .now) (omega (arith, at-start .pre .0)) (at-put-header .put-header .ensures .1)
+      omega (arith, length-ppm (a .screen) (a .frame .now)),
+      all-pixels (a .screen) (a .out .now) (a .frame .now) (omega (arith, at-start .pre .0)) (at-put-header .put-header .ensures .1)
           (l .inv .2 ∙ ap (λ (k : ℕ). written o 15 (pixels k (a .frame .now))) e),
     )
 

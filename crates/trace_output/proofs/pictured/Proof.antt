@@ -7,20 +7,24 @@ use lib.ListN.{length}
 use Rattle.picture.specs.Screen.{frameSize}
 use Rattle.trace_text.specs.Text.{longLine}
 use Rattle.trace_run.specs.Run.{held, start, turnFor, after}
-use Rattle.trace_end.specs.End.{screenFor, pictureRoom}
+use Rattle.trace_end.specs.End.{pixelCount, pictureRoom}
 use Rattle.trace_end.proofs.End.{frame-bytes, many-pixels, drawn-short}
+use Rattle.trace_output.specs.Output.{screenFor}
 use Rattle.trace_output.proofs.Outputs.{snapshot-no-room, snapshot-no-frame, snapshot-long, snapshot-whole, snapshot-leaves, lent}
 use Rattle.trace_run.proofs.Runs.{moves-for, ran-small, world-more}
 use Rattle.trace_output.proofs.pictured.Statement.{statement}
 use Rattle.trace_output.proofs.pictured.Tie as tie
 
 abbrev Inv-loop : tie.InvT-loop
-Inv-loop shown input vram₀ row₀ frame₀ out machine count run₀ i₀ vram row frame run i =
+Inv-loop shown input vram₀ row₀ frame₀ out screen count run₀ i₀ vram row frame run i =
     (i ≤ length input) × (held run vram row frame ≡ after (turnFor shown) i input (held run₀ vram₀ row₀ frame₀))
     × (length vram ≡ length vram₀) × (length row ≡ length row₀) × (length frame ≡ length frame₀)
 
 abbrev μ-loop : tie.MeasureT-loop
-μ-loop shown input vram₀ row₀ frame₀ out machine count run₀ i₀ vram row frame run i = length input - i
+μ-loop shown input vram₀ row₀ frame₀ out screen count run₀ i₀ vram row frame run i = length input - i
+
+screen-for-requires : tie.Need-screen-for-requires Inv-loop μ-loop
+screen-for-requires c κs = search needs
 
 pixel-count-requires : tie.Need-pixel-count-requires Inv-loop μ-loop
 pixel-count-requires c κs = search needs
@@ -33,14 +37,17 @@ add-if1 c = search needs
 
 returns : tie.Need-returns Inv-loop μ-loop
 returns c =
-    let at-start = c .before .before .before .before .before .before .before in
+    let at-pixel-count = c .before in
+    let at-screen-for = at-pixel-count .before in
+    let at-start = at-screen-for .before .before .before .before .before .before in
     let a = at-start .args in
     let s = a .input .now in
     let o = a .out .now in
-    let m = a .device .machine in
+    let screen = screenFor (a .device .machine) in
     let w = start (a .device) (a .vram .now) (a .row .now) (a .frame .now) in
     let t = turnFor (a .shown) in
-    let k = c .before .pixel-count .ensures .0 in
+    let q = at-screen-for .screen-for .ensures in
+    let k = at-pixel-count .pixel-count .ensures .0 ∙ ap pixelCount q in
     (snapshot-leaves t w (snapshot-no-room t s w o (omega (arith, k, c .if1 .taken))), lent 0 o (omega arith))
 
 mul-if2 : tie.Need-mul-if2 Inv-loop μ-loop
@@ -49,16 +56,18 @@ mul-if2 c = search needs
 returns-2 : tie.Need-returns-2 Inv-loop μ-loop
 returns-2 c =
     let at-pixel-count = c .before .before in
-    let at-start = at-pixel-count .before .before .before .before .before .before in
+    let at-screen-for = at-pixel-count .before in
+    let at-start = at-screen-for .before .before .before .before .before .before in
     let a = at-start .args in
     let s = a .input .now in
     let o = a .out .now in
-    let m = a .device .machine in
+    let screen = screenFor (a .device .machine) in
     let w = start (a .device) (a .vram .now) (a .row .now) (a .frame .now) in
     let t = turnFor (a .shown) in
-    let k = at-pixel-count .pixel-count .ensures .0 in
-    let big : pictureRoom m ≤ length o = omega (arith, k, c .before .if1 .left) in
-    (snapshot-leaves t w (snapshot-no-frame t s w o big (λ q. c .if2 .taken (omega (arith, k, q, frame-bytes m)))), lent 0 o (omega arith))
+    let q = at-screen-for .screen-for .ensures in
+    let k = at-pixel-count .pixel-count .ensures .0 ∙ ap pixelCount q in
+    let big : pictureRoom screen ≤ length o = omega (arith, k, c .before .if1 .left) in
+    (snapshot-leaves t w (snapshot-no-frame t s w o big (λ f. c .if2 .taken (omega (arith, k, f, frame-bytes screen)))), lent 0 o (omega arith))
 
 slice-aggregate-put-all : tie.Need-slice-aggregate-put-all Inv-loop μ-loop
 slice-aggregate-put-all c = search needs
@@ -67,8 +76,7 @@ put-all-requires : tie.Need-put-all-requires Inv-loop μ-loop
 put-all-requires c κs =
     let at-if1 = c .before .before .before .before in
     let at-pixel-count = at-if1 .before in
-    let at-start = at-pixel-count .before .before .before .before .before .before in
-    omega (arith, at-pixel-count .pixel-count .ensures .0, at-if1 .if1 .left, many-pixels (at-start .args .device .machine))
+    omega (arith, at-pixel-count .pixel-count .ensures .0, at-if1 .if1 .left, many-pixels (at-pixel-count .before .screen-for .result))
 
 same-length : tie.Need-same-length Inv-loop μ-loop
 same-length c = search needs
@@ -81,26 +89,28 @@ returns-3 c =
     let at-if2 = at-if3 .before in
     let at-if1 = at-if2 .before in
     let at-pixel-count = at-if1 .before in
-    let at-start = at-pixel-count .before .before .before .before .before .before in
+    let at-screen-for = at-pixel-count .before in
+    let at-start = at-screen-for .before .before .before .before .before .before in
     let a = at-start .args in
     let s = a .input .now in
     let o = a .out .now in
-    let m = a .device .machine in
+    let screen = screenFor (a .device .machine) in
     let w = start (a .device) (a .vram .now) (a .row .now) (a .frame .now) in
     let t = turnFor (a .shown) in
-    let k = at-pixel-count .pixel-count .ensures .0 in
-    let big : pictureRoom m ≤ length o = omega (arith, k, at-if1 .if1 .left) in
-    let frames : length (a .frame .now) ≡ frameSize (screenFor m) = omega (arith, k, at-if2 .if2 .left, frame-bytes m) in
+    let q = at-screen-for .screen-for .ensures in
+    let k = at-pixel-count .pixel-count .ensures .0 ∙ ap pixelCount q in
+    let big : pictureRoom screen ≤ length o = omega (arith, k, at-if1 .if1 .left) in
+    let frames : length (a .frame .now) ≡ frameSize screen = omega (arith, k, at-if2 .if2 .left, frame-bytes screen) in
     let p = at-put-all .put-all .ensures in (
       snapshot-leaves t w (snapshot-long t s w o big frames (at-if3 .if3 .taken) (p .0) (p .1)),
       lent (at-put-all .put-all .result)
-          (at-put-all .put-all .last .0) (omega (arith, p .0, at-put-all .put-all .kept .0, many-pixels m)),
+          (at-put-all .put-all .last .0) (omega (arith, p .0, at-put-all .put-all .kept .0, many-pixels screen)),
     )
 
 loop-holds : tie.Need-loop-holds Inv-loop μ-loop
 unfolding after
 loop-holds c =
-    let at-start = c .before .before .before .before .before .before .before .before .before in
+    let at-start = c .before .before .before .before .before .before .before .before .before .before in
     let a = at-start .args in
     (omega arith, (λ j. held (record { device = a .device; at = 0; count = 0 }) (a .vram .now) (a .row .now) (a .frame .now)), refl, refl, refl)
 
@@ -110,19 +120,21 @@ frame-turn-requires c κs =
     let at-if3 = at-loop .before in
     let at-if2 = at-if3 .before in
     let at-pixel-count = at-if2 .before .before in
-    let at-start = at-pixel-count .before .before .before .before .before .before in
+    let at-screen-for = at-pixel-count .before in
+    let at-start = at-screen-for .before .before .before .before .before .before in
     let a = at-start .args in
     let s = a .input .now in
     let o = a .out .now in
-    let m = a .device .machine in
+    let screen = screenFor (a .device .machine) in
     let w = start (a .device) (a .vram .now) (a .row .now) (a .frame .now) in
     let t = turnFor (a .shown) in
-    let k = at-pixel-count .pixel-count .ensures .0 in
-    let frames : length (a .frame .now) ≡ frameSize (screenFor m) = omega (arith, k, at-if2 .if2 .left, frame-bytes m) in
+    let q = at-screen-for .screen-for .ensures in
+    let k = at-pixel-count .pixel-count .ensures .0 ∙ ap pixelCount q in
+    let frames : length (a .frame .now) ≡ frameSize screen = omega (arith, k, at-if2 .if2 .left, frame-bytes screen) in
     let short : length s ≤ 65535 = at-if3 .if3 .left in
     let l = at-loop .loop in
     let g = ran-small (moves-for (a .shown)) (l .i) s w (l .inv .1) refl refl in
-    (omega (arith, g .inside), omega (arith, g .inside, g .counted), omega (arith, frames, l .inv .4, frame-bytes m, many-pixels m))
+    (omega (arith, g .inside), omega (arith, g .inside, g .counted), omega (arith, frames, l .inv .4, frame-bytes screen, many-pixels screen))
 
 add-i : tie.Need-add-i Inv-loop μ-loop
 add-i c = search needs
@@ -135,7 +147,7 @@ loop-again c =
     let at-frame-turn = c .before .before .before .before .before .before .before in
     let at-loop-test = at-frame-turn .before .before .before .before in
     let at-loop = at-loop-test .before in
-    let at-start = at-loop .before .before .before .before .before .before .before .before .before .before in
+    let at-start = at-loop .before .before .before .before .before .before .before .before .before .before .before in
     let a = at-start .args in
     let s = a .input .now in
     let w = start (a .device) (a .vram .now) (a .row .now) (a .frame .now) in
@@ -181,25 +193,28 @@ returns-4 c =
     let at-if2 = at-if3 .before in
     let at-if1 = at-if2 .before in
     let at-pixel-count = at-if1 .before in
-    let at-start = at-pixel-count .before .before .before .before .before .before in
+    let at-screen-for = at-pixel-count .before in
+    let at-start = at-screen-for .before .before .before .before .before .before in
     let a = at-start .args in
     let s = a .input .now in
     let o = a .out .now in
-    let m = a .device .machine in
+    let screen = screenFor (a .device .machine) in
     let w = start (a .device) (a .vram .now) (a .row .now) (a .frame .now) in
     let t = turnFor (a .shown) in
-    let k = at-pixel-count .pixel-count .ensures .0 in
-    let big : pictureRoom m ≤ length o = omega (arith, k, at-if1 .if1 .left) in
-    let frames : length (a .frame .now) ≡ frameSize (screenFor m) = omega (arith, k, at-if2 .if2 .left, frame-bytes m) in
+    let q = at-screen-for .screen-for .ensures in
+    let k = at-pixel-count .pixel-count .ensures .0 ∙ ap pixelCount q in
+    let big : pictureRoom screen ≤ length o = omega (arith, k, at-if1 .if1 .left) in
+    let frames : length (a .frame .now) ≡ frameSize screen = omega (arith, k, at-if2 .if2 .left, frame-bytes screen) in
     let short : length s ≤ 65535 = at-if3 .if3 .left in
     let l = at-loop .loop in
     let f = at-put-picture .put-picture in
+    let g = rw q at (f .ensures) in
     let all : l .i ≡ length s = omega (arith, l .inv .0, at-loop-test .loop-test .left) in
     let x = held (l .run) (l .vram) (l .row) (l .frame) in
     let ex : x ≡ after t (length s) s w = l .inv .1 ∙ ap (λ (k : ℕ). after t k s w) all in (
-      snapshot-leaves t x (snapshot-whole t s w o big frames short ex (f .ensures)),
+      snapshot-leaves t x (snapshot-whole t s w o big frames short ex g),
       lent (f .result) (f .last .0)
-          (omega (arith, f .ensures .0, f .kept .0, drawn-short m s (l .run) (l .frame))),
+          (omega (arith, g .0, f .kept .0, drawn-short screen s (l .run .at) (l .frame))),
     )
 
 pub pictured-spec : {M : Type 1} → statement M
@@ -208,6 +223,7 @@ pictured-spec =
     (tie.spec
     Inv-loop
     μ-loop
+    screen-for-requires
     pixel-count-requires
     mul-if1
     add-if1

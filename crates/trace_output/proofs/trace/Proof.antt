@@ -202,7 +202,7 @@ returns-3 c =
     let t = text-whole s w ex o room en eo (f .ensures) in (
       trace-leaves x (trace-whole s w o big short ex t),
       lent (f .result) (f .last .0)
-          (omega (arith, f .ensures .0, f .kept .0, l .inv .2, l .inv .6, last-short s (l .run), g .inside, g .short)),
+          (omega (arith, f .ensures .0, f .kept .0, l .inv .2, l .inv .6, last-short s (l .run .at) (l .run .count), g .inside, g .short)),
     )
 
 pub trace-spec : {M : Type 1} → statement M
