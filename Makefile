@@ -1,7 +1,7 @@
 # make: builds what a user takes away and shows it at work. make test: all the set-up and every test. make help: the targets.
 .DEFAULT_GOAL := all
 SHELL := /bin/bash
-# One thing after the other, also under -j and in `make clean all`: rt itself proves crates side by side.
+# One thing after the other, also under -j and in `make clean all`: tools/plan.sh itself proves crates side by side.
 .NOTPARALLEL:
 CALLS ?= 1000000
 SEED ?= 1
@@ -31,7 +31,7 @@ build/bin/desk: desk/desk | setup
 	@mkdir -p build/bin
 	@cp desk/desk $@
 
-# A file is made again where a source of it, or the toolchain, has changed. All programs are proved by one run of rt, which leaves their LLVM modules
+# A file is made again where a source of it, or the toolchain, has changed. All programs are proved by one plan, which leaves their LLVM modules
 # (tools/modules.sh); one whose module stays as it was is not compiled again.
 PROVE := OF="$(PROGRAMS) face" bash tools/prove.sh
 build/modules/programs: $(shell sh tools/sources.sh $(PROGRAMS)) build/toolchain tools/modules.sh | setup
@@ -52,7 +52,7 @@ build/modules/face.ll build/libvdp.a &: $(shell sh tools/sources.sh face) build/
 	@$(PROVE) library face
 	@cp target/staticlib/libface.a build/libvdp.a
 
-# From nothing the library is proved beside the programs; later each by itself, where it has changed.
+# From nothing the library is proved with the programs, by one plan; later each by itself, where it has changed.
 together: build/toolchain | setup
 	@[ -e build/modules/programs ] || [ -e build/modules/face.ll ] || { $(PROVE) both face $(PROGRAMS) && cp target/staticlib/libface.a build/libvdp.a && touch build/modules/programs; }
 

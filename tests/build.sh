@@ -16,42 +16,71 @@ mkdir "$copy" "$work/bin"
 tar -c --exclude=./build --exclude=./target --exclude=./.git . | tar -x -C "$copy"
 . tools/toolchain.sh
 export RATTLE_HOME=$kit
-# A program's module is handed out beside it, as a clang that keeps modules leaves it (tools/modules.sh).
+# As rt, it is called for one crate in a folder of its own (tools/plan.sh), and passes over one that has not changed: whose stamp is of this toolchain and newer
+# than its files and the stamps below it. A library for C is built each time. The module of a program, or of the library, is handed out with it, as a clang that
+# keeps modules leaves it (tools/modules.sh). $work/stuck names a crate that never ends.
 cat >"$work/bin/rt" <<END
 #!/bin/sh
-verb=\$1
-shift
+verb=\$1 name=\${2-}
 case \$verb in
-version) cat "$work/version" ;;
-check)
-    echo check >>"$work/calls"
-    mkdir -p target/stamp
-    for name; do
-        [ ! -e "$PWD/build/modules/\$name.bc" ] || { cp "$PWD/build/modules/\$name.bc" build/modules/; cat "$work/version" >target/stamp/\$name; }
-    done
-    ;;
-staticlib)
-    echo staticlib >>"$work/calls"
-    mkdir -p target/staticlib
-    cp "$PWD/build/libvdp.a" target/staticlib/libface.a
-    cp "$PWD/build/modules/face.bc" build/modules/
-    ;;
+version) cat "$work/version"; exit ;;
+check | staticlib) echo "\$verb \$name" >>"$work/calls" ;;
 *) echo "\$verb" >>"$work/calls"; exit 1 ;;
 esac
+changed() {
+    [ "\$verb" = check ] && [ "\$(cat target/stamp/\$name 2>/dev/null)" = "\$(cat "$work/version")" ] || return 0
+    [ -z "\$(find crates/\$name -newer target/stamp/\$name)" ] || return 0
+    for dep in \$(sed -n "s/^\$name://p" crates.txt); do [ ! target/stamp/\$dep -nt target/stamp/\$name ] || return 0; done
+    return 1
+}
+if ! changed; then
+    echo "rt: \$name proved (unchanged since it was last proved)"
+    exit
+fi
+echo \$name >>"$work/proved"
+if [ "\$(cat "$work/stuck")" = \$name ]; then sleep 300; fi
+[ ! -e "$PWD/build/modules/\$name.bc" ] || cp "$PWD/build/modules/\$name.bc" "$copy/build/modules/"
+if [ \$verb = staticlib ]; then cp "$PWD/build/libvdp.a" target/staticlib/libface.a; else cat "$work/version" >target/stamp/\$name; fi
+echo "rt: \$name proved (0 s)"
 END
 chmod +x "$work/bin/rt"
 echo one >"$work/version"
+: >"$work/stuck"
 
-# made NAME CALLS WORDS..: make with these words calls rt so, and leaves what a user takes away. Two crates of programs are as good as all here.
+# calls_of PLAN: how rt is called for the programs, for the library, or for both in one plan: for each crate once.
+calls_of() {
+    local names
+    case $1 in programs) names='trace snapshot' ;; library) names=face ;; both) names='face trace snapshot' ;; esac
+    sh tools/crates.sh $names | sed 's/^/check /; s/^check face$/staticlib face/' | sort
+}
+# called PLAN..: rt was called for these plans, one after the other, and for nothing else.
+called() {
+    local plan due count from=1
+    for plan; do
+        due=$(calls_of "$plan") count=$(calls_of "$plan" | wc -l)
+        [ "$(tail -n +$from "$work/calls" | head -n "$count" | sort)" = "$due" ] || return 1
+        from=$((from + count))
+    done
+    [ "$(wc -l <"$work/calls")" -eq $((from - 1)) ]
+}
+# anew CRATE..: these were proved again, each once, and no other; `all` are those of both plans.
+anew() {
+    [ "$*" != all ] || set -- $(sh tools/crates.sh face trace snapshot)
+    [ "$(sort "$work/proved")" = "$(printf '%s\n' "$@" | sort)" ]
+}
+# made NAME PLANS CRATES WORDS..: make with these words calls rt for these plans, which prove these crates, and leaves what a user takes away. Two crates of
+# programs are as good as all here.
 made() {
-    local name=$1 calls=$2 status
-    shift 2
+    local name=$1 plans=$2 crates=$3 status
+    shift 3
     : >"$work/calls"
+    : >"$work/proved"
     (cd "$copy" && PATH="$work/bin:$PATH" make --no-print-directory PROGRAMS='trace snapshot' "$@" </dev/null) >"$work/said" 2>&1
     status=$?
     [ "$status" -eq 0 ] || cat "$work/said"
-    [ "$status" -eq 0 ] && [ "$(tr '\n' ' ' <"$work/calls")" = "$calls" ] && ! grep -q warning "$work/said"
+    [ "$status" -eq 0 ] && called $plans && anew $crates && ! grep -q warning "$work/said"
     status=$?
+    [ "$status" -eq 0 ] || echo "called for $(wc -l <"$work/calls") crates; proved: $(echo $(cat "$work/proved"))"
     for file in libvdp.a native/libvdp.a native/libvdp.so bin/trace bin/snapshot-261 bin/desk; do cmp "build/$file" "$copy/build/$file" || status=1; done
     tell "$name" $status
 }
@@ -60,7 +89,7 @@ later() {
     sleep 0.05
     touch "$copy/$1"
 }
-made "make from nothing: the library beside the programs" "check staticlib check " all
+made "make from nothing: the library beside the programs" both all all
 grep -q '^end 8$' "$work/said"
 tell "it shows the trace program at work" $?
 # Each of the lines to try, as it would be pasted; those that install, make the page (the suite of that name does) or take half an hour are there, and no more.
@@ -76,32 +105,60 @@ done < <(sed -n '/^Try:$/,$p' "$work/said" | sed 1d)
 tell "its last lines say what to try, and each of the commands works" $?
 [ "$(sed -n 's/^  build\/bin  *//p' "$work/said")" = 'desk home-snapshot home-trace layers snapshot snapshot-261 trace trace-261' ] && grep -q "^Built for this machine, $(uname -m):$" "$work/said"
 tell "and what is there" $?
-made "make again: rt is not called" "" all
+made "make again: rt is not called" "" "" all
 later crates/laws/src/lib.rt
-made "after a change below both: all is made" "check check staticlib " build
+made "after a change below both: all that stands on it is made" "programs library" all build
 later crates/trace/src/main.rt
-made "after a change of a program: the library stays" "check " build
+made "after a change of a program: the library stays" programs trace build
 later crates/face/specs/Face.antt
-made "after a change of the library: the programs stay" "check staticlib " build
+made "after a change of the library: the programs stay" library face build
 later crates/passes/specs/Pass.antt
-made "after a change of neither: nothing is made" "" build
+made "after a change of neither: nothing is made" "" "" build
 later crates.txt
-made "after a change of crates.txt" "check check staticlib " build
+made "after a change of crates.txt: rt looks at each crate" "programs library" face build
 echo two >"$work/version"
-made "with another toolchain" "check check staticlib " build
+made "with another toolchain" "programs library" all build
 rm "$copy/build/bin/snapshot-261"
-made "a program that was removed is made again, of the module that is there" "" build
+made "a program that was removed is made again, of the module that is there" "" "" build
 rm "$copy/build/modules/trace.ll"
-made "a module that was removed is made again" "check " build
+made "the text of a module that was removed is made again, of the module" programs "" build
+rm "$copy/build/modules/trace.bc" "$copy/build/modules/trace.ll"
+made "a module that was removed is made again" programs trace build
 echo >>"$copy/target/stamp/trace"
 later crates/trace/src/main.rt
-made "so is one of other sources than rt's stamp tells of" "check " build
+made "so is one of other sources than rt's stamp tells of" programs trace build
 later include/vdp.h
-made "after a change of the header: the libraries for this machine" "" build
+made "after a change of the header: the libraries for this machine" "" "" build
 later tools/program.c
-made "after a change of what programs are linked with" "" build
-made "make -j4" "" -j4 all
-made "make -j4 clean all" "check staticlib check " -j4 clean all
+made "after a change of what programs are linked with" "" "" build
+made "make -j4" "" "" -j4 all
+made "make -j4 clean all" both all -j4 clean all
+
+# Ended in the middle: what was proved is not proved again, nor is a program whose module was kept. (The library is built each time.)
+rm -rf "$copy/build" "$copy/target"
+echo snapshot >"$work/stuck"
+: >"$work/calls"
+: >"$work/proved"
+set -m
+(cd "$copy" && PATH="$work/bin:$PATH" RT_JOBS=1 exec make --no-print-directory PROGRAMS='trace snapshot' build </dev/null) >"$work/said" 2>&1 &
+group=$!
+set +m
+for _ in $(seq 300); do
+    ! grep -qx snapshot "$work/proved" || break
+    sleep 0.1
+done
+kill -TERM -- "-$group"
+wait "$group"
+for _ in $(seq 100); do
+    ! grep -q '^prove: ended; what was proved stays' "$work/said" || break
+    sleep 0.1
+done
+: >"$work/stuck"
+anew all && grep -q '^prove: ended; what was proved stays' "$work/said"
+status=$?
+[ "$status" -eq 0 ] || cat "$work/said"
+tell "make, ended while the last program is proved" "$status"
+made "the next make goes on from there" both "face snapshot" build
 
 # refused NAME LINE WORDS..: these words fail with this line, and before rt is called; make itself may add a line.
 refused() {

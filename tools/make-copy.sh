@@ -11,5 +11,5 @@ began=$SECONDS
 mkdir "$copy/target"
 tar -c --exclude=./build --exclude=./target --exclude=./.git . | tar -x -C "$copy"
 cp -R target/rlib target/stamp "$copy/target/"
-env -C "$copy" RT_JOBS="$(nproc 2>/dev/null || echo 1)" make --no-print-directory "$@" >"$logs/make.log" 2>&1
+env -C "$copy" make --no-print-directory "$@" >"$logs/make.log" 2>&1
 echo "$? $((SECONDS - began))" >"$logs/make.end"
