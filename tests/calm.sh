@@ -86,6 +86,16 @@ export QUIET=600
 export TMPDIR=$work/tmp
 mkdir "$TMPDIR"
 cd "$copy"
+# Some of the crates are as good as all here.
+awk -F: -v kept=' laws bitmap small picture column stand tile background sprites dump program sheet repair demands face io os libc ' '
+    function has(name) { return index(kept, " " name " ") }
+    has($1) {
+        line = $1 ":"
+        count = split($2, deps, " ")
+        for (k = 1; k <= count; k++) if (has(deps[k])) line = line " " deps[k]
+        print line
+    }' crates.txt >"$work/crates.txt"
+mv "$work/crates.txt" crates.txt
 all=$(sh tools/crates.sh | wc -l)
 
 # anew WORDS..: nothing is proved, there are two processors, and the stand-in goes by these words: a file and its lines.
@@ -137,9 +147,12 @@ tell "one that takes long is told while it does" $?
 [ "$(most)" -eq 1 ]
 tell "RT_JOBS=1: one at a time" $?
 anew takes 'tile 3' 'stand 3'
-echo 'stand tile' >"$work/waits"
-QUIET=1 bash tools/prove.sh all >"$work/said" 2>&1 && grep -qE '^\.\.\. stand \([0-9]+ s\), tile \([0-9]+ s\)$' "$work/said" && [ "$(most)" -eq 2 ]
-tell "so are two, on two processors" $?
+printf '%s\n' 'stand tile' 'tile stand' >"$work/waits"
+QUIET=1 bash tools/prove.sh all >"$work/said" 2>&1 && grep -qE '^\.\.\. (stand \([0-9]+ s\), tile|tile \([0-9]+ s\), stand) \([0-9]+ s\)$' "$work/said" &&
+    [ "$(most)" -eq 2 ]
+status=$?
+[ $status -eq 0 ] || cat "$work/said"
+tell "so are two, on two processors" $status
 
 # By levels, as rt goes, `tile` and what stands on it would not begin before `stand` has ended, which they do not need.
 anew waits 'stand background'
