@@ -135,6 +135,7 @@ use Rattle.block.proofs.store_cache
 use Rattle.block_repair.proofs.repair
 use Rattle.program.proofs.same
 use Rattle.trace_record.proofs.record_at
+use Rattle.trace_record.proofs.record_on
 use Rattle.trace_record.proofs.area_number
 use Rattle.trace_record.proofs.put_all
 use Rattle.trace_record.proofs.put_record
@@ -163,14 +164,13 @@ use Rattle.trace_run.proofs.Device.home as device-home
 use Rattle.trace_end.proofs.put_last
 use Rattle.trace_end.proofs.pixel_count
 use Rattle.trace_end.proofs.put_picture
-use Rattle.trace_output.proofs.trace
-use Rattle.trace_output.proofs.snapshot
-use Rattle.trace_output.proofs.layers
+use Rattle.trace_run.proofs.output.trace
+use Rattle.trace_run.proofs.output.snapshot
+use Rattle.trace_run.proofs.output.layers
 use Rattle.trace_run.specs.Run.{World}
 use Rattle.trace_text.proofs.put_numbered
 use Rattle.trace_text.proofs.put_answer
-use Rattle.trace_run.proofs.row_turn
-use Rattle.trace_run.proofs.frame_turn
+use Rattle.trace_run.proofs.turn
 use Rattle.column.proofs.fates
 use Rattle.column.proofs.owner_of
 use Rattle.word.proofs.asked
@@ -668,6 +668,9 @@ repair-once κs a q z z′ w w′ e f = (
 pub record-at-once : OneOutcome 1 record_at.Kinds.ps record_at.Kinds.r record_at.Reads.Asked record_at.Reads.Learnt
 record-at-once κs a q z z′ w w′ e f = (e ∙ sym f, refl)
 
+pub record-on-once : OneOutcome 1 record_on.Kinds.ps record_on.Kinds.r record_on.Reads.Asked record_on.Reads.Learnt
+record-on-once κs a q z z′ w w′ e f = (e ∙ sym f, refl)
+
 pub area-number-once : OneOutcome 0 area_number.Kinds.ps area_number.Kinds.r area_number.Reads.Asked area_number.Reads.Learnt
 area-number-once κs a q z z′ w w′ e f = (e ∙ sym f, refl)
 
@@ -776,17 +779,8 @@ put-picture-once κs a q z z′ w w′ e f = (e .0 ∙ sym (f .0), λ i. ((e .1 
 pub put-answer-once : OneOutcome 1 put_answer.Kinds.ps put_answer.Kinds.r put_answer.Reads.Asked put_answer.Reads.Learnt
 put-answer-once κs a q z z′ w w′ e f = (e .0 ∙ sym (f .0), λ i. ((e .1 ∙ sym (f .1)) i, w .1))
 
-pub row-turn-once : OneOutcome 3 row_turn.Kinds.ps row_turn.Kinds.r row_turn.Reads.Asked row_turn.Reads.Learnt
-row-turn-once κs a q z z′ w w′ e f = (
-  λ i. record {
-    answer = (e .answer ∙ sym (f .answer)) i;
-    run = ap (λ (x : World). x .run) (e .world ∙ sym (f .world)) i;
-  },
-  λ i. (tt, (tt, (ap (λ (x : World). x .vram) (e .world ∙ sym (f .world)) i, (ap (λ (x : World). x .row) (e .world ∙ sym (f .world)) i, tt)))),
-)
-
-pub frame-turn-once : OneOutcome 4 frame_turn.Kinds.ps frame_turn.Kinds.r frame_turn.Reads.Asked frame_turn.Reads.Learnt
-frame-turn-once κs a q z z′ w w′ e f = (
+pub turn-once : OneOutcome 4 turn.Kinds.ps turn.Kinds.r turn.Reads.Asked turn.Reads.Learnt
+turn-once κs a q z z′ w w′ e f = (
   λ i. record {
     answer = (e .answer ∙ sym (f .answer)) i;
     run = ap (λ (x : World). x .run) (e .world ∙ sym (f .world)) i;

@@ -36,7 +36,7 @@ fn run(vdp: VdpState, layered: bool, name: &[u8], help: &[u8]) {
     }
     let n = taken.len;
     if layered {
-        let k = trace_output::layers(
+        let k = trace_run::output::layers(
             vdp,
             &input[..n],
             &mut vram,
@@ -47,7 +47,7 @@ fn run(vdp: VdpState, layered: bool, name: &[u8], help: &[u8]) {
         program::output(name, &picture[..k]);
         return;
     }
-    let k = trace_output::snapshot(
+    let k = trace_run::output::snapshot(
         Device::handheld(vdp),
         &input[..n],
         &mut vram,
@@ -71,7 +71,7 @@ fn run_home(name: &[u8], help: &[u8]) {
         return;
     }
     let n = taken.len;
-    let k = trace_output::snapshot(
+    let k = trace_run::output::snapshot(
         device,
         &input[..n],
         &mut vram,

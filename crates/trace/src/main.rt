@@ -16,7 +16,7 @@ fn run(device: Device, name: &[u8], help: &[u8]) {
         return;
     }
     let n = taken.len;
-    let k = trace_output::trace(device, &input[..n], &mut vram, &mut row, &mut text);
+    let k = trace_run::output::trace(device, &input[..n], &mut vram, &mut row, &mut text);
     program::output(name, &text[..k]);
 }
 

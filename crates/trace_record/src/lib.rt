@@ -5,6 +5,7 @@ ghost use lib.ListN.{length};
 ghost use lib.Dec.{leb};
 ghost use Rattle.laws.specs.Lists.{written};
 ghost use Rattle.trace_record.specs.Record.{recordAt};
+ghost use Rattle.trace_record.specs.Machine.{hasArea, recordOn};
 ghost use Rattle.trace_record.specs.Writer.{areaNumber, recordBytes, size, RecordLeaves};
 ghost use Rattle.trace_record.specs.Reader.{past};
 use picture::RenderArea;
@@ -46,6 +47,46 @@ pub fn record_at(s: &[u8], at: usize) -> Record
             Record::Step(picture::area_from(x))
         }
         _ => Record::Bad,
+    }
+}
+
+// ---- a record as a machine takes it
+
+// The machines that a recording can be for: the handheld, and the home machine that the dock shows.
+pub enum Machine {
+    Handheld,
+    Home,
+}
+
+// Whether a machine has steps of this area.
+fn has_area(machine: Machine, area: RenderArea) -> bool
+    ensures { λ r. ⌜ r ≡ hasArea machine area ⌝ }
+{
+    match machine {
+        Machine::Handheld => true,
+        Machine::Home => match area {
+            RenderArea::VisibleOnly => true,
+            RenderArea::EffectiveArea => false,
+            RenderArea::TrueEdges => false,
+        },
+    }
+}
+
+// R20.9: the record at this offset; a step of an area that the machine has not is bad.
+pub fn record_on(machine: Machine, s: &[u8], at: usize) -> Record
+    ensures { λ r. ⌜ r ≡ recordOn machine (now (s .entry)) at ⌝ }
+{
+    match record_at(s, at) {
+        Record::Write(port, value) => Record::Write(port, value),
+        Record::Read(port) => Record::Read(port),
+        Record::Step(area) => {
+            if has_area(machine, area) {
+                return Record::Step(area);
+            }
+            Record::Bad
+        }
+        Record::Bad => Record::Bad,
+        Record::End => Record::End,
     }
 }
 

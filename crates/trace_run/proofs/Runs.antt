@@ -11,6 +11,7 @@ use Rattle.laws.specs.Lists.{written}
 use Rattle.laws.proofs.Tests.{either}
 use Rattle.picture.specs.declared.RenderArea.{RenderArea}
 use Rattle.picture.specs.declared.RenderArea.the-variants.{VisibleOnly, EffectiveArea, TrueEdges}
+use Rattle.picture.specs.Area.{frameSize}
 use Rattle.refusal.specs.declared.Refusal.{Refusal}
 use Rattle.refusal.specs.Refusals.{refusalNumber}
 use Rattle.points.specs.declared.VdpInt.{VdpInt}
@@ -20,22 +21,23 @@ use Rattle.points.specs.declared.DisplayRefresh.the-variants.{NoDisplay, Screen
 use Rattle.points.specs.Points.{interruptNumber, reportNumber}
 use Rattle.trace_record.specs.declared.Record.{Record}
 use Rattle.trace_record.specs.declared.Record.the-variants.{Write, Read, Step, Bad, End}
-use Rattle.trace_run.specs.declared.Machine.{Machine}
-use Rattle.trace_run.specs.declared.Machine.the-variants.{Handheld, Home}
+use Rattle.trace_record.specs.declared.Machine.{Machine}
+use Rattle.trace_record.specs.declared.Machine.the-variants.{Handheld, Home}
 use Rattle.trace_run.specs.declared.Device.{Device}
 use Rattle.trace_text.specs.declared.Answer.{Answer}
 use Rattle.trace_text.specs.declared.Answer.the-variants as Says
 use Rattle.trace_run.specs.declared.Run.{Run}
 use Rattle.trace_run.specs.declared.Shown.{Shown}
-use Rattle.trace_run.specs.declared.Shown.the-variants.{Colours, Layers}
+use Rattle.trace_run.specs.declared.Shown.the-variants.{Nothing, Colours, Layers}
 use Rattle.trace_run.specs.declared.Turned.{Turned}
 use Rattle.trace_record.specs.Record.{recordAt}
+use Rattle.trace_record.specs.Machine.{hasArea, takenBy, recordOn}
 use Rattle.trace_record.specs.Writer.{size}
 use Rattle.trace_record.proofs.Records.{fits}
 use Rattle.trace_run.specs.Device.{AfterStep, writeOn, readOn, rowStepOn, frameStepOn, deviceWrite, deviceRead, deviceRowStep, deviceFrameStep}
 use Rattle.trace_text.specs.Text.{digitOf, decimal, hexDigit, lineOf}
-use Rattle.trace_run.specs.Run.{World, Turn, held, stepAnswer, rowTurn, intoFrame, frameTurn, layersInto, layerTurn, turnFor, turnBy, hasArea}
-use Rattle.trace_run.specs.Run.{takenBy, recordOn, turnOf, after, lines, TurnLeaves}
+use Rattle.trace_run.specs.Run.{World, Turn, held, stepAnswer, rowTurn, intoFrame, frameTurn, layersInto, layerTurn, frameFor, turnFor, turnBy}
+use Rattle.trace_run.specs.Run.{turnOf, after, lines, TurnLeaves}
 use Rattle.trace_text.proofs.Lines.{decimal-short, one, grow}
 
 -- ---- how long a line is
@@ -149,8 +151,15 @@ layer-moves TrueEdges w = layered-moves TrueEdges w
 
 -- whatever the frame shows
 pub moves-for : (shown : Shown) → Moves (turnFor shown)
+moves-for Nothing = row-moves
 moves-for Colours = frame-moves
 moves-for Layers = layer-moves
+
+-- a frame of the visible size is enough for whatever it shows
+pub frame-enough : (shown : Shown) (n : ℕ) → frameSize VisibleOnly ≤ n → frameFor shown ≤ n
+frame-enough Nothing n h = omega arith
+frame-enough Colours n h = h
+frame-enough Layers n h = h
 
 -- ---- a run stays in its recording, and prints at most five bytes for each byte that it has read
 pub record Small (n : ℕ) (r : Run) (t : List ℕ) : Type 0 where

@@ -2,7 +2,7 @@
 -- Assumes nothing.
 use mathlib.Core.Path.{_≡_, refl, sym, ap, _∙_}
 use mathlib.Core.Logic.{_⊎_, inl, inr}
-use mathlib.Core.Bool.{Bool, true, false, cond}
+use mathlib.Core.Bool.{Bool, true, false}
 use mathlib.Core.List.{List, [], _∷_}
 use Prim.Native.Nat.{ℕ, _*_, _≤_}
 use native.Mathlib.Omega.{arith}
@@ -10,7 +10,7 @@ use lib.ListN.{length}
 use Rattle.laws.specs.Lists.{at}
 use Rattle.laws.specs.Paint.{painted}
 use Rattle.laws.proofs.Paint.{painted-cong}
-use Rattle.laws.proofs.Tests.{split}
+use Rattle.laws.proofs.Tests.{split, clash}
 use Rattle.picture.proofs.Layers.{layersIn-at}
 use Rattle.picture.specs.declared.RenderArea.{RenderArea}
 use Rattle.picture.specs.declared.RenderArea.the-variants.{VisibleOnly, EffectiveArea, TrueEdges}
@@ -37,18 +37,18 @@ use Rattle.points.proofs.Rows.{row-in}
 use Rattle.step.proofs.Steps.{aside}
 use Rattle.trace_record.specs.declared.Record.{Record}
 use Rattle.trace_record.specs.declared.Record.the-variants.{Write, Read, Step, Bad, End}
-use Rattle.trace_run.specs.declared.Machine.{Machine}
-use Rattle.trace_run.specs.declared.Machine.the-variants.{Handheld, Home}
+use Rattle.trace_record.specs.declared.Machine.{Machine}
+use Rattle.trace_record.specs.declared.Machine.the-variants.{Handheld, Home}
 use Rattle.trace_run.specs.declared.Device.{Device}
 use Rattle.trace_text.specs.declared.Answer.the-variants as Says
 use Rattle.trace_run.specs.declared.Shown.{Shown}
-use Rattle.trace_run.specs.declared.Shown.the-variants.{Colours, Layers}
+use Rattle.trace_run.specs.declared.Shown.the-variants.{Nothing, Colours, Layers}
 use Rattle.trace_run.specs.declared.Turned.{Turned}
-use Rattle.trace_record.specs.Record.{recordAt}
+use Rattle.trace_record.specs.Machine.{recordOn}
 use Rattle.trace_run.specs.Device.{withVdp, withHome, AfterStep, wrote, gave, ofHandheld, ofHome, writeOn, readOn, rowStepOn, frameStepOn}
 use Rattle.trace_run.specs.Device.{deviceWrite, deviceRead, deviceRowStep, deviceFrameStep}
 use Rattle.trace_run.specs.Run.{World, Turn, held, on, stepAnswer, rowTurn, intoFrame, frameTurn, layerColour, layersPainted, layersOn}
-use Rattle.trace_run.specs.Run.{layersInto, layerTurn, turnFor, turnBy, hasArea, takenBy, recordOn, turnOf, TurnLeaves}
+use Rattle.trace_run.specs.Run.{layersInto, layerTurn, visibleSize, turnFor, turnBy, turnOf, TurnLeaves}
 
 -- the same turn, said in another way
 same-turn : {u v : Turn} {t : Turned} {vram row frame : List ℕ} → u ≡ v → TurnLeaves u t vram row frame → TurnLeaves v t vram row frame
@@ -202,47 +202,45 @@ no-layers a w e h =
     } in
     same-turn (ap into (sym e)) h
 
--- whatever the frame shows, steps of the visible size go there
+-- an area of the visible size is as wide as the visible one
+pub as-wide : (a : RenderArea) {b : Bool} → b ≡ visibleSize a → b ≡ true → columns a ≡ columns VisibleOnly
+as-wide VisibleOnly e t = refl
+as-wide EffectiveArea e t = clash (sym t ∙ e)
+as-wide TrueEdges e t = refl
+
+-- whatever the frame shows, steps of the visible size go there, and steps of another into the row buffer
 abbrev pub shownBy : Shown → RenderArea → World → Turn
+shownBy Nothing = rowTurn
 shownBy Colours = intoFrame
 shownBy Layers = layersInto
 
-pub turn-for : (shown : Shown) (a : RenderArea) (w : World) → columns a ≡ 160 → turnFor shown a w ≡ shownBy shown a w
+shown-for : (shown : Shown) (a : RenderArea) (w : World) → true ≡ visibleSize a → shownBy shown a w ≡ turnFor shown a w
 unfolding frameTurn layerTurn
-turn-for Colours VisibleOnly w c = refl
-turn-for Colours EffectiveArea w c = absurd (omega arith)
-turn-for Colours TrueEdges w c = refl
-turn-for Layers VisibleOnly w c = refl
-turn-for Layers EffectiveArea w c = absurd (omega arith)
-turn-for Layers TrueEdges w c = refl
+shown-for Nothing a w e = refl
+shown-for Colours VisibleOnly w e = refl
+shown-for Colours EffectiveArea w e = clash e
+shown-for Colours TrueEdges w e = refl
+shown-for Layers VisibleOnly w e = refl
+shown-for Layers EffectiveArea w e = clash e
+shown-for Layers TrueEdges w e = refl
 
--- whatever the frame shows, steps of the effective area go into the row buffer
-beside-for : (shown : Shown) (w : World) → turnFor shown EffectiveArea w ≡ rowTurn EffectiveArea w
+beside-for : (shown : Shown) (a : RenderArea) (w : World) → false ≡ visibleSize a → rowTurn a w ≡ turnFor shown a w
 unfolding frameTurn layerTurn
-beside-for Colours w = refl
-beside-for Layers w = refl
+beside-for Nothing a w e = refl
+beside-for Colours VisibleOnly w e = clash (sym e)
+beside-for Colours EffectiveArea w e = refl
+beside-for Colours TrueEdges w e = clash (sym e)
+beside-for Layers VisibleOnly w e = clash (sym e)
+beside-for Layers EffectiveArea w e = refl
+beside-for Layers TrueEdges w e = clash (sym e)
 
-pub beside-stepped :
-    (shown : Shown) {a : RenderArea} (w : World) {t : Turned} {vram row frame : List ℕ} → a ≡ EffectiveArea → TurnLeaves (rowTurn a w) t vram row
-    frame
-    → TurnLeaves (turnFor shown a w) t vram row frame
-beside-stepped shown w e h = rw (e, beside-for shown w) (rw e at h)
+module _ (shown : Shown) (a : RenderArea) (w : World) {b : Bool} (e : b ≡ visibleSize a) {t : Turned} {vram row frame : List ℕ} where
+  pub beside-stepped : b ≡ false → TurnLeaves (rowTurn a w) t vram row frame → TurnLeaves (turnFor shown a w) t vram row frame
+  beside-stepped f = same-turn (beside-for shown a w (sym f ∙ e))
 
-pub visible-stepped :
-    (shown : Shown) {a b : RenderArea} (w : World) {t : Turned} {vram row frame : List ℕ} → a ≡ b → TurnLeaves (turnFor shown b w) t vram row frame
-    → TurnLeaves (turnFor shown a w) t vram row frame
-visible-stepped shown w e h = rw e h
-
--- the record at offset k as a machine takes it, by its kind
-module _ (m : Machine) (s : List ℕ) (k : ℕ) {x : Record} (e : x ≡ recordAt s k) where
-  pub as-taken : {y : Record} → x ≡ y → takenBy m y ≡ recordOn m s k
-  as-taken f = ap (takenBy m) (sym f ∙ e)
-
-  pub has-area : {a : RenderArea} {b : Bool} → x ≡ Step a → b ≡ hasArea m a → b ≡ true → Step a ≡ recordOn m s k
-  has-area {a} f h t = ap (λ (c : Bool). cond c (Step a) Bad) (sym t ∙ h) ∙ as-taken f
-
-  pub no-area : {a : RenderArea} {b : Bool} → x ≡ Step a → b ≡ hasArea m a → b ≡ false → Bad ≡ recordOn m s k
-  no-area {a} f h t = ap (λ (c : Bool). cond c (Step a) Bad) (sym t ∙ h) ∙ as-taken f
+  pub shown-stepped : b ≡ true → {by : Shown} → shown ≡ by → TurnLeaves (shownBy by a w) t vram row frame → TurnLeaves (turnFor shown a w) t vram row
+      frame
+  shown-stepped f q h = same-turn (ap (λ (s : Shown). shownBy s a w) (sym q) ∙ shown-for shown a w (sym f ∙ e)) h
 
 -- the record at the run's place, by its kind
 module _ (step : RenderArea → World → Turn) (s : List ℕ) (w : World) {x : Record} (e : x ≡ recordOn (w .run .device .machine) s (w .run .at)) where

@@ -18,8 +18,8 @@ use Rattle.home.specs.declared.HomeStepped.{HomeStepped}
 use Rattle.home.specs.Home as homeState
 use Rattle.home.specs.Ports as homePorts
 use Rattle.home.specs.Step as homeStep
-use Rattle.trace_run.specs.declared.Machine.{Machine}
-use Rattle.trace_run.specs.declared.Machine.the-variants.{Handheld, Home}
+use Rattle.trace_record.specs.declared.Machine.{Machine}
+use Rattle.trace_record.specs.declared.Machine.the-variants.{Handheld, Home}
 use Rattle.trace_run.specs.declared.Device.{Device}
 
 -- a device of each machine; the state of the other is as it is made

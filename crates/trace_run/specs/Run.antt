@@ -9,22 +9,23 @@ use lib.ListN.{length}
 use Rattle.laws.specs.Paint.{painted, ofBytes}
 use Rattle.picture.specs.declared.RenderArea.{RenderArea}
 use Rattle.picture.specs.declared.RenderArea.the-variants.{VisibleOnly, EffectiveArea, TrueEdges}
+use Rattle.picture.specs.Area.{frameSize}
 use Rattle.points.specs.declared.DrawnRow.{DrawnRow}
 use Rattle.points.specs.declared.DrawnRow.the-variants.{NoRow, Drawn}
 use Rattle.step.specs.Step.{counterUp, rowStep}
 use Rattle.step.specs.Layers.{rowLayers}
 use Rattle.trace_record.specs.declared.Record.{Record}
 use Rattle.trace_record.specs.declared.Record.the-variants.{Write, Read, Step, Bad, End}
-use Rattle.trace_run.specs.declared.Machine.{Machine}
-use Rattle.trace_run.specs.declared.Machine.the-variants.{Handheld, Home}
+use Rattle.trace_record.specs.declared.Machine.{Machine}
+use Rattle.trace_record.specs.declared.Machine.the-variants.{Handheld, Home}
 use Rattle.trace_run.specs.declared.Device.{Device}
 use Rattle.trace_text.specs.declared.Answer.{Answer}
 use Rattle.trace_text.specs.declared.Answer.the-variants as Says
 use Rattle.trace_run.specs.declared.Run.{Run}
 use Rattle.trace_run.specs.declared.Shown.{Shown}
-use Rattle.trace_run.specs.declared.Shown.the-variants.{Colours, Layers}
+use Rattle.trace_run.specs.declared.Shown.the-variants.{Nothing, Colours, Layers}
 use Rattle.trace_run.specs.declared.Turned.{Turned}
-use Rattle.trace_record.specs.Record.{recordAt}
+use Rattle.trace_record.specs.Machine.{recordOn}
 use Rattle.trace_run.specs.Device.{AfterStep, deviceWrite, deviceRead, deviceRowStep, deviceFrameStep}
 use Rattle.trace_text.specs.Text.{lineOf}
 
@@ -105,10 +106,22 @@ layerTurn VisibleOnly w = layersInto VisibleOnly w
 layerTurn EffectiveArea w = rowTurn EffectiveArea w
 layerTurn TrueEdges w = layersInto TrueEdges w
 
--- what the frame shows
+-- what the frame shows, and the bytes that it then has at least
 abbrev pub turnFor : Shown → RenderArea → World → Turn
+turnFor Nothing = rowTurn
 turnFor Colours = frameTurn
 turnFor Layers = layerTurn
+
+abbrev pub frameFor : Shown → ℕ
+frameFor Nothing = 0
+frameFor Colours = frameSize VisibleOnly
+frameFor Layers = frameSize VisibleOnly
+
+-- the areas whose steps it shows
+abbrev pub visibleSize : RenderArea → Bool
+visibleSize VisibleOnly = true
+visibleSize EffectiveArea = false
+visibleSize TrueEdges = true
 
 -- a record of the recording, with steps made as `step` makes them; at a bad record and at the end nothing happens
 unfoldable pub turnBy : Record → (RenderArea → World → Turn) → World → Turn
@@ -122,24 +135,7 @@ turnBy (Step area) step w = step area w
 turnBy Bad step w = record { answer = Says.Nothing; world = w }
 turnBy End step w = record { answer = Says.Nothing; world = w }
 
--- R20.9: the areas that a machine has steps of; a step of another is a bad record
-abbrev pub hasArea : Machine → RenderArea → Bool
-hasArea Handheld a = true
-hasArea Home VisibleOnly = true
-hasArea Home EffectiveArea = false
-hasArea Home TrueEdges = false
-
-abbrev pub takenBy : Machine → Record → Record
-takenBy m (Write port value) = Write port value
-takenBy m (Read port) = Read port
-takenBy m (Step area) = cond (hasArea m area) (Step area) Bad
-takenBy m Bad = Bad
-takenBy m End = End
-
--- the record at offset k, as the machine m takes it
-abbrev pub recordOn : Machine → List ℕ → ℕ → Record
-recordOn m s k = takenBy m (recordAt s k)
-
+-- the record at the run's place, as its machine takes it
 unfoldable pub turnOf : (RenderArea → World → Turn) → List ℕ → World → Turn
 turnOf step s w = turnBy (recordOn (w .run .device .machine) s (w .run .at)) step w
 

@@ -8,7 +8,10 @@ ghost use Rattle.picture.specs.declared.RenderArea.the-variants.{VisibleOnly};
 ghost use Rattle.picture.specs.Area.{screenOf, columns, frameSize};
 ghost use Rattle.points.specs.Points.{RowIn};
 ghost use Rattle.trace_run.specs.Device.{handheld, home, withVdp, withHome, deviceWrite, deviceRead, ofHandheld, ofHome};
-ghost use Rattle.trace_run.specs.Run.{held, on, stepAnswer, rowTurn, intoFrame, layerColour, layersPainted, layersInto, turnFor, hasArea, recordOn, turnOf, TurnLeaves};
+ghost use Rattle.trace_run.specs.Run.{held, on, stepAnswer, rowTurn, intoFrame, layerColour, layersPainted, layersInto, visibleSize, frameFor, turnFor, turnOf, TurnLeaves};
+
+pub mod output;
+
 use home::HomeState;
 use home::HomeStepped;
 use picture::GG_VISIBLE_PIXEL_WIDTH;
@@ -16,16 +19,11 @@ use picture::RenderArea;
 use points::DrawnRow;
 use step::Stepped;
 use step::layer_row_step;
+use trace_record::Machine;
 use trace_record::Record;
-use trace_record::record_at;
+use trace_record::record_on;
 use trace_text::Answer;
 use vdp::VdpState;
-
-// The handheld, and the home machine that the dock shows.
-pub enum Machine {
-    Handheld,
-    Home,
-}
 
 // Which machine it is, and a state of each: the calls go to its own, and the other stays as it is.
 pub struct Device {
@@ -64,8 +62,9 @@ pub struct Run {
     pub count: usize,
 }
 
-// What a frame shows of the steps of the visible size: the picture, or which layer owns each pixel.
+// What a frame shows of the steps of the visible size: nothing, since they go into the row buffer; the picture; or which layer owns each pixel.
 pub enum Shown {
+    Nothing,
     Colours,
     Layers,
 }
@@ -112,6 +111,16 @@ fn home_moved(run: Run, bytes: usize, home: HomeState) -> Run
         device: next,
         at: run.at + bytes,
         count: run.count + 1,
+    }
+}
+
+// No call: the run stays where it is.
+fn none(run: Run) -> Turned
+    ensures { λ r. ⌜ r ≡ record { answer = Answer.Nothing; run = run } ⌝ }
+{
+    Turned {
+        answer: Answer::Nothing,
+        run: run,
     }
 }
 
@@ -221,14 +230,8 @@ fn row_step_turn(run: Run, vram: &[u8], row: &mut [u8], area: RenderArea) -> Tur
     let device = run.device;
     let machine = device.machine;
     match machine {
-        Machine::Handheld => {
-            let vdp = device.vdp;
-            handheld_turn(run, step::row_step(vdp, vram, row, area))
-        }
-        Machine::Home => {
-            let home = device.home;
-            home_turn(run, home::row_step(home, vram, row))
-        }
+        Machine::Handheld => return handheld_turn(run, step::row_step(device.vdp, vram, row, area)),
+        Machine::Home => return home_turn(run, home::row_step(device.home, vram, row)),
     }
 }
 
@@ -240,69 +243,11 @@ fn frame_step_turn(run: Run, vram: &[u8], frame: &mut [u8], area: RenderArea) ->
     let device = run.device;
     let machine = device.machine;
     match machine {
-        Machine::Handheld => {
-            let vdp = device.vdp;
-            handheld_turn(run, step::frame_step(vdp, vram, frame, area))
-        }
-        Machine::Home => {
-            let home = device.home;
-            home_turn(run, home::frame_step(home, vram, frame))
-        }
-    }
-}
-
-// Whether a machine has steps of this area.
-fn has_area(machine: Machine, area: RenderArea) -> bool
-    ensures { λ r. ⌜ r ≡ hasArea machine area ⌝ }
-{
-    match machine {
-        Machine::Handheld => true,
-        Machine::Home => match area {
-            RenderArea::VisibleOnly => true,
-            RenderArea::EffectiveArea => false,
-            RenderArea::TrueEdges => false,
-        },
-    }
-}
-
-// The record at the run's place, as its machine takes it.
-fn record_for(run: Run, input: &[u8]) -> Record
-    ensures { λ r. ⌜ r ≡ recordOn (run .device .machine) (now (input .entry)) (run .at) ⌝ }
-{
-    let at = run.at;
-    let device = run.device;
-    let machine = device.machine;
-    match record_at(input, at) {
-        Record::Write(port, value) => Record::Write(port, value),
-        Record::Read(port) => Record::Read(port),
-        Record::Step(area) => {
-            if has_area(machine, area) {
-                return Record::Step(area);
-            }
-            Record::Bad
-        }
-        Record::Bad => Record::Bad,
-        Record::End => Record::End,
-    }
-}
-
-// The record at the run's place, with every step into the row buffer.
-pub fn row_turn(run: Run, input: &[u8], vram: &mut [u8], row: &mut [u8]) -> Turned
-    requires { ⌜ (run .at < 4294967296) × (run .count < 4294967296) ⌝ }
-    ensures { λ r. ⌜ TurnLeaves (turnOf rowTurn (now (input .entry)) (held run (now (vram .entry)) (now (row .entry)) [])) r (now (vram .exit)) (now (row .exit)) [] ⌝ }
-{
-    match record_for(run, input) {
-        Record::Write(port, value) => write_turn(run, vram, port, value),
-        Record::Read(port) => read_turn(run, vram, port),
-        Record::Step(area) => row_step_turn(run, vram, row, area),
-        Record::Bad => Turned {
-            answer: Answer::Nothing,
-            run: run,
-        },
-        Record::End => Turned {
-            answer: Answer::Nothing,
-            run: run,
-        },
+        Machine::Handheld => return handheld_turn(
+            run,
+            step::frame_step(device.vdp, vram, frame, area),
+        ),
+        Machine::Home => return home_turn(run, home::frame_step(device.home, vram, frame)),
     }
 }
 
@@ -352,19 +297,29 @@ fn layer_turn(run: Run, vram: &[u8], row: &mut [u8], frame: &mut [u8], area: Ren
     let machine = device.machine;
     match machine {
         Machine::Handheld => {
-            let vdp = device.vdp;
             let mut layers = [0u8; GG_VISIBLE_PIXEL_WIDTH];
-            let stepped = layer_row_step(vdp, vram, row, &mut layers, area);
+            let stepped = layer_row_step(device.vdp, vram, row, &mut layers, area);
             let drawn = stepped.row;
             paint_layers(frame, drawn, &layers);
-            handheld_turn(run, stepped)
+            return handheld_turn(run, stepped);
         }
-        Machine::Home => row_step_turn(run, vram, row, area),
+        Machine::Home => return row_step_turn(run, vram, row, area),
     }
 }
 
-// A step of an area of the visible size, and what the frame shows of it.
-fn visible_turn(
+// Whether an area has the visible size.
+fn visible_size(area: RenderArea) -> bool
+    ensures { λ r. ⌜ r ≡ visibleSize area ⌝ }
+{
+    match area {
+        RenderArea::VisibleOnly => true,
+        RenderArea::EffectiveArea => false,
+        RenderArea::TrueEdges => true,
+    }
+}
+
+// A step, and what the frame shows of it.
+fn step_turn(
     run: Run,
     shown: Shown,
     vram: &[u8],
@@ -372,17 +327,21 @@ fn visible_turn(
     frame: &mut [u8],
     area: RenderArea,
 ) -> Turned
-    requires { ⌜ (run .at < 4294967296) × (run .count < 4294967296) × (frameSize VisibleOnly ≤ length (now frame)) × (columns area ≡ columns VisibleOnly) ⌝ }
+    requires { ⌜ (run .at < 4294967296) × (run .count < 4294967296) × (frameFor shown ≤ length (now frame)) ⌝ }
     ensures { λ r. ⌜ TurnLeaves (turnFor shown area (held run (now (vram .entry)) (now (row .entry)) (now (frame .entry)))) r (now (vram .entry)) (now (row .exit)) (now (frame .exit)) ⌝ }
 {
+    if !visible_size(area) {
+        return row_step_turn(run, vram, row, area);
+    }
     match shown {
-        Shown::Colours => frame_step_turn(run, vram, frame, area),
-        Shown::Layers => layer_turn(run, vram, row, frame, area),
+        Shown::Nothing => return row_step_turn(run, vram, row, area),
+        Shown::Colours => return frame_step_turn(run, vram, frame, area),
+        Shown::Layers => return layer_turn(run, vram, row, frame, area),
     }
 }
 
-// The record at the run's place, with steps of the visible size shown in the frame.
-pub fn frame_turn(
+// The record at the run's place.
+pub fn turn(
     run: Run,
     shown: Shown,
     input: &[u8],
@@ -390,28 +349,16 @@ pub fn frame_turn(
     row: &mut [u8],
     frame: &mut [u8],
 ) -> Turned
-    requires { ⌜ (run .at < 4294967296) × (run .count < 4294967296) × (frameSize VisibleOnly ≤ length (now frame)) ⌝ }
+    requires { ⌜ (run .at < 4294967296) × (run .count < 4294967296) × (frameFor shown ≤ length (now frame)) ⌝ }
     ensures { λ r. ⌜ TurnLeaves (turnOf (turnFor shown) (now (input .entry)) (held run (now (vram .entry)) (now (row .entry)) (now (frame .entry)))) r (now (vram .exit)) (now (row .exit)) (now (frame .exit)) ⌝ }
 {
-    match record_for(run, input) {
-        Record::Write(port, value) => write_turn(run, vram, port, value),
-        Record::Read(port) => read_turn(run, vram, port),
-        Record::Step(area) => match area {
-            RenderArea::VisibleOnly => {
-                visible_turn(run, shown, vram, row, frame, RenderArea::VisibleOnly)
-            }
-            RenderArea::EffectiveArea => row_step_turn(run, vram, row, area),
-            RenderArea::TrueEdges => {
-                visible_turn(run, shown, vram, row, frame, RenderArea::TrueEdges)
-            }
-        },
-        Record::Bad => Turned {
-            answer: Answer::Nothing,
-            run: run,
-        },
-        Record::End => Turned {
-            answer: Answer::Nothing,
-            run: run,
-        },
+    let device = run.device;
+    let machine = device.machine;
+    match record_on(machine, input, run.at) {
+        Record::Write(port, value) => return write_turn(run, vram, port, value),
+        Record::Read(port) => return read_turn(run, vram, port),
+        Record::Step(area) => return step_turn(run, shown, vram, row, frame, area),
+        Record::Bad => return none(run),
+        Record::End => return none(run),
     }
 }

@@ -14,6 +14,19 @@ frame-step-requires c κs = search needs
 handheld-turn-requires : tie.Need-handheld-turn-requires
 handheld-turn-requires c κs = search needs
 
+same-length : tie.Need-same-length
+same-length c = search needs
+
+returns : tie.Need-returns
+returns c =
+    let at-frame-step = c .before .before .before in
+    let at-enum-told = at-frame-step .before .before in
+    let at-start = at-enum-told .before .before .before .before .before in
+    λ f. frame-stepped (at-start .args .area) (held (at-start .args .run) (at-start .args .vram .now) f (at-start .args .frame .now))
+    (c .handheld-turn .ensures .0) (c .handheld-turn .ensures .1)
+    (handheld-frame (at-start .args .area) (at-start .args .run .device) (at-start .args .vram .now) (at-enum-told .enum-told .given .1)
+    (at-frame-step .frame-step .ensures))
+
 enum-told-2 : tie.Need-enum-told-2
 enum-told-2 c = search needs
 
@@ -23,31 +36,17 @@ frame-step-requires-2 c κs = search needs
 home-turn-requires : tie.Need-home-turn-requires
 home-turn-requires c κs = search needs
 
-same-length : tie.Need-same-length
-same-length c = search needs
-
-returns : tie.Need-returns
-returns c =
-    let at-frame-step = c .before .before .before in
-    let at-enum-told = at-frame-step .before .before .before in
-    let at-start = at-enum-told .before .before .before .before .before in
-    let a = at-start .args in
-    let t = c .handheld-turn .ensures in
-    λ f. frame-stepped (a .area) (held (a .run) (a .vram .now) f (a .frame .now)) (t .0) (t .1)
-    (handheld-frame (a .area) (a .run .device) (a .vram .now) (at-enum-told .enum-told .given .1) (at-frame-step .frame-step .ensures))
-
 same-length-2 : tie.Need-same-length-2
 same-length-2 c = search needs
 
 returns-2 : tie.Need-returns-2
 returns-2 c =
     let at-frame-step2 = c .before .before .before in
-    let at-enum-told2 = at-frame-step2 .before .before .before in
+    let at-enum-told2 = at-frame-step2 .before .before in
     let at-start = at-enum-told2 .before .before .before .before .before in
-    let a = at-start .args in
-    let t = c .home-turn .ensures in
-    λ f. frame-stepped (a .area) (held (a .run) (a .vram .now) f (a .frame .now)) (t .0) (t .1)
-    (home-frame (a .area) (a .run .device) (a .vram .now) (at-enum-told2 .enum-told2 .given .1) (at-frame-step2 .frame-step2 .ensures))
+    λ f. frame-stepped (at-start .args .area) (held (at-start .args .run) (at-start .args .vram .now) f (at-start .args .frame .now)) (c .home-turn .ensures .0)
+    (c .home-turn .ensures .1) (home-frame (at-start .args .area) (at-start .args .run .device) (at-start .args .vram .now)
+    (at-enum-told2 .enum-told2 .given .1) (at-frame-step2 .frame-step2 .ensures))
 
 pub frame-step-turn-spec : {M : Type 1} → statement M
 frame-step-turn-spec =
@@ -56,10 +55,10 @@ frame-step-turn-spec =
     enum-told
     frame-step-requires
     handheld-turn-requires
+    same-length
+    returns
     enum-told-2
     frame-step-requires-2
     home-turn-requires
-    same-length
-    returns
     same-length-2
     returns-2)

@@ -20,22 +20,14 @@ layer-row-step-requires c κs = search needs
 paint-layers-requires : tie.Need-paint-layers-requires
 paint-layers-requires c κs =
     let at-layer-row-step = c .before .before .before .before .before in
-    let at-start = at-layer-row-step .before .before .before .before .before .before .before .before .before .before in
-    let a = at-start .args in
-    let g = at-layer-row-step .layer-row-step .ensures in (
+    let at-start = at-layer-row-step .before .before .before .before .before .before .before .before .before in (
       at-start .pre .2,
-      row-told (a .area) (at-start .pre .3) (a .vram .now) (a .run .device .vdp) (a .frame .now) (replicate 160 0) refl _
-          (ap (λ (x : Stepped). x .row) (g .answer)),
+      row-told (at-start .args .area) (at-start .pre .3) (at-start .args .vram .now) (at-start .args .run .device .vdp)
+          (at-start .args .frame .now) (replicate 160 0) refl _ (ap (λ (x : Stepped). x .row) (at-layer-row-step .layer-row-step .ensures .answer)),
     )
 
 handheld-turn-requires : tie.Need-handheld-turn-requires
 handheld-turn-requires c κs = search needs
-
-enum-told-2 : tie.Need-enum-told-2
-enum-told-2 c = search needs
-
-row-step-turn-requires : tie.Need-row-step-turn-requires
-row-step-turn-requires c κs = search needs
 
 same-length : tie.Need-same-length
 same-length c = search needs
@@ -47,13 +39,18 @@ returns : tie.Need-returns
 returns c =
     let at-paint-layers = c .before .before .before in
     let at-layer-row-step = at-paint-layers .before .before .before .before .before .before in
-    let at-enum-told = at-layer-row-step .before .before .before .before in
+    let at-enum-told = at-layer-row-step .before .before .before in
     let at-start = at-enum-told .before .before .before .before .before .before in
-    let a = at-start .args in
-    let w = held (a .run) (a .vram .now) (a .row .now) (a .frame .now) in
-    layer-stepped (a .area) (at-start .pre .3) w (replicate 160 0) refl (at-enum-told .enum-told .given .1)
-    (at-layer-row-step .layer-row-step .ensures) (at-paint-layers .paint-layers .ensures) (c .handheld-turn .ensures .0)
+    layer-stepped (at-start .args .area) (at-start .pre .3)
+    (held (at-start .args .run) (at-start .args .vram .now) (at-start .args .row .now) (at-start .args .frame .now)) (replicate 160 0) refl
+    (at-enum-told .enum-told .given .1) (at-layer-row-step .layer-row-step .ensures) (at-paint-layers .paint-layers .ensures) (c .handheld-turn .ensures .0)
     (c .handheld-turn .ensures .1)
+
+enum-told-2 : tie.Need-enum-told-2
+enum-told-2 c = search needs
+
+row-step-turn-requires : tie.Need-row-step-turn-requires
+row-step-turn-requires c κs = search needs
 
 same-length-3 : tie.Need-same-length-3
 same-length-3 c = search needs
@@ -63,9 +60,8 @@ returns-2 c =
     let at-row-step-turn = c .before .before in
     let at-enum-told2 = at-row-step-turn .before .before in
     let at-start = at-enum-told2 .before .before .before .before .before .before in
-    let a = at-start .args in
-    no-layers (a .area) (held (a .run) (a .vram .now) (a .row .now) (a .frame .now)) (at-enum-told2 .enum-told2 .given .1)
-    (at-row-step-turn .row-step-turn .ensures (a .frame .now))
+    no-layers (at-start .args .area) (held (at-start .args .run) (at-start .args .vram .now) (at-start .args .row .now) (at-start .args .frame .now))
+    (at-enum-told2 .enum-told2 .given .1) (at-row-step-turn .row-step-turn .ensures (at-start .args .frame .now))
 
 pub layer-turn-spec : {M : Type 1} → statement M
 layer-turn-spec =
@@ -76,10 +72,10 @@ layer-turn-spec =
     layer-row-step-requires
     paint-layers-requires
     handheld-turn-requires
-    enum-told-2
-    row-step-turn-requires
     same-length
     same-length-2
     returns
+    enum-told-2
+    row-step-turn-requires
     same-length-3
     returns-2)

@@ -14,6 +14,18 @@ row-step-requires c κs = search needs
 handheld-turn-requires : tie.Need-handheld-turn-requires
 handheld-turn-requires c κs = search needs
 
+same-length : tie.Need-same-length
+same-length c = search needs
+
+returns : tie.Need-returns
+returns c =
+    let at-row-step = c .before .before .before in
+    let at-enum-told = at-row-step .before .before in
+    let at-start = at-enum-told .before .before .before .before .before in
+    λ f. row-stepped (at-start .args .area) (held (at-start .args .run) (at-start .args .vram .now) (at-start .args .row .now) f) (c .handheld-turn .ensures .0)
+    (c .handheld-turn .ensures .1) (handheld-row (at-start .args .area) (at-start .args .run .device) (at-start .args .vram .now)
+    (at-enum-told .enum-told .given .1) (at-row-step .row-step .ensures))
+
 enum-told-2 : tie.Need-enum-told-2
 enum-told-2 c = search needs
 
@@ -23,31 +35,17 @@ row-step-requires-2 c κs = search needs
 home-turn-requires : tie.Need-home-turn-requires
 home-turn-requires c κs = search needs
 
-same-length : tie.Need-same-length
-same-length c = search needs
-
-returns : tie.Need-returns
-returns c =
-    let at-row-step = c .before .before .before in
-    let at-enum-told = at-row-step .before .before .before in
-    let at-start = at-enum-told .before .before .before .before .before in
-    let a = at-start .args in
-    let t = c .handheld-turn .ensures in
-    λ f. row-stepped (a .area) (held (a .run) (a .vram .now) (a .row .now) f) (t .0) (t .1)
-    (handheld-row (a .area) (a .run .device) (a .vram .now) (at-enum-told .enum-told .given .1) (at-row-step .row-step .ensures))
-
 same-length-2 : tie.Need-same-length-2
 same-length-2 c = search needs
 
 returns-2 : tie.Need-returns-2
 returns-2 c =
     let at-row-step2 = c .before .before .before in
-    let at-enum-told2 = at-row-step2 .before .before .before in
+    let at-enum-told2 = at-row-step2 .before .before in
     let at-start = at-enum-told2 .before .before .before .before .before in
-    let a = at-start .args in
-    let t = c .home-turn .ensures in
-    λ f. row-stepped (a .area) (held (a .run) (a .vram .now) (a .row .now) f) (t .0) (t .1)
-    (home-row (a .area) (a .run .device) (a .vram .now) (at-enum-told2 .enum-told2 .given .1) (at-row-step2 .row-step2 .ensures))
+    λ f. row-stepped (at-start .args .area) (held (at-start .args .run) (at-start .args .vram .now) (at-start .args .row .now) f) (c .home-turn .ensures .0)
+    (c .home-turn .ensures .1) (home-row (at-start .args .area) (at-start .args .run .device) (at-start .args .vram .now)
+    (at-enum-told2 .enum-told2 .given .1) (at-row-step2 .row-step2 .ensures))
 
 pub row-step-turn-spec : {M : Type 1} → statement M
 row-step-turn-spec =
@@ -56,10 +54,10 @@ row-step-turn-spec =
     enum-told
     row-step-requires
     handheld-turn-requires
+    same-length
+    returns
     enum-told-2
     row-step-requires-2
     home-turn-requires
-    same-length
-    returns
     same-length-2
     returns-2)

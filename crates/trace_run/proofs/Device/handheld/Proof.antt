@@ -1,7 +1,7 @@
 -- `trace_run::Device::handheld` meets its contract: a recording that begins with this device.
 use borrow.Author.Needs.{needs}
 use mathlib.Core.Path.{ap}
-use Rattle.trace_run.specs.declared.Machine.the-variants.{Handheld}
+use Rattle.trace_record.specs.declared.Machine.the-variants.{Handheld}
 use Rattle.trace_run.specs.declared.Device.{Device}
 use Rattle.home.specs.declared.HomeState.{HomeState}
 use Rattle.trace_run.proofs.Device.handheld.Statement.{statement}

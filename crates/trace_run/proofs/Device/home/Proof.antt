@@ -1,7 +1,7 @@
 -- `trace_run::Device::home` meets its contract: a recording that begins with this home device.
 use borrow.Author.Needs.{needs}
 use mathlib.Core.Path.{ap}
-use Rattle.trace_run.specs.declared.Machine.the-variants.{Home}
+use Rattle.trace_record.specs.declared.Machine.the-variants.{Home}
 use Rattle.trace_run.specs.declared.Device.{Device}
 use Rattle.vdp.specs.declared.VdpState.{VdpState}
 use Rattle.trace_run.proofs.Device.home.Statement.{statement}

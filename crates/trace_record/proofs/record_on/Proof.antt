@@ -1,8 +1,8 @@
--- `trace_run::record_for` meets its contract: the record at the run's place, as its machine takes it.
+-- `trace_record::record_on` meets its contract: the record at this offset, as the machine takes it.
 use borrow.Author.Needs.{needs}
-use Rattle.trace_run.proofs.Turns.{as-taken, has-area, no-area}
-use Rattle.trace_run.proofs.record_for.Statement.{statement}
-use Rattle.trace_run.proofs.record_for.Tie as tie
+use Rattle.trace_record.proofs.Machines.{as-taken, has-area, no-area}
+use Rattle.trace_record.proofs.record_on.Statement.{statement}
+use Rattle.trace_record.proofs.record_on.Tie as tie
 
 record-at-requires : tie.Need-record-at-requires
 record-at-requires c κs = search needs
@@ -23,9 +23,9 @@ returns : tie.Need-returns
 returns c =
     let at-area = c .before .before .before in
     let at-record-at = at-area .before .before in
-    let at-start = at-record-at .before .before .before in
+    let at-start = at-record-at .before .before in
     let a = at-start .args in
-    has-area (a .run .device .machine) (a .input .now) (a .run .at) (at-record-at .record-at .ensures) (at-area .area .given .1)
+    has-area (a .machine) (a .s .now) (a .at) (at-record-at .record-at .ensures) (at-area .area .given .1)
     (c .before .has-area .ensures) (c .if1 .taken)
 
 enum-told : tie.Need-enum-told
@@ -37,42 +37,42 @@ enum-told-2 c = search needs
 returns-2 : tie.Need-returns-2
 returns-2 c =
     let at-record-at = c .before .before .before in
-    let at-start = at-record-at .before .before .before in
+    let at-start = at-record-at .before .before in
     let a = at-start .args in
-    as-taken (a .run .device .machine) (a .input .now) (a .run .at) (at-record-at .record-at .ensures) (c .before .port .given .1)
+    as-taken (a .machine) (a .s .now) (a .at) (at-record-at .record-at .ensures) (c .before .port .given .1)
 
 returns-3 : tie.Need-returns-3
 returns-3 c =
     let at-record-at = c .before .before .before in
-    let at-start = at-record-at .before .before .before in
+    let at-start = at-record-at .before .before in
     let a = at-start .args in
-    as-taken (a .run .device .machine) (a .input .now) (a .run .at) (at-record-at .record-at .ensures) (c .before .port2 .given .1)
+    as-taken (a .machine) (a .s .now) (a .at) (at-record-at .record-at .ensures) (c .before .port2 .given .1)
 
 returns-4 : tie.Need-returns-4
 returns-4 c =
     let at-area = c .before .before .before in
     let at-record-at = at-area .before .before in
-    let at-start = at-record-at .before .before .before in
+    let at-start = at-record-at .before .before in
     let a = at-start .args in
-    no-area (a .run .device .machine) (a .input .now) (a .run .at) (at-record-at .record-at .ensures) (at-area .area .given .1)
+    no-area (a .machine) (a .s .now) (a .at) (at-record-at .record-at .ensures) (at-area .area .given .1)
     (c .before .has-area .ensures) (c .if1 .left)
 
 returns-5 : tie.Need-returns-5
 returns-5 c =
     let at-record-at = c .before .before in
-    let at-start = at-record-at .before .before .before in
+    let at-start = at-record-at .before .before in
     let a = at-start .args in
-    as-taken (a .run .device .machine) (a .input .now) (a .run .at) (at-record-at .record-at .ensures) (c .enum-told .given .1)
+    as-taken (a .machine) (a .s .now) (a .at) (at-record-at .record-at .ensures) (c .enum-told .given .1)
 
 returns-6 : tie.Need-returns-6
 returns-6 c =
     let at-record-at = c .before .before in
-    let at-start = at-record-at .before .before .before in
+    let at-start = at-record-at .before .before in
     let a = at-start .args in
-    as-taken (a .run .device .machine) (a .input .now) (a .run .at) (at-record-at .record-at .ensures) (c .enum-told2 .given .1)
+    as-taken (a .machine) (a .s .now) (a .at) (at-record-at .record-at .ensures) (c .enum-told2 .given .1)
 
-pub record-for-spec : {M : Type 1} → statement M
-record-for-spec =
+pub record-on-spec : {M : Type 1} → statement M
+record-on-spec =
     tie.close
     (tie.spec
     record-at-requires

@@ -1,4 +1,4 @@
--- `trace_output::trace` meets its contract: the text of a recording, run on this device, at the start of out, and how long it is.
+-- `trace_run::output::trace` meets its contract: the text of a recording, run on this device, at the start of out, and how long it is.
 use borrow.Author.Needs.{needs}
 use mathlib.Core.Path.{_≡_, refl, sym, ap, _∙_}
 use mathlib.Core.List.{[]}
@@ -8,21 +8,21 @@ use lib.ListN.{length}
 use Rattle.laws.specs.Lists.{written}
 use Rattle.laws.proofs.Lists.{written-nil}
 use Rattle.trace_text.specs.Text.{longLine}
 use Rattle.trace_run.specs.Run.{held, start, rowTurn, after, lines}
 use Rattle.trace_end.proofs.End.{last-short}
-use Rattle.trace_output.proofs.Outputs.{text-whole, trace-no-room, trace-long, trace-whole, trace-leaves, lent}
+use Rattle.trace_run.proofs.Outputs.{text-whole, trace-no-room, trace-long, trace-whole, trace-leaves, lent}
 use Rattle.trace_run.proofs.Runs.{row-moves, ran-small, world-more, text-more}
-use Rattle.trace_output.proofs.trace.Statement.{statement}
-use Rattle.trace_output.proofs.trace.Tie as tie
+use Rattle.trace_run.proofs.output.trace.Statement.{statement}
+use Rattle.trace_run.proofs.output.trace.Tie as tie
 
 abbrev Inv-loop : tie.InvT-loop
-Inv-loop input vram₀ row₀ out₀ run₀ len₀ i₀ vram row out run len i =
-    (i ≤ length input) × (held run vram row [] ≡ after rowTurn i input (held run₀ vram₀ row₀ []))
-    × (len ≡ length (lines rowTurn i input (held run₀ vram₀ row₀ []))) × (out ≡ written out₀ 0 (lines rowTurn i input (held run₀ vram₀ row₀ [])))
-    × (length vram ≡ length vram₀) × (length row ≡ length row₀) × (length out ≡ length out₀)
+Inv-loop input vram₀ row₀ out₀ run₀ none₀ len₀ i₀ vram row out run none len i =
+    (i ≤ length input) × (held run vram row none ≡ after rowTurn i input (held run₀ vram₀ row₀ none₀))
+    × (len ≡ length (lines rowTurn i input (held run₀ vram₀ row₀ none₀))) × (out ≡ written out₀ 0 (lines rowTurn i input (held run₀ vram₀ row₀ none₀)))
+    × (length vram ≡ length vram₀) × (length row ≡ length row₀) × (length out ≡ length out₀) × (length none ≡ 0)
 
 abbrev μ-loop : tie.MeasureT-loop
-μ-loop input vram₀ row₀ out₀ run₀ len₀ i₀ vram row out run len i = length input - i
+μ-loop input vram₀ row₀ out₀ run₀ none₀ len₀ i₀ vram row out run none len i = length input - i
 
 returns : tie.Need-returns Inv-loop μ-loop
 returns c =
@@ -56,8 +56,7 @@ returns-2 c =
     let big : 327700 ≤ length o = at-if1 .if1 .left in
     let p = at-put-all .put-all .ensures in (
       trace-leaves w (trace-long s w o big (at-if2 .if2 .taken) (p .0) (p .1)),
-      lent (at-put-all .put-all .result) (at-put-all .put-all .last .0)
-          (omega (arith, p .0, at-put-all .put-all .kept .0)),
+      lent (at-put-all .put-all .result) (at-put-all .put-all .last .0) (omega (arith, p .0, at-put-all .put-all .kept .0)),
     )
 
 loop-holds : tie.Need-loop-holds Inv-loop μ-loop
@@ -75,11 +74,17 @@ loop-holds c =
       refl,
       refl,
       refl,
+      refl,
     )
 
-row-turn-requires : tie.Need-row-turn-requires Inv-loop μ-loop
-row-turn-requires c κs =
-    let at-loop = c .before .before .before in
+slice-aggregate-turn : tie.Need-slice-aggregate-turn Inv-loop μ-loop
+slice-aggregate-turn c =
+    let at-loop = c .before .before .before .before in
+    search (needs, at-loop .loop .inv .7)
+
+turn-requires : tie.Need-turn-requires Inv-loop μ-loop
+turn-requires c κs =
+    let at-loop = c .before .before .before .before in
     let at-if2 = at-loop .before in
     let at-if1 = at-if2 .before in
     let at-start = at-if1 .before .before .before .before .before in
@@ -92,11 +97,11 @@ row-turn-requires c κs =
     let l = at-loop .loop in
     let e = l .inv .1 in
     let g = ran-small row-moves (l .i) s w e refl refl in
-    (omega (arith, g .inside), omega (arith, g .inside, g .counted))
+    (omega (arith, g .inside), omega (arith, g .inside, g .counted), omega arith)
 
 put-answer-requires : tie.Need-put-answer-requires Inv-loop μ-loop
 put-answer-requires c κs =
-    let at-loop = c .before .before .before .before .before .before .before .before .before in
+    let at-loop = c .before .before .before .before .before .before .before .before .before .before .before in
     let at-if2 = at-loop .before in
     let at-if1 = at-if2 .before in
     let at-start = at-if1 .before .before .before .before .before in
@@ -120,8 +125,8 @@ loop-less c = search needs
 loop-again : tie.Need-loop-again Inv-loop μ-loop
 loop-again c =
     let at-put-answer = c .before .before .before in
-    let at-row-turn = at-put-answer .before .before .before .before .before .before in
-    let at-loop-test = at-row-turn .before .before .before in
+    let at-turn = at-put-answer .before .before .before .before .before .before .before in
+    let at-loop-test = at-turn .before .before .before .before in
     let at-loop = at-loop-test .before in
     let at-if2 = at-loop .before in
     let at-if1 = at-if2 .before in
@@ -135,7 +140,7 @@ loop-again c =
     let l = at-loop .loop in
     let e = l .inv .1 in
     let g = ran-small row-moves (l .i) s w e refl refl in
-    let t = at-row-turn .row-turn in
+    let t = at-turn .turn in
     let p = at-put-answer .put-answer in
     let room : length (lines rowTurn (l .i) s w) ≤ length o = omega (arith, g .inside, g .short) in
     let m = text-more rowTurn s w (l .i) e o (t .ensures) room (l .inv .2) (l .inv .3) (p .ensures) in (
@@ -143,9 +148,10 @@ loop-again c =
       world-more rowTurn s w (l .i) e (t .ensures),
       m .0,
       m .1,
-      t .kept .1 .1 .0 ∙ l .inv .4,
-      t .kept .1 .1 .1 .0 ∙ l .inv .5,
+      t .kept .1 .1 .1 .0 ∙ l .inv .4,
+      t .kept .1 .1 .1 .1 .0 ∙ l .inv .5,
       p .kept .0 ∙ l .inv .6,
+      t .kept .1 .1 .1 .1 .1 .0 ∙ l .inv .7,
     )
 
 put-last-requires : tie.Need-put-last-requires Inv-loop μ-loop
@@ -193,7 +199,7 @@ returns-3 c =
     let g = ran-small row-moves (l .i) s w e refl refl in
     let f = at-put-last .put-last in
     let all : l .i ≡ length s = omega (arith, l .inv .0, at-loop-test .loop-test .left) in
-    let x = held (l .run) (l .vram) (l .row) [] in
+    let x = held (l .run) (l .vram) (l .row) (l .none) in
     let ex : x ≡ after rowTurn (length s) s w = e ∙ ap (λ (k : ℕ). after rowTurn k s w) all in
     let fits : length (lines rowTurn (l .i) s w) ≤ length o = omega (arith, g .inside, g .short) in
     let room : length (lines rowTurn (length s) s w) ≤ length o = rw all at fits in
@@ -217,7 +223,8 @@ trace-spec =
     same-length
     returns-2
     loop-holds
-    row-turn-requires
+    slice-aggregate-turn
+    turn-requires
     put-answer-requires
     add-i
     loop-less

@@ -17,16 +17,17 @@ use Rattle.trace_record.specs.Writer.{recordBytes, size}
 use Rattle.trace_record.specs.Reader.{isCall, past, handed, place, records, stop}
 use Rattle.trace_record.specs.Promises.{allBytes}
 use Rattle.trace_record.proofs.Promises.{place-stays}
-use Rattle.trace_run.specs.declared.Machine.{Machine}
-use Rattle.trace_run.specs.declared.Machine.the-variants.{Handheld}
+use Rattle.trace_record.specs.declared.Machine.{Machine}
+use Rattle.trace_record.specs.declared.Machine.the-variants.{Handheld}
 use Rattle.trace_run.specs.Device.{handheld}
 use Rattle.trace_text.specs.Text.{lineOf, endLine, badLine}
-use Rattle.trace_run.specs.Run.{World, Turn, start, turnBy, hasArea, takenBy, turnOf, after, lines, ran}
+use Rattle.trace_record.specs.Machine.{hasArea, takenBy}
+use Rattle.trace_run.specs.Run.{World, Turn, start, turnBy, turnOf, after, lines, ran}
 use Rattle.trace_end.specs.End.{lastLine}
-use Rattle.trace_output.specs.Output.{text}
-use Rattle.trace_output.specs.Promises.{ranAll, linesAll, ReadsAlong, Runs, ReaderRuns, runBy, MachineRuns}
+use Rattle.trace_run.specs.Output.{text}
+use Rattle.trace_run.specs.Promises.{ranAll, linesAll, ReadsAlong, Runs, ReaderRuns, runBy, MachineRuns}
 use Rattle.trace_run.proofs.Runs.{write-machine, read-machine, Moves, row-moves, moves-for}
-use Rattle.trace_output.proofs.Until.{here, stays, silent, after-first, lines-first}
+use Rattle.trace_run.proofs.Until.{here, stays, silent, after-first, lines-first}
 
 -- what n turns do, beside what a machine m runs of what a reader hands out in them
 record Along (step : RenderArea → World → Turn) (n : ℕ) (s : List ℕ) (w : World) (xs : List Record) : Type 0 where
@@ -149,7 +150,6 @@ unfolding text lastLine
 machine-runs d s vram row frame =
     let w = start d vram row frame in
     let a = reads-along row-moves s (d .machine) w refl refl refl in (
-      a,
       λ shown. reads-along (moves-for shown) s (d .machine) w refl refl refl,
       λ i. a .prints i ++ cond (leb (length s) (a .place i)) (endLine (a .count i)) (badLine (a .place i)),
     )

@@ -1,4 +1,4 @@
--- `trace_output::pictured` meets its contract: what a recording's visible steps show in the frame, run on this device, at the start of out.
+-- `trace_run::output::pictured` meets its contract: what a recording's visible steps show in the frame, run on this device, at the start of out.
 use borrow.Author.Needs.{needs}
 use native.Mathlib.Omega.{arith}
 use mathlib.Core.Path.{_≡_, refl, ap, _∙_}
@@ -6,14 +6,14 @@ use Prim.Native.Nat.{ℕ, _-_, _≤_}
 use lib.ListN.{length}
 use Rattle.picture.specs.Screen.{frameSize}
 use Rattle.trace_text.specs.Text.{longLine}
 use Rattle.trace_run.specs.Run.{held, start, turnFor, after}
 use Rattle.trace_end.specs.End.{pixelCount, pictureRoom}
 use Rattle.trace_end.proofs.End.{frame-bytes, many-pixels, drawn-short}
-use Rattle.trace_output.specs.Output.{screenFor}
-use Rattle.trace_output.proofs.Outputs.{snapshot-no-room, snapshot-no-frame, snapshot-long, snapshot-whole, snapshot-leaves, lent}
-use Rattle.trace_run.proofs.Runs.{moves-for, ran-small, world-more}
-use Rattle.trace_output.proofs.pictured.Statement.{statement}
-use Rattle.trace_output.proofs.pictured.Tie as tie
+use Rattle.trace_run.specs.Output.{screenFor}
+use Rattle.trace_run.proofs.Outputs.{snapshot-no-room, snapshot-no-frame, snapshot-long, snapshot-whole, snapshot-leaves, lent}
+use Rattle.trace_run.proofs.Runs.{frame-enough, moves-for, ran-small, world-more}
+use Rattle.trace_run.proofs.output.pictured.Statement.{statement}
+use Rattle.trace_run.proofs.output.pictured.Tie as tie
 
 abbrev Inv-loop : tie.InvT-loop
 Inv-loop shown input vram₀ row₀ frame₀ out screen count run₀ i₀ vram row frame run i =
@@ -114,8 +114,8 @@ loop-holds c =
     let a = at-start .args in
     (omega arith, (λ j. held (record { device = a .device; at = 0; count = 0 }) (a .vram .now) (a .row .now) (a .frame .now)), refl, refl, refl)
 
-frame-turn-requires : tie.Need-frame-turn-requires Inv-loop μ-loop
-frame-turn-requires c κs =
+turn-requires : tie.Need-turn-requires Inv-loop μ-loop
+turn-requires c κs =
     let at-loop = c .before .before .before .before in
     let at-if3 = at-loop .before in
     let at-if2 = at-if3 .before in
@@ -133,8 +133,12 @@ frame-turn-requires c κs =
     let frames : length (a .frame .now) ≡ frameSize screen = omega (arith, k, at-if2 .if2 .left, frame-bytes screen) in
     let short : length s ≤ 65535 = at-if3 .if3 .left in
     let l = at-loop .loop in
-    let g = ran-small (moves-for (a .shown)) (l .i) s w (l .inv .1) refl refl in
-    (omega (arith, g .inside), omega (arith, g .inside, g .counted), omega (arith, frames, l .inv .4, frame-bytes screen, many-pixels screen))
+    let g = ran-small (moves-for (a .shown)) (l .i) s w (l .inv .1) refl refl in (
+      omega (arith, g .inside),
+      omega (arith, g .inside, g .counted),
+      frame-enough (a .shown) (length (l .frame))
+          (omega (arith, frames, l .inv .4, frame-bytes screen, many-pixels screen)),
+    )
 
 add-i : tie.Need-add-i Inv-loop μ-loop
 add-i c = search needs
@@ -144,15 +148,15 @@ loop-less c = search needs
 
 loop-again : tie.Need-loop-again Inv-loop μ-loop
 loop-again c =
-    let at-frame-turn = c .before .before .before .before .before .before .before in
-    let at-loop-test = at-frame-turn .before .before .before .before in
+    let at-turn = c .before .before .before .before .before .before .before in
+    let at-loop-test = at-turn .before .before .before .before in
     let at-loop = at-loop-test .before in
     let at-start = at-loop .before .before .before .before .before .before .before .before .before .before .before in
     let a = at-start .args in
     let s = a .input .now in
     let w = start (a .device) (a .vram .now) (a .row .now) (a .frame .now) in
     let l = at-loop .loop in
-    let k = at-frame-turn .frame-turn in (
+    let k = at-turn .turn in (
       omega (arith, at-loop-test .loop-test .taken),
       world-more (turnFor (a .shown)) s w (l .i) (l .inv .1) (k .ensures),
       k .kept .1 .1 .1 .0 ∙
@@ -235,7 +239,7 @@ pictured-spec =
     same-length
     returns-3
     loop-holds
-    frame-turn-requires
+    turn-requires
     add-i
     loop-less
     loop-again

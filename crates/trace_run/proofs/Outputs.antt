@@ -13,11 +13,11 @@ use Rattle.laws.specs.Lists.{written}
 use Rattle.picture.specs.declared.RenderArea.{RenderArea}
 use Rattle.picture.specs.declared.Screen.{Screen}
 use Rattle.picture.specs.Screen.{frameSize}
 use Rattle.trace_run.specs.declared.Device.{Device}
 use Rattle.trace_text.specs.Text.{longLine}
 use Rattle.trace_run.specs.Run.{World, Turn, start, rowTurn, after, lines, ran}
 use Rattle.trace_end.specs.End.{lastLine, pixels, pictureRoom, drawn}
-use Rattle.trace_output.specs.Output.{text, printed, screenFor, pictured, Left, left, leaves, traced, snapped, TraceLeaves, PictureLeaves}
+use Rattle.trace_run.specs.Output.{text, printed, screenFor, pictured, Left, left, leaves, traced, snapped, TraceLeaves, PictureLeaves}
 use Rattle.trace_text.proofs.Lines.{grow}
 
 -- ---- the whole text

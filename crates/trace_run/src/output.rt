@@ -3,17 +3,16 @@ ghost use mathlib.Core.Path.{_≡_};
 ghost use Prim.Native.Nat.{_+_, _*_, _≤_};
 ghost use lib.ListN.{length, take};
 ghost use Rattle.laws.specs.Lists.{written};
 ghost use Rattle.trace_run.specs.Device.{handheld};
-ghost use Rattle.trace_output.specs.Output.{screenFor, TraceLeaves, PictureLeaves};
+ghost use Rattle.trace_run.specs.Output.{screenFor, TraceLeaves, PictureLeaves};
 ghost use Rattle.trace_run.specs.Run.{frameTurn, layerTurn, turnFor};
+use crate::Device;
+use crate::Run;
+use crate::Shown;
+use crate::turn;
 use picture::Screen;
+use trace_record::Machine;
 use trace_record::put_all;
-use trace_run::Device;
-use trace_run::Machine;
-use trace_run::Run;
-use trace_run::Shown;
-use trace_run::frame_turn;
-use trace_run::row_turn;
 use trace_text::put_answer;
 use vdp::VdpState;
 
@@ -38,10 +37,11 @@ pub fn trace(device: Device, input: &[u8], vram: &mut [u8], row: &mut [u8], out:
         at: 0,
         count: 0,
     };
+    let mut none = [0u8; 0];
     let mut len = 0;
     let mut i = 0;
     while i < input.len() {
-        let turned = row_turn(run, input, vram, row);
+        let turned = turn(run, Shown::Nothing, input, vram, row, &mut none);
         let answer = turned.answer;
         len = put_answer(out, len, answer);
         run = turned.run;
@@ -93,7 +93,7 @@ fn pictured(
     };
     let mut i = 0;
     while i < input.len() {
-        let turned = frame_turn(run, shown, input, vram, row, frame);
+        let turned = turn(run, shown, input, vram, row, frame);
         run = turned.run;
         i += 1;
     }

@@ -1,7 +1,7 @@
--- `trace_output::layers` meets its contract: which layer owns each of its pixels.
+-- `trace_run::output::layers` meets its contract: which layer owns each of its pixels.
 use borrow.Author.Needs.{needs}
-use Rattle.trace_output.proofs.layers.Statement.{statement}
-use Rattle.trace_output.proofs.layers.Tie as tie
+use Rattle.trace_run.proofs.output.layers.Statement.{statement}
+use Rattle.trace_run.proofs.output.layers.Tie as tie
 
 handheld-requires : tie.Need-handheld-requires
 handheld-requires c κs = search needs

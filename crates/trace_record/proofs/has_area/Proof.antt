@@ -1,7 +1,7 @@
--- `trace_run::has_area` meets its contract: whether a machine has steps of this area.
+-- `trace_record::has_area` meets its contract: whether a machine has steps of this area.
 use borrow.Author.Needs.{needs}
-use Rattle.trace_run.proofs.has_area.Statement.{statement}
-use Rattle.trace_run.proofs.has_area.Tie as tie
+use Rattle.trace_record.proofs.has_area.Statement.{statement}
+use Rattle.trace_record.proofs.has_area.Tie as tie
 
 enum-told : tie.Need-enum-told
 enum-told c = search needs

@@ -16,14 +16,15 @@ use Rattle.picture.specs.Area.{areaFrom}
 use Rattle.trace_record.specs.declared.Record.{Record}
 use Rattle.trace_record.specs.declared.Record.the-variants.{Write, Read, Step, Bad, End}
 use Rattle.trace_text.specs.declared.Answer.the-variants as Says
 use Rattle.trace_run.specs.declared.Run.{Run}
 use Rattle.trace_record.specs.Record.{recordAt, marked}
 use Rattle.trace_record.specs.Reader.{isCall}
 use Rattle.trace_text.specs.Text.{lineOf, endLine, badLine}
-use Rattle.trace_run.specs.Run.{World, Turn, rowTurn, turnBy, hasArea, takenBy, recordOn, turnOf, after, lines, ran}
+use Rattle.trace_record.specs.Machine.{hasArea, takenBy, recordOn}
+use Rattle.trace_run.specs.Run.{World, Turn, rowTurn, turnBy, turnOf, after, lines, ran}
 use Rattle.trace_end.specs.End.{lastLine}
-use Rattle.trace_output.specs.Output.{text}
+use Rattle.trace_run.specs.Output.{text}
 use Rattle.trace_run.proofs.Runs.{Moves, row-moves}
 
 -- the record where the run stands, and whether it is a call
 abbrev pub here : List ℕ → Run → Record

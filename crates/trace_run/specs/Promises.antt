@@ -12,13 +12,14 @@ use Rattle.vdp.specs.declared.VdpState.{VdpState}
 use Rattle.trace_record.specs.declared.Record.{Record}
 use Rattle.trace_record.specs.Reader.{isCall, records, stop}
 use Rattle.trace_record.specs.Promises.{allBytes}
-use Rattle.trace_run.specs.declared.Machine.{Machine}
+use Rattle.trace_record.specs.Machine.{takenBy}
+use Rattle.trace_record.specs.declared.Machine.{Machine}
 use Rattle.trace_run.specs.declared.Device.{Device}
 use Rattle.trace_run.specs.declared.Shown.{Shown}
 use Rattle.trace_run.specs.Device.{handheld}
 use Rattle.trace_text.specs.Text.{lineOf, endLine, badLine}
-use Rattle.trace_run.specs.Run.{World, Turn, start, rowTurn, turnFor, turnBy, takenBy, lines, ran}
-use Rattle.trace_output.specs.Output.{text}
+use Rattle.trace_run.specs.Run.{World, Turn, start, rowTurn, turnFor, turnBy, lines, ran}
+use Rattle.trace_run.specs.Output.{text}
 
 -- records, one after another, with steps made as `step` makes them: what they leave, and the lines that they print
 abbrev pub ranAll : (RenderArea → World → Turn) → List Record → World → World
@@ -36,13 +37,12 @@ pub record ReadsAlong (step : RenderArea → World → Turn) (s : List ℕ) (w :
   pub place : ran step s w .run .at ≡ k
   pub count : ran step s w .run .count ≡ length xs
 
--- `trace`, whose steps go into the row buffer, and `snapshot` and `layers`, on the device d with any buffers; and all that `trace` prints
+-- `trace`, `snapshot` and `layers`, each by what its frame shows, on the device d with any buffers; and all that `trace` prints
 abbrev pub Runs : Device → List ℕ → List Record → ℕ → Type 0
 Runs d s xs k =
     (vram row frame : List ℕ)
     → let w = start d vram row frame in
-    ReadsAlong rowTurn s w xs k
-    × ((shown : Shown) → ReadsAlong (turnFor shown) s w xs k)
+    ((shown : Shown) → ReadsAlong (turnFor shown) s w xs k)
     × (text s w ≡ linesAll rowTurn xs w ++ cond (leb (length s) k) (endLine (length xs)) (badLine k))
 
 -- R19.7: any handheld, all that the reader hands out

@@ -15,11 +15,11 @@ use Rattle.vdp.specs.Ports.{portWrite, portRead}
 use Rattle.points.specs.Points.{rowOn, bitsOf, endedBy, reportBy, interruptBy, pointsOf}
 use Rattle.step.specs.Step.{stepped, stepWith}
 use Rattle.trace_record.specs.Record.{recordAt, marked}
 use Rattle.trace_run.specs.Device.{handheld}
 use Rattle.trace_text.specs.Text.{decimal, lineOf, endLine, badLine, longLine}
 use Rattle.trace_run.specs.Run.{start, rowTurn, turnBy, turnOf, after, lines, ran}
 use Rattle.trace_end.specs.End.{lastLine}
-use Rattle.trace_output.specs.Output.{text, printed}
+use Rattle.trace_run.specs.Output.{text, printed}
 
 -- its input: eight records
 pub input : List ℕ

@@ -31,20 +31,21 @@ use Rattle.home.proofs.Kept as homeKept
 use Rattle.home.proofs.Laws as homeLaws
 use Rattle.trace_record.specs.declared.Record.{Record}
 use Rattle.trace_record.specs.declared.Record.the-variants.{Write, Read, Step, Bad, End}
-use Rattle.trace_run.specs.declared.Machine.{Machine}
-use Rattle.trace_run.specs.declared.Machine.the-variants.{Handheld, Home}
+use Rattle.trace_record.specs.declared.Machine.{Machine}
+use Rattle.trace_record.specs.declared.Machine.the-variants.{Handheld, Home}
 use Rattle.trace_run.specs.declared.Device.{Device}
 use Rattle.trace_text.specs.declared.Answer.the-variants as Says
 use Rattle.trace_run.specs.declared.Run.{Run}
 use Rattle.trace_run.specs.declared.Shown.{Shown}
-use Rattle.trace_run.specs.declared.Shown.the-variants.{Colours, Layers}
+use Rattle.trace_run.specs.declared.Shown.the-variants.{Nothing, Colours, Layers}
 use Rattle.trace_run.specs.Device.{withVdp, withHome, AfterWrite, AfterRead, AfterStep, ofHandheld, ofHome, writeOn, rowStepOn, frameStepOn}
 use Rattle.trace_run.specs.Device.{deviceWrite, deviceRead, deviceRowStep, deviceFrameStep}
 use Rattle.trace_text.specs.Text.{lineOf}
 use Rattle.trace_run.specs.Run.{World, Turn, held, start, on, stepAnswer, rowTurn, intoFrame, frameTurn, layersPainted, layersOn, layersInto}
-use Rattle.trace_run.specs.Run.{layerTurn, turnFor, turnBy, recordOn, turnOf, after, lines}
-use Rattle.trace_output.specs.Output.{screenFor}
+use Rattle.trace_record.specs.Machine.{recordOn}
+use Rattle.trace_run.specs.Run.{layerTurn, turnFor, turnBy, turnOf, after, lines}
+use Rattle.trace_run.specs.Output.{screenFor}
 use Rattle.trace_run.proofs.Runs.{write-machine, read-machine, row-machine, frame-machine}
 
 -- ---- what a call writes keeps its length
 module _ (d : Device) (vram : List ℕ) where
@@ -217,6 +218,7 @@ module _ {t w : World} (h : Alike t w) where
 
   step-both : (shown : Shown) (a : RenderArea) → SameTurn (rowTurn a t) (turnFor shown a w)
   unfolding frameTurn layerTurn
+  step-both Nothing a = row-both a
   step-both Colours VisibleOnly = into-both VisibleOnly refl
   step-both Layers VisibleOnly = layers-both VisibleOnly
   step-both Colours EffectiveArea = row-both EffectiveArea

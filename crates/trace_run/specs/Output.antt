@@ -11,12 +11,12 @@ use Rattle.picture.specs.declared.RenderArea.{RenderArea}
 use Rattle.picture.specs.declared.Screen.{Screen}
 use Rattle.picture.specs.declared.Screen.the-variants as On
 use Rattle.picture.specs.Screen.{frameSize}
-use Rattle.trace_run.specs.declared.Machine.{Machine}
-use Rattle.trace_run.specs.declared.Machine.the-variants.{Handheld, Home}
+use Rattle.trace_record.specs.declared.Machine.{Machine}
+use Rattle.trace_record.specs.declared.Machine.the-variants.{Handheld, Home}
 use Rattle.trace_run.specs.declared.Device.{Device}
 use Rattle.trace_text.specs.Text.{longLine}
 use Rattle.trace_end.specs.End.{lastLine, drawn, pictureRoom}
 use Rattle.trace_run.specs.Run.{World, Turn, rowTurn, lines, ran, start}
 
 -- R7.8: the longest recording that is run
 abbrev pub longest : ℕ
