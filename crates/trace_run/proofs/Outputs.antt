@@ -17,7 +17,7 @@ use Rattle.trace_run.specs.declared.Device.{Device}
 use Rattle.trace_text.specs.Text.{longLine}
 use Rattle.trace_run.specs.Run.{World, Turn, start, rowTurn, after, lines, ran}
 use Rattle.trace_end.specs.End.{lastLine, pixels, pictureRoom, drawn}
-use Rattle.trace_run.specs.Output.{text, printed, screenFor, pictured, Left, left, leaves, traced, snapped, TraceLeaves, PictureLeaves}
+use Rattle.trace_run.specs.Output.{text, printed, screenFor, pictured, Left, left, leaves, traced, snapped, TraceLeaves, RunLeaves, PictureLeaves}
 use Rattle.trace_text.proofs.Lines.{grow}
 
 -- ---- the whole text
@@ -133,6 +133,29 @@ snapshot-leaves step x e =
       memory = ap (λ (l : Left). l .vram) e;
       pixels = ap (λ (l : Left). l .row) e;
       picture = ap (λ (l : Left). l .frame) e;
+    }
+
+-- the buffers of a whole recording, in the place of its world
+pub ran-leaves : {w : World} {x : World} → x ≡ w → RunLeaves w (x .run .at) (x .vram) (x .row) (x .frame)
+ran-leaves e =
+    record {
+      place = ap (λ (y : World). y .run .at) e;
+      memory = ap (λ (y : World). y .vram) e;
+      pixels = ap (λ (y : World). y .row) e;
+      picture = ap (λ (y : World). y .frame) e;
+    }
+
+pub same-leaves :
+    {step : RenderArea → World → Turn} {d : Device} {s vram row frame o o′ : List ℕ} {w : World} {n k : ℕ} {vram′ row′ frame′ : List ℕ}
+    → RunLeaves w k vram′ row′ frame′ → PictureLeaves step d s vram row frame o n (w .vram) (w .row) (w .frame) o′
+    → PictureLeaves step d s vram row frame o n vram′ row′ frame′ o′
+same-leaves l p =
+    record {
+      count = p .count;
+      bytes = p .bytes;
+      memory = l .memory ∙ p .memory;
+      pixels = l .pixels ∙ p .pixels;
+      picture = l .picture ∙ p .picture;
     }
 
 -- what lending the first n bytes of a buffer asks

@@ -44,6 +44,13 @@ screenFor Home = On.Home
 unfoldable pub pictured : (RenderArea → World → Turn) → List ℕ → World → List ℕ
 pictured step s w = cond (tooLong s) longLine (drawn (screenFor (w .run .device .machine)) s (ran step s w .run .at) (ran step s w .frame))
 
+-- What a whole recording promises of its place at and of the buffers after it, where w is the world that it leaves.
+pub record RunLeaves (w : World) (at : ℕ) (vram row frame : List ℕ) : Type 0 where
+  pub place : at ≡ w .run .at
+  pub memory : vram ≡ w .vram
+  pub pixels : row ≡ w .row
+  pub picture : frame ≡ w .frame
+
 -- What a call leaves: a number of bytes at the start of its buffer, and the buffers of the run.
 pub record Left : Type 0 where
   pub len : ℕ

@@ -4,8 +4,8 @@ ghost use Prim.Native.Nat.{_+_, _*_, _≤_};
 ghost use lib.ListN.{length, take};
 ghost use Rattle.laws.specs.Lists.{written};
 ghost use Rattle.trace_run.specs.Device.{handheld};
-ghost use Rattle.trace_run.specs.Output.{screenFor, TraceLeaves, PictureLeaves};
-ghost use Rattle.trace_run.specs.Run.{frameTurn, layerTurn, turnFor};
+ghost use Rattle.trace_run.specs.Output.{longest, screenFor, RunLeaves, TraceLeaves, PictureLeaves};
+ghost use Rattle.trace_run.specs.Run.{frameTurn, layerTurn, frameFor, turnFor, start, ran};
 use crate::Device;
 use crate::Run;
 use crate::Shown;
@@ -60,6 +60,32 @@ fn screen_for(machine: Machine) -> Screen
     }
 }
 
+// A whole recording, record by record; answers where the run then stands.
+fn run_all(
+    device: Device,
+    shown: Shown,
+    input: &[u8],
+    vram: &mut [u8],
+    row: &mut [u8],
+    frame: &mut [u8],
+) -> usize
+    requires { ⌜ (length (now input) ≤ longest) × (frameFor shown ≤ length (now frame)) ⌝ }
+    ensures { λ r. ⌜ RunLeaves (ran (turnFor shown) (now (input .entry)) (start device (now (vram .entry)) (now (row .entry)) (now (frame .entry)))) r (now (vram .exit)) (now (row .exit)) (now (frame .exit)) ⌝ }
+{
+    let mut run = Run {
+        device: device,
+        at: 0,
+        count: 0,
+    };
+    let mut i = 0;
+    while i < input.len() {
+        let turned = turn(run, shown, input, vram, row, frame);
+        run = turned.run;
+        i += 1;
+    }
+    run.at
+}
+
 // What a recording's visible steps show in the frame, run on this device, at the start of out, and how long it is; of a bad or long recording, only
 // the line that says so. Without room for a picture, or with a frame of another length, nothing happens.
 fn pictured(
@@ -86,18 +112,8 @@ fn pictured(
     if LONGEST < input.len() {
         return put_all(out, 0, b"long\n");
     }
-    let mut run = Run {
-        device: device,
-        at: 0,
-        count: 0,
-    };
-    let mut i = 0;
-    while i < input.len() {
-        let turned = turn(run, shown, input, vram, row, frame);
-        run = turned.run;
-        i += 1;
-    }
-    trace_end::put_picture(out, screen, input, run.at, frame)
+    let at = run_all(device, shown, input, vram, row, frame);
+    trace_end::put_picture(out, screen, input, at, frame)
 }
 
 // R7.13, R20.9: the picture that the steps of the visible size draw, and those of the home machine.
