@@ -89,10 +89,6 @@ lanes-is (suc n) w f h e =
           (λ k q. sym (lane-suc w k) ∙ e (suc k) (omega arith)),
     )
 
-digit-le : (b : Bool) → digit b ≤ 1
-digit-le true = omega arith
-digit-le false = omega arith
-
 -- ---- the bits of a byte in the other order, by a sweep over all bytes
 reverses : ℕ → ℕ
 reverses b =
@@ -105,36 +101,31 @@ pub reversed-is : (b x y : ℕ) → b < 256 → x ≡ bitOr (b * 16 % 256) (b / 
 unfolding reverses number bit
 reversed-is b x y h e q = rw (q, e) (same 256 reverses (λ b. number 8 (λ k. bit b (7 - k))) tt b h)
 
--- ---- codes
-pub code-lt : (b0 b1 b2 b3 k : ℕ) → codeOf b0 b1 b2 b3 k < 16
-unfolding codeOf
-code-lt b0 b1 b2 b3 k = omega (arith, digit-le (bit b0 k), digit-le (bit b1 k), digit-le (bit b2 k), digit-le (bit b3 k))
-
-pub lane-code : (b0 b1 b2 b3 w : ℕ) (g : ℕ → ℕ) → w ≡ lanes 8 (λ k. codeOf b0 b1 b2 b3 (7 - g k)) → (i : ℕ) → i < 8 → lane w i ≡ codeOf b0 b1 b2 b3
-    (7 - g i)
-lane-code b0 b1 b2 b3 w g e i h =
-    ap (λ (x : ℕ). lane x i) e
-    ∙ lane-lanes 8 (λ k. codeOf b0 b1 b2 b3 (7 - g k)) (λ k. omega (arith, code-lt b0 b1 b2 b3 (7 - g k))) i h
-
--- ---- the lanes in the other order
-pub mirrored-is :
-    (w : ℕ) (f : ℕ → ℕ) → ((k : ℕ) → f k < 256) → w ≡ lanes 8 f
-    → w / 0x0100000000000000 % 256 + w / 0x0001000000000000 % 256 * 0x0000000000000100 + w / 0x0000010000000000 % 256 * 0x0000000000010000
-    + w / 0x0000000100000000 % 256 * 0x0000000001000000 + w / 0x0000000001000000 % 256 * 0x0000000100000000
-    + w / 0x0000000000010000 % 256 * 0x0000010000000000 + w / 0x0000000000000100 % 256 * 0x0001000000000000 + w % 256 * 0x0100000000000000
-    ≡ lanes 8 (λ k. f (7 - k))
+-- ---- the lanes in the other order, by fours
+pub half-mirrored-is : (w : ℕ) → w / 16777216 % 256 + w / 65536 % 256 * 256 + w / 256 % 256 * 65536 + w % 256 * 16777216 ≡ lanes 4 (λ k. lane w (3 - k))
 unfolding lanes lane
-mirrored-is w f h e =
-    let l : (i : ℕ) → i < 8 → lane w i ≡ f i = λ i q. ap (λ (x : ℕ). lane x i) e ∙ lane-lanes 8 f h i q in
-    let e0 : w % 256 ≡ f 0 = sym (lane-zero w) ∙ l 0 (omega arith) in
-    let e1 : w / 0x0000000000000100 % 256 ≡ f 1 = l 1 (omega arith) in
-    let e2 : w / 0x0000000000010000 % 256 ≡ f 2 = l 2 (omega arith) in
-    let e3 : w / 0x0000000001000000 % 256 ≡ f 3 = l 3 (omega arith) in
-    let e4 : w / 0x0000000100000000 % 256 ≡ f 4 = l 4 (omega arith) in
-    let e5 : w / 0x0000010000000000 % 256 ≡ f 5 = l 5 (omega arith) in
-    let e6 : w / 0x0001000000000000 % 256 ≡ f 6 = l 6 (omega arith) in
-    let e7 : w / 0x0100000000000000 % 256 ≡ f 7 = l 7 (omega arith) in
-    rw (e0, e1, e2, e3, e4, e5, e6, e7) (omega arith)
+half-mirrored-is w =
+    let four : (a b c d : ℕ) → a + b * 256 + c * 65536 + d * 16777216 ≡ a + 256 * (b + 256 * (c + 256 * (d + 256 * 0))) = λ a b c d. omega arith in
+    ap (λ (d : ℕ). w / 16777216 % 256 + w / 65536 % 256 * 256 + w / 256 % 256 * 65536 + d * 16777216) (sym (lane-zero w))
+    ∙ four (w / 16777216 % 256) (w / 65536 % 256) (w / 256 % 256) (lane w 0)
+
+pub mirrored-is : (w : ℕ) {a b : ℕ} → a ≡ lanes 4 (λ k. lane (w / 4294967296) (3 - k)) → b ≡ lanes 4 (λ k. lane w (3 - k))
+    → a + b * 4294967296 ≡ lanes 8 (λ k. lane w (7 - k))
+unfolding lanes
+mirrored-is w p q =
+    let eight : (a b c d e f g h : ℕ) → a + 256 * (b + 256 * (c + 256 * (d + 256 * 0))) + (e + 256 * (f + 256 * (g + 256 * (h + 256 * 0)))) * 4294967296
+    ≡ a + 256 * (b + 256 * (c + 256 * (d + 256 * (e + 256 * (f + 256 * (g + 256 * (h + 256 * 0))))))) = λ a b c d e f g h. omega arith in
+    rw (p, q, lane-past w 4 3, lane-past w 4 2, lane-past w 4 1, lane-past w 4 0)
+    (eight (lane w 7) (lane w 6) (lane w 5) (lane w 4) (lane w 3) (lane w 2) (lane w 1) (lane w 0))
+
+lanes-ext : (n : ℕ) (f g : ℕ → ℕ) → ((k : ℕ) → k < n → f k ≡ g k) → lanes n f ≡ lanes n g
+unfolding lanes
+lanes-ext zero f g e = refl
+lanes-ext (suc n) f g e = rw (e 0 (omega arith), lanes-ext n (λ k. f (suc k)) (λ k. g (suc k)) (λ k h. e (suc k) (omega arith)))
+
+-- lanes that are known, in the other order
+pub turned-lanes : (f : ℕ → ℕ) → ((k : ℕ) → f k < 256) → {w : ℕ} → w ≡ lanes 8 f → lanes 8 (λ k. lane w (7 - k)) ≡ lanes 8 (λ k. f (7 - k))
+turned-lanes f h e = lanes-ext 8 _ _ (λ k l. ap (λ (x : ℕ). lane x (7 - k)) e ∙ lane-lanes 8 f h (7 - k) (omega arith))
 
 -- ---- which pixels are not of code 0
 some : (d0 d1 d2 d3 : Bool) → ((d0 || d2) || (d1 || d3)) ≡ not (eqb (digit d0 + 2 * digit d1 + 4 * digit d2 + 8 * digit d3) 0)

@@ -15,7 +15,7 @@ use borrow.Author.Tests.{lt-ltb, le-ltb, ltb-true}
 use Rattle.laws.specs.Bits.{bit, digit, number, byteOf}
 use Rattle.laws.specs.Lists.{at}
 use Rattle.laws.specs.Paint.{put, painted, overlaid, byteOfColour, ofBytes, fourAt}
-use Rattle.laws.proofs.Bits.{bit-and, byte-is}
+use Rattle.laws.proofs.Bits.{bit-and, bit-number, bit-byteOf, number-ext, number-lt, byte-is}
 use Rattle.laws.proofs.Any.{bit-of}
 use Rattle.laws.proofs.Bytes.{byte-0, byte-1, byte-2, byte-3, of-bytes}
 use Rattle.laws.proofs.Paint.{painted-step, painted-byte, overlaid-all}
@@ -25,11 +25,12 @@ use Rattle.laws.proofs.Sweep.{below}
 use Rattle.laws.proofs.Sweep as sweep
 use Rattle.picture.specs.Tile.{codeOf, codeAt, turned}
 use Rattle.picture.specs.Picture.{solid}
+use Rattle.picture.proofs.Laws.{code-at-lt}
 use Rattle.tile.specs.Lanes.{lanes, lane}
-use Rattle.tile.specs.Line.{colourBytes, coloursIn, lineColour, lineSolid, lineMarked, lineDrawn, lineHeld}
+use Rattle.tile.specs.Line.{colourBytes, coloursIn, lineSolid, lineMarked, lineDrawn, lineHeld}
 use Rattle.tile.proofs.Marks.{marked-past, drawn-past, held-past}
 use Rattle.tile.proofs.Squares.{digit-same}
-use Rattle.tile.proofs.Lanes.{lane-zero, lane-code, solid-bit}
+use Rattle.tile.proofs.Lanes.{lane-zero, lane-lanes, lane-bytes, solid-bit}
 
 -- ---- 16 of the colours
 pub half-length : (l : List ℕ) (p : ℕ) → p + 16 ≤ length l → length (take (p + 16 - p) (drop p l)) ≡ 16
@@ -75,11 +76,11 @@ colours-back cs n low =
     let f3 = byte-at cs i 3 h (omega arith) in
     sym (of-bytes (at cs i) (low i)) ∙ (λ j. ofBytes (f0 j) (f1 j) (f2 j) (f3 j))))
 
-pub part-length : (l : List ℕ) (p : ℕ) → length l ≡ 128 → p ≤ 16 → length (take (4 * p + 64 - 4 * p) (drop (4 * p) l)) ≡ 64
+part-length : (l : List ℕ) (p : ℕ) → length l ≡ 128 → p ≤ 16 → length (take (4 * p + 64 - 4 * p) (drop (4 * p) l)) ≡ 64
 part-length l p n h = simp (length-take, length-drop) (omega arith)
 
 -- four bytes of 16 of the colours
-pub part-four : (l : List ℕ) (p k : ℕ) → p ≤ 16 → k < 16 → fourAt (take (4 * p + 64 - 4 * p) (drop (4 * p) l)) (4 * k) ≡ at (coloursIn l) (p + k)
+part-four : (l : List ℕ) (p k : ℕ) → p ≤ 16 → k < 16 → fourAt (take (4 * p + 64 - 4 * p) (drop (4 * p) l)) (4 * k) ≡ at (coloursIn l) (p + k)
 part-four l p k hp h =
     let e : (j b : ℕ) → j ≡ 4 * k + b → b < 4 → at (take (4 * p + 64 - 4 * p) (drop (4 * p) l)) j ≡ at l (4 * p + j) =
     λ j b q m. let r : j < 4 * p + 64 - 4 * p = omega arith in getD-take (4 * p + 64 - 4 * p) (drop (4 * p) l) j 0 r ∙ getD-drop (4 * p) l j 0 in
@@ -91,6 +92,16 @@ part-four l p k hp h =
     let e2 = f 2 (omega arith) in
     let e3 = f 3 (omega arith) in
     (λ i. ofBytes (e0 i) (e1 i) (e2 i) (e3 i)) ∙ sym (colours-at l (p + k) (omega arith))
+
+-- lanes that are colours' numbers, times 4, among the bytes of 16 of the colours
+module _ (table : List ℕ) (p codes : ℕ) (n : length table ≡ 128) (hp : p ≤ 16) (f : codes < 2 ^ 64) (h : (k : ℕ) → k < 8 → lane codes k < 16) where
+  pub place-fits : (k : ℕ) → k < 8 → lane (codes * 4 % 2 ^ 64) k + 4 ≤ length (take (4 * p + 64 - 4 * p) (drop (4 * p) table))
+  place-fits k l = rw (part-length table p n hp, lane-bytes codes f h k l) (omega (arith, h k l))
+
+  pub place-four : (k : ℕ) → k < 8 → fourAt (take (4 * p + 64 - 4 * p) (drop (4 * p) table)) (lane (codes * 4 % 2 ^ 64) k) ≡ at (coloursIn table)
+      (p + lane codes k)
+  place-four k l =
+      ap (fourAt (take (4 * p + 64 - 4 * p) (drop (4 * p) table))) (lane-bytes codes f h k l) ∙ part-four table p (lane codes k) hp (h k l)
 
 -- ---- a line by the four bytes x that stand at addr
 abbrev pub all : ℕ → ℕ
@@ -111,23 +122,34 @@ module _ (vram : List ℕ) (addr x : ℕ) (small : (k : ℕ) → at vram k < 256
         ap (λ (n : ℕ). n / 16777216 % 256) e ∙ byte-3 _ _ _ _ h0 h1 h2 h3,
       )
 
-  line-code : (p : ℕ) → codeOf (lane x 0) (lane x 1) (lane x 2) (lane x 3) (7 - p) ≡ codeAt (at vram) addr p
+  pub codes-at : (flip : Bool) → lanes 8 (λ k. codeOf (lane x 0) (lane x 1) (lane x 2) (lane x 3) (7 - turned flip k))
+      ≡ lanes 8 (λ k. codeAt (at vram) addr (turned flip k))
   unfolding codeAt
-  line-code p = rw (planes .0, planes .1, planes .2, planes .3)
+  codes-at flip = λ i. lanes 8 (λ k. codeOf (planes .0 i) (planes .1 i) (planes .2 i) (planes .3 i) (7 - turned flip k))
 
-  pub lane-at : (flip : Bool) (w : ℕ) → w ≡ lanes 8 (λ k. codeOf (lane x 0) (lane x 1) (lane x 2) (lane x 3) (7 - turned flip k))
-      → (i : ℕ) → i < 8 → lane w i ≡ codeAt (at vram) addr (turned flip i)
-  lane-at flip w q i h = lane-code (lane x 0) (lane x 1) (lane x 2) (lane x 3) w (turned flip) q i h ∙ line-code (turned flip i)
+  pub bits-at : (flip : Bool) → number 8 (λ k. bit (all x) (7 - turned flip k)) ≡ number 8 (lineSolid vram addr flip 0)
+  unfolding codeAt
+  bits-at flip =
+      number-ext 8 _ _ (λ k h.
+      solid-bit (lane x 0) (lane x 1) (lane x 2) (lane x 3) (7 - turned flip k)
+      ∙ (λ i. not (eqb (codeOf (planes .0 i) (planes .1 i) (planes .2 i) (planes .3 i) (7 - turned flip (sym (zero-add k) i))) 0)))
 
-  pub line-colour : (flip : Bool) (colours : List ℕ) (palette start w : ℕ)
-      → w ≡ lanes 8 (λ k. codeOf (lane x 0) (lane x 1) (lane x 2) (lane x 3) (7 - turned flip k))
-      → (i : ℕ) → start + i < 8 → at colours (palette + lane w (start + i)) ≡ lineColour colours palette vram addr flip start i
-  line-colour flip colours palette start w q i h = ap (λ (k : ℕ). at colours (palette + k)) (lane-at flip w q (start + i) h)
+-- ---- a line by its codes and its bits
+module _ (vram : List ℕ) (addr : ℕ) (flip : Bool) {w : ℕ} (e : w ≡ lanes 8 (λ k. codeAt (at vram) addr (turned flip k))) where
+  pub lane-at : (i : ℕ) → i < 8 → lane w i ≡ codeAt (at vram) addr (turned flip i)
+  lane-at i h =
+      ap (λ (x : ℕ). lane x i) e
+      ∙ lane-lanes 8 (λ k. codeAt (at vram) addr (turned flip k)) (λ k. omega (arith, code-at-lt (at vram) addr (turned flip k))) i h
 
-  pub line-solid : (flip : Bool) (start i : ℕ) → bit (all x) (7 - turned flip (start + i)) ≡ lineSolid vram addr flip start i
-  line-solid flip start i =
-      solid-bit (lane x 0) (lane x 1) (lane x 2) (lane x 3) (7 - turned flip (start + i))
-      ∙ ap (λ (n : ℕ). not (eqb n 0)) (line-code (turned flip (start + i)))
+  pub lane-low : (i : ℕ) → i < 8 → lane w i < 16
+  lane-low i h = rw (lane-at i h) (code-at-lt (at vram) addr (turned flip i))
+
+pub bit-at : (vram : List ℕ) (addr : ℕ) (flip : Bool) {b : ℕ} → b ≡ number 8 (lineSolid vram addr flip 0) → (start i : ℕ) → start + i < 8
+    → bit b (start + i) ≡ lineSolid vram addr flip start i
+bit-at vram addr flip e start i h =
+    ap (λ (n : ℕ). bit n (start + i)) e
+    ∙ bit-number 8 _ (start + i) h
+    ∙ ap (λ (k : ℕ). not (eqb (codeAt (at vram) addr (turned flip k)) 0)) (zero-add (start + i))
 
 -- ---- a sprite
 pub overlaid-cong : (row : List ℕ) (x n : ℕ) (s t : ℕ → Bool) (f g : ℕ → ℕ) → ((i : ℕ) → i < n → s i ≡ t i) → ((i : ℕ) → i < n → f i ≡ g i) →
@@ -190,10 +212,10 @@ bit-all k h = digit-same _ _ (eqb→eq _ _ (sweep.at 8 (λ j. eqb (digit (bit 25
 pub whole-room : (width x k : ℕ) → x + 8 ≤ width → k < 8 → bit 255 k ≡ ltb (x + k) width
 whole-room width x k h l = let q : x + k < width = omega arith in bit-all k l ∙ sym (lt-ltb (x + k) width q)
 
-pub whole-solid : (vram : List ℕ) (addr bits k : ℕ) → k < 8 → bit bits k ≡ lineSolid vram addr false 0 k → bit bits k ≡ solid 0 8
+pub whole-solid : (vram : List ℕ) (addr : ℕ) {b : ℕ} (k : ℕ) → k < 8 → b ≡ number 8 (lineSolid vram addr false 0) → bit b k ≡ solid 0 8
     (codeAt (at vram) addr) k
 unfolding solid
-whole-solid vram addr bits k h e = let q : 0 + k < 8 = omega arith in e ∙ rw (lt-ltb (0 + k) 8 q)
+whole-solid vram addr k h e = let q : 0 + k < 8 = omega arith in ap (λ (n : ℕ). bit n k) e ∙ bit-number 8 _ k h ∙ rw (lt-ltb (0 + k) 8 q)
 
 -- part of a line: n pixels from pixel start on, and those that the row has
 pub part-solid : (vram : List ℕ) (addr start end n k : ℕ) (f : ℕ → Bool) → start < end → end ≤ 8 → n ≡ end - start →
@@ -231,10 +253,16 @@ unfolding bit
 no-bit k = rw (zero-div (2 ^ k))
 
 -- what is drawn is in the row
-pub in-the-row : (vram : List ℕ) (addr start end held taken width x k : ℕ) → lineDrawn vram addr start end held taken width x k ≡ true → x + k < width
-unfolding lineDrawn
-in-the-row vram addr start end held taken width x k e =
-    ltb-true (x + k) width (both (lineMarked vram addr start end held k && not (bit taken k)) (ltb (x + k) width) e .1)
+pub in-the-row : (a room width x k : ℕ) {drawn : ℕ} → drawn ≡ bitAnd a room → room ≡ byteOf (λ j. ltb (x + j) width) → k < 8 → bit drawn k ≡ true
+    → x + k < width
+in-the-row a room width x k ed er h t =
+    ltb-true (x + k) width
+    (sym (ap (λ (n : ℕ). bit n k) er ∙ bit-byteOf (λ j. ltb (x + j) width) k h)
+    ∙ both (bit a k) (bit room k) (sym (ap (λ (n : ℕ). bit n k) ed ∙ bit-and a room k) ∙ t) .1)
+
+pub byte-lt : (f : ℕ → Bool) → byteOf f < 256
+unfolding byteOf
+byte-lt f = number-lt 8 f
 
 -- of a line with no column nothing is marked, drawn or held back
 module _ (vram : List ℕ) (addr start end held taken width x : ℕ) (h : end ≤ start) where

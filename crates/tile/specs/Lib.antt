@@ -2,3 +2,4 @@
 pub mod Line
 pub mod Lanes
 pub mod Layer
+pub mod Fours

@@ -8,13 +8,22 @@ ghost use lib.Dec.{ltb};
 ghost use Rattle.laws.specs.Bits.{bit, number, byteOf};
 ghost use Rattle.laws.specs.Lists.{at};
 ghost use Rattle.laws.specs.Paint.{put, painted, putIf, overlaid, fourAt};
-ghost use Rattle.picture.specs.Tile.{codeOf, codeAt, turned};
+ghost use Rattle.picture.specs.Tile.{codeAt, turned};
 ghost use Rattle.picture.specs.Picture.{solid};
 ghost use Rattle.picture.specs.Layers.{owner};
 ghost use Rattle.tile.specs.Lanes.{lanes, lane, exchange};
 ghost use Rattle.tile.specs.Layer.{stamped};
+ghost use Rattle.tile.specs.Fours.{fours, oneOf, chosenOf};
 ghost use Rattle.tile.specs.Line.{colourBytes, coloursIn, lineColour, lineSolid, lineMarked, lineDrawn, lineHeld, spriteColour};
 use column::Columns;
+
+// Four colours, of pixels side by side.
+struct Four {
+    a: u32,
+    b: u32,
+    c: u32,
+    d: u32,
+}
 
 // ---- marks
 
@@ -27,42 +36,6 @@ pub fn mark(bits: u8, i: usize, on: bool) -> u8
 }
 
 // ---- one pixel
-
-// The code of a tile's pixel: bit `offset` of its four bytes, byte 0 lowest.
-fn color_code(b0: u8, b1: u8, b2: u8, b3: u8, offset: usize) -> usize
-    requires { ⌜ offset < 8 ⌝ }
-    ensures { λ r. ⌜ r ≡ codeOf b0 b1 b2 b3 offset ⌝ }
-    ensures { λ r. ⌜ r < 16 ⌝ }
-{
-    small::wide(
-        (((b3 >> offset) & 1) << 3)
-            | (((b2 >> offset) & 1) << 2)
-            | (((b1 >> offset) & 1) << 1)
-            | (((b0 >> offset) & 1) << 0),
-    )
-}
-
-// The bit at which pixel p of a tile's line stands: the leftmost at bit 7, or at bit 0 where the tile is flipped.
-fn offset_of(flip: bool, p: usize) -> usize
-    requires { ⌜ p < 8 ⌝ }
-    ensures { λ r. ⌜ r ≡ 7 - turned flip p ⌝ }
-    ensures { λ r. ⌜ r < 8 ⌝ }
-{
-    if flip { p } else { 7 - p }
-}
-
-// The code of pixel p of the line at addr.
-pub fn pixel_code(vram: &[u8], addr: usize, flip: bool, p: usize) -> usize
-    requires { ⌜ (p < 8) × (addr + 4 ≤ length (now vram)) ⌝ }
-    ensures { λ r. ⌜ r ≡ codeAt (at (now (vram .entry))) addr (turned flip p) ⌝ }
-    ensures { λ r. ⌜ r < 16 ⌝ }
-{
-    let p0 = vram[addr];
-    let p1 = vram[addr + 1];
-    let p2 = vram[addr + 2];
-    let p3 = vram[addr + 3];
-    color_code(p0, p1, p2, p3, offset_of(flip, p))
-}
 
 // The four bytes of a colour, at pixel x of the row.
 pub fn pixel_set_full(row: &mut [u8], x: usize, c: u32)
@@ -86,13 +59,6 @@ fn pixel_set_if(shown: bool, row: &mut [u8], x: usize, c: u32)
     }
 }
 
-// The first colour where `on`, else the second.
-fn chosen(on: bool, a: u32, b: u32) -> u32
-    ensures { λ r. ⌜ r ≡ cond on a b ⌝ }
-{
-    if on { a } else { b }
-}
-
 // ---- the eight codes of a line at once, a byte of one number to each
 
 // The bits of x that are s places apart, exchanged where m has the lower of the two.
@@ -104,33 +70,38 @@ fn exchanged(x: u64, s: usize, m: u64) -> u64
     x ^ t ^ t << s
 }
 
-// The lanes in the other order.
-fn mirrored(w: u64) -> u64
-    ensures { λ r. ⌜ ((f : ℕ → ℕ) → ((k : ℕ) → f k < 256) → w ≡ lanes 8 f → r ≡ lanes 8 (λ k. f (7 - k))) ⌝ }
+// The four lowest lanes in the other order.
+fn half_mirrored(w: u64) -> u64
+    ensures { λ r. ⌜ r ≡ lanes 4 (λ k. lane w (3 - k)) ⌝ }
+    ensures { λ r. ⌜ r < 4294967296 ⌝ }
 {
-    w / 0x0100000000000000 % 256
-        + w / 0x0001000000000000 % 256 * 0x0000000000000100
-        + w / 0x0000010000000000 % 256 * 0x0000000000010000
-        + w / 0x0000000100000000 % 256 * 0x0000000001000000
-        + w / 0x0000000001000000 % 256 * 0x0000000100000000
-        + w / 0x0000000000010000 % 256 * 0x0000010000000000
-        + w / 0x0000000000000100 % 256 * 0x0001000000000000
-        + w % 256 * 0x0100000000000000
+    w / 0x01000000 % 256
+        + w / 0x00010000 % 256 * 0x00000100
+        + w / 0x00000100 % 256 * 0x00010000
+        + w % 256 * 0x01000000
 }
 
-// The codes of a line whose four bytes are the lanes of x, the leftmost pixel's in lane 0. The bits of x stand in rows of eight, a byte to a
-// row; with rows and columns exchanged, by squares of four, of two and of one, each lane is a code.
-fn codes_of(flip: bool, x: u32) -> u64
-    ensures { λ r. ⌜ r ≡ lanes 8 (λ k. codeOf (lane x 0) (lane x 1) (lane x 2) (lane x 3) (7 - turned flip k)) ⌝ }
+// The lanes in the other order, which the compiler makes one instruction.
+fn mirrored(w: u64) -> u64
+    ensures { λ r. ⌜ r ≡ lanes 8 (λ k. lane w (7 - k)) ⌝ }
 {
-    let long = x as u64;
+    half_mirrored(w / 0x0000000100000000) + half_mirrored(w) * 0x0000000100000000
+}
+
+// The codes of the line at addr, the leftmost pixel's in lane 0. The bits of its four bytes stand in rows of eight, a byte to a row; with rows
+// and columns exchanged, by squares of four, of two and of one, each lane is a code.
+fn codes_of(vram: &[u8], addr: usize, flip: bool) -> u64
+    requires { ⌜ addr + 4 ≤ length (now vram) ⌝ }
+    ensures { λ r. ⌜ r ≡ lanes 8 (λ k. codeAt (at (now (vram .entry))) addr (turned flip k)) ⌝ }
+{
+    let long = small::four_at(vram, addr) as u64;
     let fours = (long | long << 28) & 0x0F0F0F0F0F0F0F0F;
     let twos = exchanged(fours, 14, 0x0000CCCC0000CCCC);
     let w = exchanged(twos, 7, 0x00AA00AA00AA00AA);
     if flip { w } else { mirrored(w) }
 }
 
-// A bit for each pixel of that line, the leftmost's highest, which is set where the code is not 0.
+// A bit for each pixel of a line whose four bytes are the lanes of x, the leftmost's highest, which is set where the code is not 0.
 fn solid_of(x: u32) -> u8
     ensures { λ r. ⌜ r ≡ bitOr (bitOr (lane x 0) (lane x 2)) (bitOr (lane x 1) (lane x 3)) ⌝ }
 {
@@ -147,11 +118,30 @@ fn reversed(b: u8) -> u8
     (y & 0x55) << 1 | y >> 1 & 0x55
 }
 
-// A bit for each pixel of the line, the leftmost's lowest, of a byte that has the leftmost's highest.
-fn faced(flip: bool, b: u8) -> u8
-    ensures { λ r. ⌜ r ≡ number 8 (λ k. bit b (7 - turned flip k)) ⌝ }
+// A bit for each pixel of the line at addr, the leftmost's lowest, which is set where the code is not 0.
+fn solids_of(vram: &[u8], addr: usize, flip: bool) -> u8
+    requires { ⌜ addr + 4 ≤ length (now vram) ⌝ }
+    ensures { λ r. ⌜ r ≡ number 8 (lineSolid (now (vram .entry)) addr flip 0) ⌝ }
 {
+    let b = solid_of(small::four_at(vram, addr));
     if flip { b } else { reversed(b) }
+}
+
+// The code in lane k.
+fn color_code(codes: u64, k: usize) -> usize
+    requires { ⌜ k < 8 ⌝ }
+    ensures { λ r. ⌜ r ≡ lane codes k ⌝ }
+{
+    ((codes >> (8 * k)) % 256) as usize
+}
+
+// The code of pixel p of the line at addr.
+pub fn pixel_code(vram: &[u8], addr: usize, flip: bool, p: usize) -> usize
+    requires { ⌜ (p < 8) × (addr + 4 ≤ length (now vram)) ⌝ }
+    ensures { λ r. ⌜ r ≡ codeAt (at (now (vram .entry))) addr (turned flip p) ⌝ }
+    ensures { λ r. ⌜ r < 16 ⌝ }
+{
+    color_code(codes_of(vram, addr, flip), p)
 }
 
 // n bits of a byte, from bit `start` on.
@@ -165,28 +155,21 @@ fn cut(bits: u8, start: usize, n: usize) -> u8
 
 // ---- the background
 
-// The colours that the first n lanes name, from pixel x of the row on.
-fn paint(row: &mut [u8], colours: &[u32], x: usize, codes: u64, n: usize)
-    requires { ⌜ (n ≤ 8) × ((x + n) * 4 ≤ length (now row)) × ((k : ℕ) → k < n → lane codes k < length (now colours)) ⌝ }
-    ensures { λ r. ⌜ now (row .exit) ≡ painted (now (row .entry)) x n (λ k. at (now (colours .entry)) (lane codes k)) ⌝ }
-{
-    let mut w = codes;
-    let mut i: usize = 0;
-    while i < n {
-        let c = (w % 256) as usize;
-        pixel_set_full(row, x + i, colours[c]);
-        w = w / 256;
-        i += 1;
-    }
-}
-
-// The same by 16 of the colours, from colour `palette` on.
-fn paint_by(row: &mut [u8], colours: &[u32], palette: usize, x: usize, codes: u64, n: usize)
+// The colours that the first n lanes name, of 16 of the colours from colour `palette` on, from pixel x of the row on.
+fn paint(row: &mut [u8], colours: &[u32], palette: usize, x: usize, codes: u64, n: usize)
     requires { ⌜ (n ≤ 8) × ((x + n) * 4 ≤ length (now row)) × (palette + 16 ≤ length (now colours)) × ((k : ℕ) → k < n → lane codes k < 16) ⌝ }
     ensures { λ r. ⌜ now (row .exit) ≡ painted (now (row .entry)) x n (λ k. at (now (colours .entry)) (palette + lane codes k)) ⌝ }
 {
     let top = palette + 16;
-    paint(row, &colours[palette..top], x, codes, n);
+    let some = &colours[palette..top];
+    let mut w = codes;
+    let mut i: usize = 0;
+    while i < n {
+        let c = (w % 256) as usize;
+        pixel_set_full(row, x + i, some[c]);
+        w = w / 256;
+        i += 1;
+    }
 }
 
 // ---- the colours as bytes, for the lines that are drawn whole: a lane that counts bytes is their index as it stands
@@ -216,44 +199,50 @@ pub fn bytes_of(colours: &[u32; 32]) -> [u8; 128]
 
 // The colour whose first byte lane k names.
 fn lane_colour(table: &[u8], codes: u64, k: usize) -> u32
-    requires { ⌜ (k < 8) × (lane codes k + 4 ≤ length (now table)) ⌝ }
+    requires { ⌜ (k < 8) × ((i : ℕ) → i < 8 → lane codes i + 4 ≤ length (now table)) ⌝ }
     ensures { λ r. ⌜ r ≡ fourAt (now (table .entry)) (lane codes k) ⌝ }
 {
-    small::four_at(table, ((codes >> (8 * k)) % 256) as usize)
+    small::four_at(table, color_code(codes, k))
 }
 
-// The colours that the eight lanes name, from pixel x of the row on. All are read before the first is stored: a store could not change
-// them, but the compiler does not know that.
-fn paint_whole(row: &mut [u8], table: &[u8], x: usize, codes: u64)
-    requires { ⌜ (x < 65536) × ((x + 8) * 4 ≤ length (now row)) × ((k : ℕ) → k < 8 → lane codes k + 4 ≤ length (now table)) ⌝ }
-    ensures { λ r. ⌜ now (row .exit) ≡ painted (now (row .entry)) x 8 (λ k. fourAt (now (table .entry)) (lane codes k)) ⌝ }
-{
-    let c0 = lane_colour(table, codes, 0);
-    let c1 = lane_colour(table, codes, 1);
-    let c2 = lane_colour(table, codes, 2);
-    let c3 = lane_colour(table, codes, 3);
-    let c4 = lane_colour(table, codes, 4);
-    let c5 = lane_colour(table, codes, 5);
-    let c6 = lane_colour(table, codes, 6);
-    let c7 = lane_colour(table, codes, 7);
-    pixel_set_full(row, x, c0);
-    pixel_set_full(row, x + 1, c1);
-    pixel_set_full(row, x + 2, c2);
-    pixel_set_full(row, x + 3, c3);
-    pixel_set_full(row, x + 4, c4);
-    pixel_set_full(row, x + 5, c5);
-    pixel_set_full(row, x + 6, c6);
-    pixel_set_full(row, x + 7, c7);
-}
-
-// The same by 16 of the colours, from colour `palette` on, where a lane is a colour's number.
-fn paint_whole_by(row: &mut [u8], table: &[u8], palette: usize, x: usize, codes: u64)
-    requires { ⌜ (x < 65536) × ((x + 8) * 4 ≤ length (now row)) × (palette ≤ 16) × (length (now table) ≡ 128) × ((k : ℕ) → k < 8 → lane codes k < 16) ⌝ }
-    ensures { λ r. ⌜ now (row .exit) ≡ painted (now (row .entry)) x 8 (λ k. at (coloursIn (now (table .entry))) (palette + lane codes k)) ⌝ }
+// The colours that the four lanes from lane k on name, of 16 of the colours from colour `palette` on. A lane times 4 is the place of its first byte.
+fn lane_colours(table: &[u8], palette: usize, codes: u64, k: usize) -> Four
+    requires { ⌜ (k < 5) × (palette ≤ 16) × (length (now table) ≡ 128) × ((i : ℕ) → i < 8 → lane codes i < 16) ⌝ }
+    ensures { λ r. ⌜ r ≡ fours (λ i. at (coloursIn (now (table .entry))) (palette + lane codes i)) k ⌝ }
 {
     let low = 4 * palette;
     let top = low + 64;
-    paint_whole(row, &table[low..top], x, codes << 2);
+    let some = &table[low..top];
+    let places = codes << 2;
+    Four {
+        a: lane_colour(some, places, k),
+        b: lane_colour(some, places, k + 1),
+        c: lane_colour(some, places, k + 2),
+        d: lane_colour(some, places, k + 3),
+    }
+}
+
+// Four colours, from pixel x of the row on.
+fn four_set_full(row: &mut [u8], x: usize, v: Four)
+    requires { ⌜ (x < 65540) × ((x + 4) * 4 ≤ length (now row)) ⌝ }
+    ensures { λ r. ⌜ now (row .exit) ≡ painted (now (row .entry)) x 4 (oneOf v) ⌝ }
+{
+    pixel_set_full(row, x, v.a);
+    pixel_set_full(row, x + 1, v.b);
+    pixel_set_full(row, x + 2, v.c);
+    pixel_set_full(row, x + 3, v.d);
+}
+
+// The colours that the eight lanes name, of 16 of the colours from colour `palette` on, from pixel x of the row on. All are read before the
+// first is stored: a store could not change them, but the compiler does not know that.
+fn paint_whole(row: &mut [u8], table: &[u8], palette: usize, x: usize, codes: u64)
+    requires { ⌜ (x < 65536) × ((x + 8) * 4 ≤ length (now row)) × (palette ≤ 16) × (length (now table) ≡ 128) × ((k : ℕ) → k < 8 → lane codes k < 16) ⌝ }
+    ensures { λ r. ⌜ now (row .exit) ≡ painted (now (row .entry)) x 8 (λ k. at (coloursIn (now (table .entry))) (palette + lane codes k)) ⌝ }
+{
+    let left = lane_colours(table, palette, codes, 0);
+    let right = lane_colours(table, palette, codes, 4);
+    four_set_full(row, x, left);
+    four_set_full(row, x + 4, right);
 }
 
 // n pixels of the line at addr, from the tile's pixel start on, drawn from pixel x of the row on; answers which are not of code 0.
@@ -272,10 +261,9 @@ pub fn character_line(
     ensures { λ r. ⌜ now (row .exit) ≡ painted (now (row .entry)) x n (lineColour (now (colours .entry)) palette (now (vram .entry)) addr flip start) ⌝ }
     ensures { λ r. ⌜ r ≡ number n (lineSolid (now (vram .entry)) addr flip start) ⌝ }
 {
-    let p = small::four_at(vram, addr);
-    let codes = codes_of(flip, p);
-    let bits = faced(flip, solid_of(p));
-    paint_by(row, colours, palette, x, codes >> (8 * (start % 8)), n);
+    let codes = codes_of(vram, addr, flip);
+    let bits = solids_of(vram, addr, flip);
+    paint(row, colours, palette, x, codes >> (8 * (start % 8)), n);
     cut(bits, start, n)
 }
 
@@ -293,9 +281,9 @@ pub fn character_whole(
     ensures { λ r. ⌜ now (row .exit) ≡ painted (now (row .entry)) x 8 (lineColour (coloursIn (now (table .entry))) palette (now (vram .entry)) addr flip 0) ⌝ }
     ensures { λ r. ⌜ r ≡ number 8 (lineSolid (now (vram .entry)) addr flip 0) ⌝ }
 {
-    let p = small::four_at(vram, addr);
-    paint_whole_by(row, table, palette, x, codes_of(flip, p));
-    faced(flip, solid_of(p))
+    let bits = solids_of(vram, addr, flip);
+    paint_whole(row, table, palette, x, codes_of(vram, addr, flip));
+    bits
 }
 
 // ---- a sprite
@@ -345,67 +333,60 @@ pub fn sprite_columns(
     if end <= start {
         return column::fates(0, held, taken, 0);
     }
-    let n = end - start;
-    let p = small::four_at(vram, addr);
-    let all = cut(reversed(solid_of(p)), start, n);
+    let all = character_line_sprite_bitmap(vram, addr, start, end);
     let columns = column::fates(all, held, taken, in_row(width, x));
-    overlay_some(
-        row,
-        colours,
-        x,
-        codes_of(false, p) >> (8 * start),
-        n,
-        columns.drawn,
-    );
+    let codes = codes_of(vram, addr, false) >> (8 * start);
+    overlay_some(row, colours, x, codes, end - start, columns.drawn);
     columns
 }
 
-// The colours that the lanes name where `drawn` has their bits, from pixel x of the row on; the others are stored again as they were, so that
-// there is no branch. All are read before the first is stored, as in `paint_whole`.
-fn overlay(row: &mut [u8], table: &[u8], x: usize, codes: u64, drawn: u8)
-    requires { ⌜ (x < 65536) × ((x + 8) * 4 ≤ length (now row)) × ((k : ℕ) → k < 8 → lane codes k + 4 ≤ length (now table)) ⌝ }
-    ensures { λ r. ⌜ now (row .exit) ≡ overlaid (now (row .entry)) x 8 (bit drawn) (λ k. fourAt (now (table .entry)) (lane codes k)) ⌝ }
+// The colours of the four pixels from pixel x of the row on, as they stand there.
+fn row_colours(row: &[u8], x: usize) -> Four
+    requires { ⌜ (x < 65540) × ((x + 4) * 4 ≤ length (now row)) ⌝ }
+    ensures { λ r. ⌜ r ≡ fours (λ i. fourAt (now (row .entry)) (i * 4)) x ⌝ }
 {
-    let o0 = small::four_at(row, x * 4);
-    let o1 = small::four_at(row, x * 4 + 4);
-    let o2 = small::four_at(row, x * 4 + 8);
-    let o3 = small::four_at(row, x * 4 + 12);
-    let o4 = small::four_at(row, x * 4 + 16);
-    let o5 = small::four_at(row, x * 4 + 20);
-    let o6 = small::four_at(row, x * 4 + 24);
-    let o7 = small::four_at(row, x * 4 + 28);
-    let c0 = lane_colour(table, codes, 0);
-    let c1 = lane_colour(table, codes, 1);
-    let c2 = lane_colour(table, codes, 2);
-    let c3 = lane_colour(table, codes, 3);
-    let c4 = lane_colour(table, codes, 4);
-    let c5 = lane_colour(table, codes, 5);
-    let c6 = lane_colour(table, codes, 6);
-    let c7 = lane_colour(table, codes, 7);
-    let s0 = chosen(small::is_set(drawn, 0), c0, o0);
-    let s1 = chosen(small::is_set(drawn, 1), c1, o1);
-    let s2 = chosen(small::is_set(drawn, 2), c2, o2);
-    let s3 = chosen(small::is_set(drawn, 3), c3, o3);
-    let s4 = chosen(small::is_set(drawn, 4), c4, o4);
-    let s5 = chosen(small::is_set(drawn, 5), c5, o5);
-    let s6 = chosen(small::is_set(drawn, 6), c6, o6);
-    let s7 = chosen(small::is_set(drawn, 7), c7, o7);
-    pixel_set_full(row, x, s0);
-    pixel_set_full(row, x + 1, s1);
-    pixel_set_full(row, x + 2, s2);
-    pixel_set_full(row, x + 3, s3);
-    pixel_set_full(row, x + 4, s4);
-    pixel_set_full(row, x + 5, s5);
-    pixel_set_full(row, x + 6, s6);
-    pixel_set_full(row, x + 7, s7);
+    Four {
+        a: small::four_at(row, x * 4),
+        b: small::four_at(row, (x + 1) * 4),
+        c: small::four_at(row, (x + 2) * 4),
+        d: small::four_at(row, (x + 3) * 4),
+    }
 }
 
-// The same by palette 1, where a lane is a colour's number.
-fn overlay_by(row: &mut [u8], table: &[u8], x: usize, codes: u64, drawn: u8)
+// The first colour where bit k of `drawn` is set, else the second.
+fn chosen(drawn: u8, k: usize, a: u32, b: u32) -> u32
+    requires { ⌜ k < 8 ⌝ }
+    ensures { λ r. ⌜ r ≡ cond (bit drawn k) a b ⌝ }
+{
+    if small::is_set(drawn, k) { a } else { b }
+}
+
+// Four pixels, from pixel x of the row on: the new colours where `drawn` has the bits from bit k on, else the old.
+fn overlay_four(row: &mut [u8], x: usize, drawn: u8, k: usize, new: Four, old: Four)
+    requires { ⌜ (k < 5) × (x < 65540) × ((x + 4) * 4 ≤ length (now row)) ⌝ }
+    ensures { λ r. ⌜ now (row .exit) ≡ painted (now (row .entry)) x 4 (oneOf (chosenOf drawn k new old)) ⌝ }
+{
+    let v = Four {
+        a: chosen(drawn, k, new.a, old.a),
+        b: chosen(drawn, k + 1, new.b, old.b),
+        c: chosen(drawn, k + 2, new.c, old.c),
+        d: chosen(drawn, k + 3, new.d, old.d),
+    };
+    four_set_full(row, x, v);
+}
+
+// The colours in palette 1 that the lanes name where `drawn` has their bits, from pixel x of the row on; the others are stored again as they
+// were, so that there is no branch. All are read before the first is stored, as in `paint_whole`.
+fn overlay(row: &mut [u8], table: &[u8], x: usize, codes: u64, drawn: u8)
     requires { ⌜ (x < 65536) × ((x + 8) * 4 ≤ length (now row)) × (length (now table) ≡ 128) × ((k : ℕ) → k < 8 → lane codes k < 16) ⌝ }
     ensures { λ r. ⌜ now (row .exit) ≡ overlaid (now (row .entry)) x 8 (bit drawn) (λ k. at (coloursIn (now (table .entry))) (16 + lane codes k)) ⌝ }
 {
-    overlay(row, &table[64..128], x, codes << 2, drawn);
+    let old_left = row_colours(row, x);
+    let old_right = row_colours(row, x + 4);
+    let left = lane_colours(table, 16, codes, 0);
+    let right = lane_colours(table, 16, codes, 4);
+    overlay_four(row, x, drawn, 0, left, old_left);
+    overlay_four(row, x + 4, drawn, 4, right, old_right);
 }
 
 // The whole line at addr, all of it in the row: what it marks and draws are made as bytes first.
@@ -423,9 +404,9 @@ fn sprite_whole(
     ensures { λ r. ⌜ now (row .exit) ≡ overlaid (now (row .entry)) x 8 (lineDrawn (now (vram .entry)) addr 0 8 held taken width x) (spriteColour (coloursIn (now (table .entry))) (now (vram .entry)) addr 0) ⌝ }
     ensures { λ r. ⌜ (r .marks ≡ byteOf (lineMarked (now (vram .entry)) addr 0 8 held)) × (r .drawn ≡ byteOf (lineDrawn (now (vram .entry)) addr 0 8 held taken width x)) × (r .held ≡ byteOf (lineHeld (now (vram .entry)) addr 0 8 held)) ⌝ }
 {
-    let p = small::four_at(vram, addr);
-    let columns = column::fates(reversed(solid_of(p)), held, taken, 255);
-    overlay_by(row, table, x, codes_of(false, p), columns.drawn);
+    let bits = solids_of(vram, addr, false);
+    let columns = column::fates(bits, held, taken, 255);
+    overlay(row, table, x, codes_of(vram, addr, false), columns.drawn);
     columns
 }
 
@@ -461,9 +442,7 @@ pub fn character_line_sprite_bitmap(vram: &[u8], addr: usize, start: usize, end:
     if end <= start {
         return 0;
     }
-    let n = end - start;
-    let p = small::four_at(vram, addr);
-    cut(reversed(solid_of(p)), start, n)
+    cut(solids_of(vram, addr, false), start, end - start)
 }
 
 // ---- the layers

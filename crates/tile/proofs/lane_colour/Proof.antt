@@ -1,22 +1,19 @@
 -- `tile::lane_colour` meets its contract: the colour whose first byte lane k names.
-use borrow.Author.Needs.{needs}
-use Rattle.tile.specs.Lanes.{lane}
+use mathlib.Core.Path.{_∙_, ap}
+use Rattle.laws.specs.Paint.{fourAt}
 use Rattle.tile.proofs.lane_colour.Statement.{statement}
 use Rattle.tile.proofs.lane_colour.Tie as tie
 
-mul-four-at : tie.Need-mul-four-at
-mul-four-at c = search needs
-
-shr-four-at : tie.Need-shr-four-at
-shr-four-at c = search needs
+color-code-requires : tie.Need-color-code-requires
+color-code-requires c κs = c .before .pre .0
 
 four-at-requires : tie.Need-four-at-requires
-unfolding lane
-four-at-requires c κs = c .before .pre .1
+four-at-requires c κs = let at-start = c .before .before in rw (c .color-code .ensures) (at-start .pre .1 (at-start .args .k) (at-start .pre .0))
 
 returns : tie.Need-returns
-unfolding lane
-returns c = c .four-at .ensures
+returns c =
+    let at-start = c .before .before .before in
+    c .four-at .ensures ∙ ap (fourAt (at-start .args .table .now)) (c .before .color-code .ensures)
 
 pub lane-colour-spec : {M : Type 1} → statement M
-lane-colour-spec = tie.close (tie.spec mul-four-at shr-four-at four-at-requires returns)
+lane-colour-spec = tie.close (tie.spec color-code-requires four-at-requires returns)

@@ -4,67 +4,22 @@ use Rattle.tile.proofs.Lanes.{mirrored-is}
 use Rattle.tile.proofs.mirrored.Statement.{statement}
 use Rattle.tile.proofs.mirrored.Tie as tie
 
+half-mirrored-requires : tie.Need-half-mirrored-requires
+half-mirrored-requires c κs = search needs
+
+half-mirrored-requires-2 : tie.Need-half-mirrored-requires-2
+half-mirrored-requires-2 c κs = search needs
+
 mul-result : tie.Need-mul-result
 mul-result c = search needs
 
 add-result : tie.Need-add-result
 add-result c = search needs
 
-mul-result-2 : tie.Need-mul-result-2
-mul-result-2 c = search needs
-
-add-result-2 : tie.Need-add-result-2
-add-result-2 c = search needs
-
-mul-result-3 : tie.Need-mul-result-3
-mul-result-3 c = search needs
-
-add-result-3 : tie.Need-add-result-3
-add-result-3 c = search needs
-
-mul-result-4 : tie.Need-mul-result-4
-mul-result-4 c = search needs
-
-add-result-4 : tie.Need-add-result-4
-add-result-4 c = search needs
-
-mul-result-5 : tie.Need-mul-result-5
-mul-result-5 c = search needs
-
-add-result-5 : tie.Need-add-result-5
-add-result-5 c = search needs
-
-mul-result-6 : tie.Need-mul-result-6
-mul-result-6 c = search needs
-
-add-result-6 : tie.Need-add-result-6
-add-result-6 c = search needs
-
-mul-result-7 : tie.Need-mul-result-7
-mul-result-7 c = search needs
-
-add-result-7 : tie.Need-add-result-7
-add-result-7 c = search needs
-
 returns : tie.Need-returns
-returns c = λ f h e. mirrored-is (c .args .w) f h e
+returns c =
+    let at-start = c .before .before in
+    mirrored-is (at-start .args .w) (c .before .half-mirrored .ensures .0) (c .half-mirrored2 .ensures .0)
 
 pub mirrored-spec : {M : Type 1} → statement M
-mirrored-spec =
-    tie.close
-    (tie.spec
-    mul-result
-    add-result
-    mul-result-2
-    add-result-2
-    mul-result-3
-    add-result-3
-    mul-result-4
-    add-result-4
-    mul-result-5
-    add-result-5
-    mul-result-6
-    add-result-6
-    mul-result-7
-    add-result-7
-    returns)
+mirrored-spec = tie.close (tie.spec half-mirrored-requires half-mirrored-requires-2 mul-result add-result returns)
