@@ -8,7 +8,7 @@ ghost use lib.Dec.{ltb};
 ghost use Rattle.laws.specs.Bits.{bit, number, byteOf};
 ghost use Rattle.laws.specs.Lists.{at};
 ghost use Rattle.laws.specs.Paint.{put, painted, putIf, overlaid, fourAt};
-ghost use Rattle.picture.specs.Tile.{codeAt, turned};
+ghost use Rattle.picture.specs.Tile.{codeOf, codeAt, turned};
 ghost use Rattle.picture.specs.Picture.{solid};
 ghost use Rattle.picture.specs.Layers.{owner};
 ghost use Rattle.tile.specs.Lanes.{lanes, lane, exchange};
@@ -16,6 +16,12 @@ ghost use Rattle.tile.specs.Layer.{stamped};
 ghost use Rattle.tile.specs.Fours.{fours, oneOf, chosenOf};
 ghost use Rattle.tile.specs.Line.{colourBytes, coloursIn, lineColour, lineSolid, lineMarked, lineDrawn, lineHeld, spriteColour};
 use column::Columns;
+
+// A tile's line: the codes of its eight pixels, a byte of one number to each, and a bit for each that is not 0, the leftmost pixel's lowest.
+struct TileLine {
+    codes: u64,
+    solids: u8,
+}
 
 // Four colours, of pixels side by side.
 struct Four {
@@ -88,13 +94,12 @@ fn mirrored(w: u64) -> u64
     half_mirrored(w / 0x0000000100000000) + half_mirrored(w) * 0x0000000100000000
 }
 
-// The codes of the line at addr, the leftmost pixel's in lane 0. The bits of its four bytes stand in rows of eight, a byte to a row; with rows
+// The codes of a line whose four bytes are the lanes of x, the leftmost pixel's in lane 0. The bits of x stand in rows of eight, a byte to a row; with rows
 // and columns exchanged, by squares of four, of two and of one, each lane is a code.
-fn codes_of(vram: &[u8], addr: usize, flip: bool) -> u64
-    requires { ⌜ addr + 4 ≤ length (now vram) ⌝ }
-    ensures { λ r. ⌜ r ≡ lanes 8 (λ k. codeAt (at (now (vram .entry))) addr (turned flip k)) ⌝ }
+fn codes_of(flip: bool, x: u32) -> u64
+    ensures { λ r. ⌜ r ≡ lanes 8 (λ k. codeOf (lane x 0) (lane x 1) (lane x 2) (lane x 3) (7 - turned flip k)) ⌝ }
 {
-    let long = small::four_at(vram, addr) as u64;
+    let long = x as u64;
     let fours = (long | long << 28) & 0x0F0F0F0F0F0F0F0F;
     let twos = exchanged(fours, 14, 0x0000CCCC0000CCCC);
     let w = exchanged(twos, 7, 0x00AA00AA00AA00AA);
@@ -118,13 +123,25 @@ fn reversed(b: u8) -> u8
     (y & 0x55) << 1 | y >> 1 & 0x55
 }
 
-// A bit for each pixel of the line at addr, the leftmost's lowest, which is set where the code is not 0.
-fn solids_of(vram: &[u8], addr: usize, flip: bool) -> u8
-    requires { ⌜ addr + 4 ≤ length (now vram) ⌝ }
-    ensures { λ r. ⌜ r ≡ number 8 (lineSolid (now (vram .entry)) addr flip 0) ⌝ }
+// A bit for each pixel of that line, the leftmost's lowest.
+fn solids_of(flip: bool, x: u32) -> u8
+    ensures { λ r. ⌜ r ≡ number 8 (λ k. bit (bitOr (bitOr (lane x 0) (lane x 2)) (bitOr (lane x 1) (lane x 3))) (7 - turned flip k)) ⌝ }
 {
-    let b = solid_of(small::four_at(vram, addr));
+    let b = solid_of(x);
     if flip { b } else { reversed(b) }
+}
+
+// The line at addr, whose four bytes are fetched once.
+fn line_of(vram: &[u8], addr: usize, flip: bool) -> TileLine
+    requires { ⌜ addr + 4 ≤ length (now vram) ⌝ }
+    ensures { λ r. ⌜ r .codes ≡ lanes 8 (λ k. codeAt (at (now (vram .entry))) addr (turned flip k)) ⌝ }
+    ensures { λ r. ⌜ r .solids ≡ number 8 (lineSolid (now (vram .entry)) addr flip 0) ⌝ }
+{
+    let x = small::four_at(vram, addr);
+    TileLine {
+        codes: codes_of(flip, x),
+        solids: solids_of(flip, x),
+    }
 }
 
 // The code in lane k.
@@ -141,7 +158,8 @@ pub fn pixel_code(vram: &[u8], addr: usize, flip: bool, p: usize) -> usize
     ensures { λ r. ⌜ r ≡ codeAt (at (now (vram .entry))) addr (turned flip p) ⌝ }
     ensures { λ r. ⌜ r < 16 ⌝ }
 {
-    color_code(codes_of(vram, addr, flip), p)
+    let line = line_of(vram, addr, flip);
+    color_code(line.codes, p)
 }
 
 // n bits of a byte, from bit `start` on.
@@ -261,10 +279,9 @@ pub fn character_line(
     ensures { λ r. ⌜ now (row .exit) ≡ painted (now (row .entry)) x n (lineColour (now (colours .entry)) palette (now (vram .entry)) addr flip start) ⌝ }
     ensures { λ r. ⌜ r ≡ number n (lineSolid (now (vram .entry)) addr flip start) ⌝ }
 {
-    let codes = codes_of(vram, addr, flip);
-    let bits = solids_of(vram, addr, flip);
-    paint(row, colours, palette, x, codes >> (8 * (start % 8)), n);
-    cut(bits, start, n)
+    let line = line_of(vram, addr, flip);
+    paint(row, colours, palette, x, line.codes >> (8 * (start % 8)), n);
+    cut(line.solids, start, n)
 }
 
 // The whole line at addr, drawn from pixel x of the row on; answers which pixels are not of code 0.
@@ -281,9 +298,9 @@ pub fn character_whole(
     ensures { λ r. ⌜ now (row .exit) ≡ painted (now (row .entry)) x 8 (lineColour (coloursIn (now (table .entry))) palette (now (vram .entry)) addr flip 0) ⌝ }
     ensures { λ r. ⌜ r ≡ number 8 (lineSolid (now (vram .entry)) addr flip 0) ⌝ }
 {
-    let bits = solids_of(vram, addr, flip);
-    paint_whole(row, table, palette, x, codes_of(vram, addr, flip));
-    bits
+    let line = line_of(vram, addr, flip);
+    paint_whole(row, table, palette, x, line.codes);
+    line.solids
 }
 
 // ---- a sprite
@@ -333,9 +350,10 @@ pub fn sprite_columns(
     if end <= start {
         return column::fates(0, held, taken, 0);
     }
-    let all = character_line_sprite_bitmap(vram, addr, start, end);
+    let line = line_of(vram, addr, false);
+    let all = cut(line.solids, start, end - start);
     let columns = column::fates(all, held, taken, in_row(width, x));
-    let codes = codes_of(vram, addr, false) >> (8 * start);
+    let codes = line.codes >> (8 * start);
     overlay_some(row, colours, x, codes, end - start, columns.drawn);
     columns
 }
@@ -404,9 +422,9 @@ fn sprite_whole(
     ensures { λ r. ⌜ now (row .exit) ≡ overlaid (now (row .entry)) x 8 (lineDrawn (now (vram .entry)) addr 0 8 held taken width x) (spriteColour (coloursIn (now (table .entry))) (now (vram .entry)) addr 0) ⌝ }
     ensures { λ r. ⌜ (r .marks ≡ byteOf (lineMarked (now (vram .entry)) addr 0 8 held)) × (r .drawn ≡ byteOf (lineDrawn (now (vram .entry)) addr 0 8 held taken width x)) × (r .held ≡ byteOf (lineHeld (now (vram .entry)) addr 0 8 held)) ⌝ }
 {
-    let bits = solids_of(vram, addr, false);
-    let columns = column::fates(bits, held, taken, 255);
-    overlay(row, table, x, codes_of(vram, addr, false), columns.drawn);
+    let line = line_of(vram, addr, false);
+    let columns = column::fates(line.solids, held, taken, 255);
+    overlay(row, table, x, line.codes, columns.drawn);
     columns
 }
 
@@ -442,7 +460,8 @@ pub fn character_line_sprite_bitmap(vram: &[u8], addr: usize, start: usize, end:
     if end <= start {
         return 0;
     }
-    cut(solids_of(vram, addr, false), start, end - start)
+    let line = line_of(vram, addr, false);
+    cut(line.solids, start, end - start)
 }
 
 // ---- the layers

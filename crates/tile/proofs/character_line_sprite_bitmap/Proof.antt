@@ -25,21 +25,18 @@ returns c =
     number-all (solid (a .start) (a .end) (codeAt (at (a .vram .now)) (a .addr))) 0 (omega arith)
     (λ k g. solid-past (a .start) (a .end) _ k (omega (arith, h)))
 
-solids-of-requires : tie.Need-solids-of-requires
-solids-of-requires c κs =
-    let at-start = c .before .before in
-    at-start .pre .2
+line-of-requires : tie.Need-line-of-requires
+line-of-requires c κs = search needs
 
 sub-cut : tie.Need-sub-cut
-sub-cut c = omega arith
+sub-cut c = search needs
 
 cut-requires : tie.Need-cut-requires
-cut-requires c κs = omega arith
+cut-requires c κs = search needs
 
 returns-2 : tie.Need-returns-2
 returns-2 c =
-    let at-bits = c .before in
-    let at-if1 = at-bits .before in
+    let at-if1 = c .before .before in
     let at-start = at-if1 .before .before in
     let a = at-start .args in
     let v = a .vram .now in
@@ -48,8 +45,9 @@ returns-2 c =
     byte-is _ (solid (a .start) (a .end) (codeAt (at v) (a .addr))) (fit .fits)
     (λ k h.
     sym (ap (λ n. bit n k) (c .cut .ensures)
-    ∙ part-solid v (a .addr) (a .start) (a .end) (a .end - a .start) k _ l (at-start .pre .0) refl (bit-at v (a .addr) false (at-bits .solids-of .ensures)
+    ∙ part-solid v (a .addr) (a .start) (a .end) (a .end - a .start) k _ l (at-start .pre .0) refl (bit-at v (a .addr) false (c .before .line-of .ensures .1)
     (a .start))))
 
 pub character-line-sprite-bitmap-spec : {M : Type 1} → statement M
-character-line-sprite-bitmap-spec = tie.close (tie.spec returns solids-of-requires sub-cut cut-requires returns-2)
+character-line-sprite-bitmap-spec =
+    tie.close (tie.spec returns line-of-requires sub-cut cut-requires returns-2)

@@ -11,37 +11,32 @@ use Rattle.tile.proofs.Whole.{lane-at, lane-low}
 use Rattle.tile.proofs.character_whole.Statement.{statement}
 use Rattle.tile.proofs.character_whole.Tie as tie
 
-solids-of-requires : tie.Need-solids-of-requires
-solids-of-requires c κs =
-    let at-start = c .before .before in
-    at-start .pre .0
-
-codes-of-requires : tie.Need-codes-of-requires
-codes-of-requires c κs =
-    let at-start = c .before .before .before .before .before in
-    at-start .pre .0
+line-of-requires : tie.Need-line-of-requires
+line-of-requires c κs = search needs
 
 paint-whole-requires : tie.Need-paint-whole-requires
 paint-whole-requires c κs =
-    let at-start = c .before .before .before .before .before .before in
+    let at-line-of = c .before .before in
+    let at-start = at-line-of .before .before .before in
     let a = at-start .args in
-    (at-start .pre .2, at-start .pre .3, at-start .pre .1, search needs, lane-low (a .vram .now) (a .addr) (a .flip) (c .codes-of .ensures))
+    (at-start .pre .2, at-start .pre .3, at-start .pre .1, search needs, lane-low (a .vram .now) (a .addr) (a .flip) (at-line-of .line-of .ensures .0))
 
 same-length : tie.Need-same-length
 same-length c = search needs
 
 returns : tie.Need-returns
 returns c =
-    let at-paint = c .before .before in
-    let at-codes = at-paint .before in
-    let at-bits = at-codes .before .before .before in
-    let a = at-bits .before .before .before .args in (
-      at-paint .paint-whole .ensures
+    let at-paint-whole = c .before .before in
+    let at-line-of = at-paint-whole .before .before .before in
+    let at-start = at-line-of .before .before .before in
+    let a = at-start .args in (
+      at-paint-whole .paint-whole .ensures
           ∙ painted-cong _ _ _ _ _ (λ k h.
-          ap (λ i. at (coloursIn (a .table .now)) (a .palette + i)) (lane-at (a .vram .now) (a .addr) (a .flip) (at-codes .codes-of .ensures) k h
+          ap (λ i. at (coloursIn (a .table .now)) (a .palette + i)) (lane-at (a .vram .now) (a .addr) (a .flip) (at-line-of .line-of .ensures .0) k h
           ∙ ap (λ i. codeAt (at (a .vram .now)) (a .addr) (turned (a .flip) i)) (sym (zero-add k)))),
-      at-bits .solids-of .ensures,
+      at-line-of .line-of .ensures .1,
     )
 
 pub character-whole-spec : {M : Type 1} → statement M
-character-whole-spec = tie.close (tie.spec solids-of-requires codes-of-requires paint-whole-requires same-length returns)
+character-whole-spec =
+    tie.close (tie.spec line-of-requires paint-whole-requires same-length returns)
