@@ -1,10 +1,13 @@
 // The records of a recording (R7.9): what stands at an offset, a record put behind those that are there, and a reader that goes from one to the next.
 ghost use mathlib.Core.Path.{_≡_};
+ghost use mathlib.Core.Bool.{cond};
 ghost use Prim.Native.Nat.{_+_, _-_, _*_, _<_, _≤_};
 ghost use lib.ListN.{length};
-ghost use lib.Dec.{leb};
-ghost use Rattle.laws.specs.Lists.{written};
-ghost use Rattle.trace_record.specs.Record.{recordAt};
+ghost use lib.Dec.{leb, ltb};
+ghost use Rattle.laws.specs.Lists.{at, written};
+ghost use Rattle.picture.specs.Area.{areaFrom};
+ghost use Rattle.trace_record.specs.declared.Record.the-variants.{Step, Bad};
+ghost use Rattle.trace_record.specs.Record.{recordAt, marked};
 ghost use Rattle.trace_record.specs.Machine.{hasArea, recordOn};
 ghost use Rattle.trace_record.specs.Writer.{areaNumber, recordBytes, size, RecordLeaves};
 ghost use Rattle.trace_record.specs.Reader.{past};
@@ -20,6 +23,43 @@ pub enum Record {
     End,
 }
 
+// The mark at this offset: two bytes, the first one the higher.
+fn mark_at(s: &[u8], k: usize) -> u16
+    requires { ⌜ k + 2 ≤ length (now s) ⌝ }
+    ensures { λ r. ⌜ r ≡ 256 * at (now (s .entry)) k + at (now (s .entry)) (k + 1) ⌝ }
+{
+    small::word(s[k + 1], s[k])
+}
+
+// The record of a step by the number of its area.
+fn step_for(x: u8) -> Record
+    ensures { λ r. ⌜ r ≡ cond (ltb 2 x) Bad (Step (areaFrom x)) ⌝ }
+{
+    if picture::LAST_AREA < x {
+        return Record::Bad;
+    }
+    Record::Step(picture::area_from(x))
+}
+
+// The record with this mark at this offset, where so many bytes are left.
+fn record_marked(s: &[u8], at: usize, left: usize, mark: u16) -> Record
+    requires { ⌜ (at + left ≡ length (now s)) × (3 ≤ left) ⌝ }
+    ensures { λ r. ⌜ r ≡ marked (now (s .entry)) at left mark ⌝ }
+{
+    let x = s[at + 2];
+    match mark {
+        0x5057 => {
+            if left < 4 {
+                return Record::Bad;
+            }
+            Record::Write(x, s[at + 3])
+        }
+        0x5052 => Record::Read(x),
+        0x4C53 => step_for(x),
+        _ => Record::Bad,
+    }
+}
+
 // The record at this offset.
 pub fn record_at(s: &[u8], at: usize) -> Record
     ensures { λ r. ⌜ r ≡ recordAt (now (s .entry)) at ⌝ }
@@ -31,23 +71,7 @@ pub fn record_at(s: &[u8], at: usize) -> Record
     if left < 3 {
         return Record::Bad;
     }
-    let x = s[at + 2];
-    match small::word(s[at + 1], s[at]) {
-        0x5057 => {
-            if left < 4 {
-                return Record::Bad;
-            }
-            Record::Write(x, s[at + 3])
-        }
-        0x5052 => Record::Read(x),
-        0x4C53 => {
-            if picture::LAST_AREA < x {
-                return Record::Bad;
-            }
-            Record::Step(picture::area_from(x))
-        }
-        _ => Record::Bad,
-    }
+    record_marked(s, at, left, mark_at(s, at))
 }
 
 // ---- a record as a machine takes it
