@@ -1,6 +1,6 @@
 -- What a turn of each loop shows, and the sums that make a byte and a code.
 -- Assumes nothing.
-use mathlib.Core.Path.{_≡_, sym, ap, _∙_}
+use mathlib.Core.Path.{_≡_, refl, sym, ap, _∙_}
 use mathlib.Core.Bool.{Bool, _||_}
 use mathlib.Core.List.{List}
 use Prim.Native.Nat.{ℕ, _+_, _-_, _*_, _/_, _%_, _<_}
@@ -14,7 +14,7 @@ use Rattle.laws.proofs.Bits.{number-ext}
 use Rattle.laws.proofs.Tables.{length-table, getD-table}
 use Rattle.picture.specs.Tile.{codeOf, codeAt}
 use Rattle.tile_codes.specs.Tiles.{codesAt, tileBytes}
-use Rattle.tile_codes.proofs.Planes.{byte-of-tile}
+use Rattle.tile_codes.proofs.Planes.{code-bits, byte-of-tile}
 
 -- a code from its four weights
 pub code-sum :
@@ -24,23 +24,30 @@ pub code-sum :
 unfolding codeOf
 code-sum b0 b1 b2 b3 i e0 e1 e2 e3 = omega arith
 
--- a plane's byte from its eight weights
-byte-sum :
-    (f : ℕ → Bool) {w0 w1 w2 w3 w4 w5 w6 w7 : ℕ} → w0 ≡ 128 * digit (f 7) → w1 ≡ 64 * digit (f 6) → w2 ≡ 32 * digit (f 5) → w3 ≡ 16 * digit (f 4)
-    → w4 ≡ 8 * digit (f 3) → w5 ≡ 4 * digit (f 2) → w6 ≡ 2 * digit (f 1) → w7 ≡ 1 * digit (f 0) → w0 + w1 + w2 + w3 + (w4 + w5 + w6 + w7) ≡ byteOf f
+-- a plane's byte from its halves
+halves : (f : ℕ → Bool) → 16 * number 4 (λ b. f (4 + b)) + number 4 f ≡ byteOf f
 unfolding byteOf number
-byte-sum f e0 e1 e2 e3 e4 e5 e6 e7 = omega arith
+halves f = omega arith
 
 module _ (codes : List ℕ) (from p : ℕ) where
-  abbrev part : ℕ → ℕ → ℕ
-  part w k = w * digit (bit (at codes k) p)
+  pub half-is :
+      codeOf (at codes (from + 3)) (at codes (from + 2)) (at codes (from + 1)) (at codes from) p ≡ number 4 (λ b. bit (at codes (from + (3 - b))) p)
+  half-is =
+      code-bits (at codes (from + 3)) (at codes (from + 2)) (at codes (from + 1)) (at codes from) p (λ b. bit (at codes (from + (3 - b))) p) refl refl refl
+      (ap (λ (k : ℕ). bit (at codes k) p) (sym (add-zero from)))
 
   pub plane-sum :
-      {w0 w1 w2 w3 w4 w5 w6 w7 : ℕ} → w0 ≡ part 128 from → w1 ≡ part 64 (from + 1) → w2 ≡ part 32 (from + 2) → w3 ≡ part 16 (from + 3)
-      → w4 ≡ part 8 (from + 4) → w5 ≡ part 4 (from + 5) → w6 ≡ part 2 (from + 6) → w7 ≡ part 1 (from + 7)
-      → w0 + w1 + w2 + w3 + (w4 + w5 + w6 + w7) ≡ byteOf (λ b. bit (at codes (from + (7 - b))) p)
-  plane-sum e0 e1 e2 e3 e4 e5 e6 e7 =
-      byte-sum (λ b. bit (at codes (from + (7 - b))) p) (e0 ∙ ap (part 128) (sym (add-zero from))) e1 e2 e3 e4 e5 e6 e7
+      {h l : ℕ} → h ≡ number 4 (λ b. bit (at codes (from + (3 - b))) p) → l ≡ number 4 (λ b. bit (at codes (from + 4 + (3 - b))) p)
+      → 16 * h + l ≡ byteOf (λ b. bit (at codes (from + (7 - b))) p)
+  plane-sum e d =
+      let f : ℕ → Bool = λ b. bit (at codes (from + (7 - b))) p in
+      let on : (b : ℕ) → b < 4 → bit (at codes (from + 4 + (3 - b))) p ≡ f b =
+      λ b h. let k : from + 4 + (3 - b) ≡ from + (7 - b) = omega arith in ap (λ (k : ℕ). bit (at codes k) p) k in
+      let up : (b : ℕ) → b < 4 → bit (at codes (from + (3 - b))) p ≡ f (4 + b) =
+      λ b h. let k : from + (3 - b) ≡ from + (7 - (4 + b)) = omega arith in ap (λ (k : ℕ). bit (at codes k) p) k in
+      (λ i. 16 * (e ∙ number-ext 4 (λ b. bit (at codes (from + (3 - b))) p) (λ b. f (4 + b)) up) i
+      + (d ∙ number-ext 4 (λ b. bit (at codes (from + 4 + (3 - b))) p) f on) i)
+      ∙ halves f
 
 -- ---- any code above 15, one more looked at
 pub any-step : (f : ℕ → Bool) (i : ℕ) {t : Bool} → t ≡ any i f → (f i || t) ≡ any (i + 1) f

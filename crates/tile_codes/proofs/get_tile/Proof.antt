@@ -23,17 +23,17 @@ loop-holds c =
     let at-start = c .before .before in
     (omega arith, paste-zero (at-start .args .codes .now) 0 (codesAt (at (at-start .args .src .now)) (at-start .args .from)), omega arith)
 
-mul-code-of : tie.Need-mul-code-of Inv-loop μ-loop
-mul-code-of c = search needs
+mul-code-at : tie.Need-mul-code-at Inv-loop μ-loop
+mul-code-at c = search needs
 
-add-code-of : tie.Need-add-code-of Inv-loop μ-loop
-add-code-of c = search needs
+add-code-at : tie.Need-add-code-at Inv-loop μ-loop
+add-code-at c = search needs
 
-sub-code-of : tie.Need-sub-code-of Inv-loop μ-loop
-sub-code-of c = search needs
+sub-code-at : tie.Need-sub-code-at Inv-loop μ-loop
+sub-code-at c = search needs
 
-code-of-requires : tie.Need-code-of-requires Inv-loop μ-loop
-code-of-requires c κs = search needs
+code-at-requires : tie.Need-code-at-requires Inv-loop μ-loop
+code-at-requires c κs = search needs
 
 slice-write-codes : tie.Need-slice-write-codes Inv-loop μ-loop
 slice-write-codes c = search needs
@@ -54,7 +54,7 @@ loop-again c =
     let h : l .k < length s = omega (arith, codes-long (at (a .src .now)) (a .from)) in (
       omega arith,
       fill-step (a .codes .now) 0 s (l .k) (omega arith) h (omega arith)
-          (code-is (at (a .src .now)) (a .from) (l .k) (omega arith) (c .code-of .ensures)) (l .inv .1),
+          (code-is (at (a .src .now)) (a .from) (l .k) (omega arith) (c .code-at .ensures)) (l .inv .1),
       simp length-set (l .inv .2),
     )
 
@@ -77,10 +77,10 @@ get-tile-spec =
     Inv-loop
     μ-loop
     loop-holds
-    mul-code-of
-    add-code-of
-    sub-code-of
-    code-of-requires
+    mul-code-at
+    add-code-at
+    sub-code-at
+    code-at-requires
     slice-write-codes
     add-k
     loop-less
