@@ -5,7 +5,7 @@ use mathlib.Core.List.{List, [], _∷_}
 use Prim.Native.Nat.{ℕ, _+_, _-_, _*_, _/_, _<_, _≤_}
 use native.Mathlib.Nat.{div-div-eq-div-mul}
 use native.Mathlib.Omega.{arith}
-use borrow.Author.Tests.{ltb-true, ltb-false}
+use borrow.Author.Tests.{ltb-true, ltb-false, lt-ltb, le-ltb}
 use lib.Dec.{ltb, lit≤}
 use lib.ListN.{length}
 use Rattle.laws.proofs.Tests.{split}
@@ -17,13 +17,30 @@ use Rattle.refusal.specs.Refusals.{refusalNumber}
 use Rattle.trace_run.specs.declared.Device.{Device}
 use Rattle.trace_text.specs.Text.{digitOf, decimal}
 use Rattle.trace_run.specs.Run.{start, rowTurn, ran}
-use Rattle.trace_text.proofs.Lines.{one, two, three, four, five}
+use Rattle.trace_text.proofs.Lines.{one}
 use Rattle.trace_run.proofs.Runs.{row-moves, ran-small}
 
 -- the number that decimal digits spell, read from the left behind the number k
 abbrev pub spelt : ℕ → List ℕ → ℕ
 spelt k [] = k
 spelt k (d ∷ ds) = spelt (10 * k + (d - 48)) ds
+
+-- the digits, by the tests that lead to them
+two : (n : ℕ) → 10 ≤ n → n < 100 → decimal n ≡ digitOf (n / 10) ∷ digitOf n ∷ []
+unfolding decimal
+two n g h = rw (le-ltb n 10 g, lt-ltb n 100 h)
+
+three : (n : ℕ) → 100 ≤ n → n < 1000 → decimal n ≡ digitOf (n / 100) ∷ digitOf (n / 10) ∷ digitOf n ∷ []
+unfolding decimal
+three n g h = rw (le-ltb n 10 (omega arith), le-ltb n 100 g, lt-ltb n 1000 h)
+
+four : (n : ℕ) → 1000 ≤ n → n < 10000 → decimal n ≡ digitOf (n / 1000) ∷ digitOf (n / 100) ∷ digitOf (n / 10) ∷ digitOf n ∷ []
+unfolding decimal
+four n g h = rw (le-ltb n 10 (omega arith), le-ltb n 100 (omega arith), le-ltb n 1000 g, lt-ltb n 10000 h)
+
+five : (n : ℕ) → 10000 ≤ n → decimal n ≡ digitOf (n / 10000) ∷ digitOf (n / 1000) ∷ digitOf (n / 100) ∷ digitOf (n / 10) ∷ digitOf n ∷ []
+unfolding decimal
+five n g = rw (le-ltb n 10 (omega arith), le-ltb n 100 (omega arith), le-ltb n 1000 (omega arith), le-ltb n 10000 g)
 
 -- a first digit, and one digit more: q is what stands before the last digit of n
 first : (q : ℕ) → q < 10 → 10 * 0 + (digitOf q - 48) ≡ q

@@ -2,11 +2,11 @@
 -- Assumes nothing.
 use mathlib.Core.Path.{_≡_, refl, sym, ap, _∙_}
 use mathlib.Core.List.{List, [], _∷_, _++_, append-assoc}
-use Prim.Native.Nat.{ℕ, _+_, _/_, _<_, _≤_}
+use Prim.Native.Nat.{ℕ, _+_, _-_, _/_, _<_, _≤_}
 use native.Mathlib.Omega.{arith}
-use borrow.Author.Tests.{lt-ltb, le-ltb}
+use borrow.Author.Tests.{lt-ltb}
 use lib.Dec.{ltb, lit≤}
-use lib.ListN.{length, length-append}
+use lib.ListN.{length, take, drop, length-append}
 use Rattle.laws.specs.Lists.{written}
 use Rattle.laws.proofs.Lists.{written-on, written-nil}
 use Rattle.laws.proofs.Tests.{either}
@@ -16,31 +16,25 @@ use Rattle.trace_text.specs.declared.Answer.{Answer}
 use Rattle.trace_text.specs.declared.Answer.the-variants.{Wrote, Nothing}
 use Rattle.trace_text.specs.Text.{digitOf, decimal, numbered, lineOf}
 
--- the digits, by the tests that lead to them
+-- a number of one digit
 pub one : (n : ℕ) → n < 10 → decimal n ≡ digitOf n ∷ []
 unfolding decimal
 one n h = rw (lt-ltb n 10 h)
 
-pub two : (n : ℕ) → 10 ≤ n → n < 100 → decimal n ≡ digitOf (n / 10) ∷ digitOf n ∷ []
-unfolding decimal
-two n g h = rw (le-ltb n 10 g, lt-ltb n 100 h)
+-- a number is as many of its five last digits as it has
+abbrev pub five : ℕ → List ℕ
+five n = digitOf (n / 10000) ∷ digitOf (n / 1000) ∷ digitOf (n / 100) ∷ digitOf (n / 10) ∷ digitOf n ∷ []
 
-pub three : (n : ℕ) → 100 ≤ n → n < 1000 → decimal n ≡ digitOf (n / 100) ∷ digitOf (n / 10) ∷ digitOf n ∷ []
+pub printed : (n k : ℕ) → length (decimal n) + k ≡ 5 → take (5 - k) (drop k (five n)) ≡ decimal n
 unfolding decimal
-three n g h = rw (le-ltb n 10 (omega arith), le-ltb n 100 g, lt-ltb n 1000 h)
-
-pub four : (n : ℕ) → 1000 ≤ n → n < 10000 → decimal n ≡ digitOf (n / 1000) ∷ digitOf (n / 100) ∷ digitOf (n / 10) ∷ digitOf n ∷ []
-unfolding decimal
-four n g h = rw (le-ltb n 10 (omega arith), le-ltb n 100 (omega arith), le-ltb n 1000 g, lt-ltb n 10000 h)
-
-pub five : (n : ℕ) → 10000 ≤ n → decimal n ≡ digitOf (n / 10000) ∷ digitOf (n / 1000) ∷ digitOf (n / 100) ∷ digitOf (n / 10) ∷ digitOf n ∷ []
-unfolding decimal
-five n g = rw (le-ltb n 10 (omega arith), le-ltb n 100 (omega arith), le-ltb n 1000 (omega arith), le-ltb n 10000 g)
-
-pub digits-put :
-    (o : List ℕ) (at n : ℕ) {x o′ : List ℕ} {r : ℕ} → decimal n ≡ x → length x ≤ 5 → r ≡ at + length x → o′ ≡ written o at x
-    → ((r ≡ at + length (decimal n)) × (length (decimal n) ≤ 5)) × (o′ ≡ written o at (decimal n))
-digits-put o at n e h er eo = ((rw e er, rw e h), rw e eo)
+printed n k =
+    let P : List ℕ → Type 0 = λ l. length l + k ≡ 5 → take (5 - k) (drop k (five n)) ≡ l in
+    either P (ltb n 10) (λ _ h. let e : k ≡ 4 = omega arith in rw e)
+    (λ _.
+    either P (ltb n 100) (λ _ h. let e : k ≡ 3 = omega arith in rw e)
+    (λ _.
+    either P (ltb n 1000) (λ _ h. let e : k ≡ 2 = omega arith in rw e)
+    (λ _. either P (ltb n 10000) (λ _ h. let e : k ≡ 1 = omega arith in rw e) (λ _ h. let e : k ≡ 0 = omega arith in rw e))))
 
 pub decimal-short : (n : ℕ) → length (decimal n) ≤ 5
 unfolding decimal

@@ -1,6 +1,7 @@
 // Numbers and lines as text (R7.10, R7.11).
 ghost use mathlib.Core.Path.{_≡_};
-ghost use Prim.Native.Nat.{_+_, _≤_, _<_};
+ghost use mathlib.Core.List.{[], _∷_};
+ghost use Prim.Native.Nat.{_+_, _/_, _≤_, _<_};
 ghost use lib.ListN.{length};
 ghost use Rattle.laws.specs.Lists.{written};
 ghost use Rattle.refusal.specs.Refusals.{refusalNumber};
@@ -34,39 +35,45 @@ fn digit(n: usize) -> u8
     48 + (n % 10) as u8
 }
 
+// The last five digits of a number.
+fn five_digits(n: usize) -> [u8; 5]
+    ensures { λ r. ⌜ r ≡ digitOf (n / 10000) ∷ digitOf (n / 1000) ∷ digitOf (n / 100) ∷ digitOf (n / 10) ∷ digitOf n ∷ [] ⌝ }
+{
+    [
+        digit(n / 10000),
+        digit(n / 1000),
+        digit(n / 100),
+        digit(n / 10),
+        digit(n),
+    ]
+}
+
+// How many of the five are not printed: the zeros in front.
+fn unprinted(n: usize) -> usize
+    ensures { λ r. ⌜ length (decimal n) + r ≡ 5 ⌝ }
+{
+    if n < 10 {
+        4
+    } else if n < 100 {
+        3
+    } else if n < 1000 {
+        2
+    } else if n < 10000 {
+        1
+    } else {
+        0
+    }
+}
+
 // A number of at most five digits.
 fn put_decimal(out: &mut [u8], at: usize, n: usize) -> usize
     requires { ⌜ at + 5 ≤ length (now out) ⌝ }
     ensures { λ r. ⌜ (r ≡ at + length (decimal n)) × (length (decimal n) ≤ 5) ⌝ }
     ensures { λ _. ⌜ now (out .exit) ≡ written (now (out .entry)) at (decimal n) ⌝ }
 {
-    if n < 10 {
-        return put_all(out, at, &[digit(n)]);
-    }
-    if n < 100 {
-        return put_all(out, at, &[digit(n / 10), digit(n)]);
-    }
-    if n < 1000 {
-        return put_all(out, at, &[digit(n / 100), digit(n / 10), digit(n)]);
-    }
-    if n < 10000 {
-        return put_all(
-            out,
-            at,
-            &[digit(n / 1000), digit(n / 100), digit(n / 10), digit(n)],
-        );
-    }
-    put_all(
-        out,
-        at,
-        &[
-            digit(n / 10000),
-            digit(n / 1000),
-            digit(n / 100),
-            digit(n / 10),
-            digit(n),
-        ],
-    )
+    let digits = five_digits(n);
+    let from = unprinted(n);
+    put_all(out, at, &digits[from..])
 }
 
 // The number of a refusal, of an interrupt and of a display report, to be printed: the last two have one digit.
