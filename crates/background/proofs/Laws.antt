@@ -1,11 +1,11 @@
 -- The laws of a row of background: the columns of one tile, their marks, and where runs of pixels start.
 -- Assumes nothing.
 use mathlib.Core.Path.{_≡_, refl, sym, ap, _∙_}
-use mathlib.Core.Logic.{_⊎_, inr, ⊎-elim}
+use mathlib.Core.Logic.{_⊎_, inr, ⊎-elim, _≢_}
 use mathlib.Core.List.{List}
 use mathlib.Core.Bool.{Bool, true, false, cond, _&&_, _||_, and-false, or-false}
-use Prim.Native.Nat.{ℕ, _+_, _-_, _*_, _/_, _%_, _^_, _<_, _≤_}
-use native.Mathlib.Nat.{add-assoc}
+use Prim.Native.Nat.{ℕ, _+_, _-_, _*_, _/_, _%_, _^_, _<_, _≤_, min}
+use native.Mathlib.Nat.{add-assoc, zero-add}
 use native.Mathlib.Decide.{decLt, ℕ-discrete}
 use native.Mathlib.Omega.{arith}
 use lib.Pow.{field, mod-mod-pow}
@@ -14,9 +14,11 @@ use borrow.Author.Tests.{lt-ltb, le-ltb, ne-eqb}
 use Rattle.laws.specs.Bits.{bit, digit, number, any}
 use Rattle.laws.specs.Circle.{past}
 use Rattle.laws.specs.Lists.{at}
+use Rattle.laws.specs.Paint.{painted}
 use Rattle.laws.proofs.Any.{any-cong, any-split, any-place, bit-of}
 use Rattle.laws.proofs.Bits.{bit-zero, bit-shr, digit-test}
-use Rattle.bitmap.specs.Mask.{withByte, bytesOf}
+use Rattle.laws.proofs.Paint.{painted-on}
+use Rattle.bitmap.specs.Mask.{withByte, bytesOf, cleared}
 use Rattle.bitmap.proofs.Circle.{bytesOf-ext, withByte-bytesOf}
 use Rattle.picture.specs.Tile.{turned, tileLine, entryAt, entryCode, entryColour, entryFront, mapColour, mapFront}
 use Rattle.picture.specs.View.{cutMark}
@@ -154,8 +156,69 @@ whole-first sx cut n d f j h =
     let lj : j < 8 - cut = ⊎-elim (λ q. omega arith) (λ q. omega arith) d in
     first cut j c8 lj
 
-pub starts-next : (sx width x n : ℕ) → Starts sx width x → x < width → x + n ≤ width → (x + n < width → (sx + x) % 8 + n ≡ 8) → Starts sx width
-    (x + n)
-starts-next sx width x n s l r e =
-    inr (λ h. let q = e h in
-    ⊎-elim (λ z. (omega arith, omega arith)) (λ u. let v = u l in (omega arith, omega arith)) s)
+-- ---- the row's first tile: what is painted from its pixels on, and the mask that it marks
+pub from-start : (row : List ℕ) (m : ℕ) (f : ℕ → ℕ) {row′ : List ℕ} → row′ ≡ painted row 0 m (λ i. f (0 + i)) → row′ ≡ painted row 0 m f
+unfolding painted
+from-start row m f e = rw (zero-add m) at (painted-on row 0 m f refl e)
+
+pub from-cleared :
+    (vram : List ℕ) (names sx y cut m : ℕ) {mask mask′ : List ℕ}
+    → (mask ≡ bytesOf (prioTo vram names sx y cut 0) → mask′ ≡ bytesOf (prioTo vram names sx y cut (0 + m)))
+    → mask ≡ cleared → mask′ ≡ bytesOf (prioTo vram names sx y cut m)
+unfolding cleared prioTo any
+from-cleared vram names sx y cut m f e = f e ∙ ap (λ (k : ℕ). bytesOf (prioTo vram names sx y cut k)) (zero-add m)
+
+-- it ends at a tile's end, or at the row's
+pub first-ends : (sx width : ℕ) {m : ℕ} → m ≡ min (8 - sx % 8) width → (m ≤ width) × (m < width → (8 ≤ sx % 8 + m) × ((sx + m) % 8 ≡ 0))
+first-ends sx width e = (omega arith, λ h. (omega arith, omega arith))
+
+-- ---- a tile behind the first, from pixel x on: what it asks for, and where the next one stands
+module _ (sx width cut x : ℕ) (d : (cut ≡ 0) ⊎ (cut ≡ sx % 8)) (most : width ≤ 256) (u : x < width → (8 ≤ sx % 8 + x) × ((sx + x) % 8 ≡ 0)) where
+  -- one that the row's end cuts, in a row of n bytes
+  pub last-asks : (n : ℕ) → x < width → width < x + 8 → width * 4 ≤ n
+      → (((sx + x) % 8 + (width - x) ≤ 8) × ((x + (width - x)) * 4 ≤ n) × (x < 256)) × ((width - x ≤ 8) × (cut ≤ 8) × Whole cut x (width - x))
+  last-asks n l s h =
+      let v = u l in
+      let f : (sx + x) % 8 + (width - x) ≤ 8 = omega arith in
+      let r : x + (width - x) ≤ 256 = omega arith in (
+        (f, omega arith, omega arith),
+        (omega arith, ⊎-elim (λ q. omega arith) (λ q. omega arith) d, whole sx width cut x (width - x) d (inr u) l f r),
+      )
+
+  module _ (t : x + 8 ≤ width) where
+    inner : (8 ≤ sx % 8 + x) × ((sx + x) % 8 ≡ 0)
+    inner = u (omega arith)
+
+    pub whole-asks : (n : ℕ) → width * 4 ≤ n → ((sx + x) % 8 ≡ 0) × ((x + 8) * 4 ≤ n) × (x < 256)
+    whole-asks n h = (inner .1, omega arith, omega arith)
+
+    pub not-first : x ≢ 0
+    not-first e = let v = inner in omega arith
+
+    pub inside : x + 8 ≤ 256
+    inside = omega arith
+
+    pub whole-marks : Whole cut x 8
+    whole-marks = let v = inner in whole sx width cut x 8 d (inr u) (omega arith) (omega arith) inside
+
+    pub next-starts : x + 8 < width → (8 ≤ sx % 8 + (x + 8)) × ((sx + (x + 8)) % 8 ≡ 0)
+    next-starts h = let v = inner in (omega arith, omega arith)
+
+-- ---- the byte that keeps the marks of a whole tile, and those behind it
+pub own-mark : (x : ℕ) → x < 8 * (x / 8 + 1)
+own-mark x = omega arith
+
+pub other-mark : (x k : ℕ) → x + 8 < 8 * k → (k ≢ x / 8 + 1) × (x < 8 * k)
+other-mark x k h = ((λ e. omega arith), omega arith)
+
+pub mark-step : (x m : ℕ) → x % 8 ≡ m % 8 → (x + 8) % 8 ≡ m % 8
+mark-step x m e = omega arith
+
+-- ---- the rest of the row, from pixel x on
+pub up-to : (x w : ℕ) → x ≤ w → x + (w - x) ≡ w
+up-to x w h = omega arith
+
+pub painted-rest :
+    (row : List ℕ) (x w : ℕ) (f : ℕ → ℕ) {row₁ row₂ : List ℕ} → x ≤ w → row₁ ≡ painted row 0 x f → row₂ ≡ painted row₁ x (w - x) (λ i. f (x + i))
+    → row₂ ≡ painted row 0 w f
+painted-rest row x w f h e d = painted-on row x (w - x) f e d ∙ ap (λ (k : ℕ). painted row 0 k f) (up-to x w h)

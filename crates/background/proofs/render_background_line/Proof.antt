@@ -1,24 +1,23 @@
 -- `background::render_background_line` meets its contract: the background of a row whose pixel 0 shows the map's pixel (sx, y).
 use borrow.Author.Needs.{needs}
-use mathlib.Core.Path.{_≡_, refl, _∙_}
+use mathlib.Core.Path.{_≡_, refl, ap, _∙_}
 use mathlib.Core.Bool.{true}
 use mathlib.Core.List.{List}
-use mathlib.Core.Logic.{inr, ⊎-elim, _≢_}
+use mathlib.Core.Logic.{⊎-elim}
 use Prim.Native.Nat.{ℕ, _+_, _-_, _*_, _/_, _%_, _≤_, _<_}
-use native.Mathlib.Nat.{zero-add}
+use native.Mathlib.Nat.{le-antisymm}
 use native.Mathlib.Omega.{arith}
-use mir.Syntax.{w8}
-use mir.Val.{Fits}
+use lib.Dec.{lit≤}
 use lib.ListN.{length, length-set, length-replicate}
 use lib.Seq.{getD-set-other}
 use borrow.Author.Tests.{ne-eqb}
-use Rattle.laws.specs.Bits.{any}
 use Rattle.laws.specs.Lists.{at}
 use Rattle.laws.specs.Paint.{painted}
 use Rattle.laws.proofs.Paint.{painted-on}
-use Rattle.bitmap.specs.Mask.{bytesOf, cleared}
+use Rattle.bitmap.specs.Mask.{bytesOf}
 use Rattle.background.specs.Background.{shade, backColour, backFront, prioTo}
-use Rattle.background.proofs.Laws.{tile-marks, whole, whole-first}
+use Rattle.background.proofs.Laws.{tile-marks, whole-first, from-start, from-cleared, first-ends, last-asks, whole-asks}
+use Rattle.background.proofs.Laws.{not-first, inside, whole-marks, next-starts, own-mark, other-mark, mark-step, up-to, painted-rest}
 use Rattle.background.proofs.Marks.{laidIn, laid-none, laid-next, at-zeros}
 use Rattle.background.proofs.render_background_line.Statement.{statement}
 use Rattle.background.proofs.render_background_line.Tie as tie
@@ -67,14 +66,14 @@ bytes-of-requires c κs = search needs
 loop-holds : tie.Need-loop-holds Inv-loop μ-loop
 loop-holds c =
     let at-smaller = c .before .before .before .before .before in
-    let at-start = at-smaller .before .before .before .before in
-    let a = at-start .args in
-    let m = at-smaller .smaller .result in (
-      omega arith,
+    let a = at-smaller .before .before .before .before .args in
+    let m = at-smaller .smaller .result in
+    let f = first-ends (a .sx) (a .width) (at-smaller .smaller .ensures) in (
+      f .0,
       λ base e. e,
       λ e. laid-none (prioTo (a .vram .now) (a .names) (a .sx) (a .y) (a .cut) m) (m % 8) e,
       refl,
-      λ h. (omega arith, omega arith),
+      f .1,
       length-replicate {A = ℕ} 33 0,
       refl,
       λ k h. at-zeros k,
@@ -85,11 +84,14 @@ add-loop c = search needs
 
 render-whole-tile-requires : tie.Need-render-whole-tile-requires Inv-loop μ-loop
 render-whole-tile-requires c κs =
-    let at-loop = c .before .before .before in
+    let at-test = c .before .before in
+    let at-loop = at-test .before in
     let at-start = at-loop .before .before .before .before .before .before .before .before .before .before in
+    let a = at-start .args in
     let p = at-start .pre .1 in
-    let u = at-loop .loop .inv .4 (omega arith) in
-    (search needs, (u .1, omega (arith, p .1), omega (arith, p .0)))
+    let v = at-loop .loop .inv in
+    let h : a .width * 4 ≤ length (at-loop .loop .row) = rw (v .3, at-loop .before .before .before .row .given) (p .1) in
+    (at-start .pre .0, whole-asks (a .sx) (a .width) (a .cut) (at-loop .loop .x) (p .2) (p .0) (v .4) (at-test .loop-test .taken) _ h)
 
 add-marks : tie.Need-add-marks Inv-loop μ-loop
 add-marks c = search needs
@@ -113,32 +115,29 @@ loop-again c =
     let at-smaller = at-render-tile .before .before in
     let at-start = at-smaller .before .before .before .before in
     let a = at-start .args in
+    let p = at-start .pre .1 in
     let v = at-loop .loop .inv in
     let x = at-loop .loop .x in
     let bits = at-render-whole-tile .render-whole-tile .result in
-    let t = at-test .loop-test .taken in
-    let l : x < a .width = omega (arith, t) in
-    let u = v .4 l in
-    let z : x ≢ 0 = λ e. omega arith in
-    let f : (a .sx + x) % 8 + 8 ≤ 8 = omega (arith, u .1) in
-    let r : x + 8 ≤ 256 = omega (arith, at-start .pre .1 .0) in
-    let w = whole (a .sx) (a .width) (a .cut) x 8 (at-start .pre .1 .2) (inr (v .4)) l f r in (
-      omega arith,
+    let t = at-test .loop-test .taken in (
+      t,
       λ base e.
           painted-on _ _ _ _ (v .1 base e)
           (rw (at-bytes-of .bytes-of .ensures .1) at (at-render-whole-tile .render-whole-tile .ensures .0)),
       λ e.
-          tile-marks (a .vram .now) (a .names) (a .sx) (a .y) (a .cut) x 8 (omega arith) w
+          tile-marks (a .vram .now) (a .names) (a .sx) (a .y) (a .cut) x 8 (lit≤ tt)
+          (whole-marks (a .sx) (a .width) (a .cut) x (p .2) (p .0) (v .4) t)
           (λ j. backFront (a .vram .now) (a .names) (a .sx) (a .y) (x + j)) true (λ j h. refl) (v .2 e)
           (at-render-whole-tile .render-whole-tile .ensures .1)
-          (rw (ne-eqb x 0 z)
-          (laid-next (at-loop .loop .marks) (at-render-tile .render-tile .result .bits) (at-smaller .smaller .result % 8) x bits (v .6) r
-          (let q : Fits w8 bits = search needs in q .fits) (v .5) (v .7 (x / 8 + 1) (omega arith)))),
-      omega arith,
-      λ h. (omega (arith, u .0), omega (arith, u .1)),
+          (rw (ne-eqb x 0 (not-first (a .sx) (a .width) (a .cut) x (p .2) (p .0) (v .4) t))
+          (laid-next (at-loop .loop .marks) (at-render-tile .render-tile .result .bits) (at-smaller .smaller .result % 8) x bits (v .6)
+          (inside (a .sx) (a .width) (a .cut) x (p .2) (p .0) (v .4) t)
+          (at-render-whole-tile .render-whole-tile .ok) (v .5) (v .7 (x / 8 + 1) (own-mark x)))),
+      c .before .row2 .given ∙ v .3,
+      next-starts (a .sx) (a .width) (a .cut) x (p .2) (p .0) (v .4) t,
       simp length-set (v .5),
-      omega (arith, v .6),
-      λ k h. let n : k ≢ x / 8 + 1 = λ e. omega arith in getD-set-other (at-loop .loop .marks) (x / 8 + 1) k bits 0 n ∙ v .7 k (omega arith),
+      mark-step x (at-smaller .smaller .result) (v .6),
+      λ k h. let o = other-mark x k h in getD-set-other (at-loop .loop .marks) (x / 8 + 1) k bits 0 (o .0) ∙ v .7 k (o .1),
     )
 
 lay-requires : tie.Need-lay-requires Inv-loop μ-loop
@@ -149,33 +148,22 @@ sub-render-tile c = search needs
 
 render-tile-requires-2 : tie.Need-render-tile-requires-2 Inv-loop μ-loop
 render-tile-requires-2 c κs =
-    let at-loop = c .before .before .before .before in
+    let at-if1 = c .before in
+    let at-after = at-if1 .before .before in
+    let at-loop = at-after .before in
     let at-start = at-loop .before .before .before .before .before .before .before .before .before .before in
     let a = at-start .args in
+    let p = at-start .pre .1 in
     let v = at-loop .loop .inv in
-    let x = at-loop .loop .x in
-    let l : x < a .width = omega arith in
-    let d = at-start .pre .1 .2 in
-    let u = v .4 l in
-    let f : (a .sx + x) % 8 + (a .width - x) ≤ 8 = omega (arith, u .1) in
-    let r : x + (a .width - x) ≤ 256 = omega arith in (
-      search needs,
-      (
-        (f, omega arith, omega arith),
-        (
-          omega arith,
-          ⊎-elim (λ q. omega arith) (λ q. omega arith) d,
-          whole (a .sx) (a .width) (a .cut) x
-              (a .width - x) d (inr (v .4)) l f r,
-        ),
-      ),
+    let h : a .width * 4 ≤ length (at-loop .loop .row) = rw (v .3, at-loop .before .before .before .row .given) (p .1) in (
+      at-start .pre .0,
+      last-asks (a .sx) (a .width) (a .cut) (at-loop .loop .x) (p .2) (p .0) (v .4) _ (at-if1 .if1 .taken) (at-after .loop-test .left) h,
     )
 
 same-length : tie.Need-same-length Inv-loop μ-loop
 same-length c = search needs
 
 returns : tie.Need-returns Inv-loop μ-loop
-unfolding painted cleared prioTo any
 returns c =
     let at-render-tile2 = c .before .before in
     let at-lay = at-render-tile2 .before .before .before in
@@ -186,22 +174,21 @@ returns c =
     let at-start = at-new .before .before .before in
     let a = at-start .args in
     let m = at-smaller .smaller .result in
-    let r1 = rw (zero-add m) at (painted-on (a .row .now) 0 m (shade (a .colours .now) (backColour (a .vram .now) (a .names) (a .sx) (a .y))) refl
-    (at-render-tile .render-tile .ensures .0)) in
-    let p1 = rw (zero-add m) at (at-render-tile .render-tile .ensures .1 (at-new .new .ensures)) in
+    let r1 = from-start (a .row .now) m (shade (a .colours .now) (backColour (a .vram .now) (a .names) (a .sx) (a .y)))
+    (at-render-tile .render-tile .ensures .0) in
+    let p1 = from-cleared (a .vram .now) (a .names) (a .sx) (a .y) (a .cut) m (at-render-tile .render-tile .ensures .1) (at-new .new .ensures) in
     let v = at-loop .loop .inv in
-    let x = at-loop .loop .x in
-    let e : x + (a .width - x) ≡ a .width = omega arith in (
-      rw e at (painted-on (a .row .now) x (a .width - x) (shade (a .colours .now) (backColour (a .vram .now) (a .names) (a .sx) (a .y)))
-          (v .1 (a .row .now) r1) (at-render-tile2 .render-tile2 .ensures .0)),
-      rw e at (at-render-tile2 .render-tile2 .ensures .1 (at-lay .lay .ensures ∙ v .2 p1)),
+    let x = at-loop .loop .x in (
+      painted-rest (a .row .now) x (a .width) (shade (a .colours .now) (backColour (a .vram .now) (a .names) (a .sx) (a .y))) (v .0)
+          (v .1 (a .row .now) r1) (at-render-tile2 .render-tile2 .ensures .0),
+      at-render-tile2 .render-tile2 .ensures .1 (at-lay .lay .ensures ∙ v .2 p1)
+          ∙ ap (λ (k : ℕ). bytesOf (prioTo (a .vram .now) (a .names) (a .sx) (a .y) (a .cut) k)) (up-to x (a .width) (v .0)),
     )
 
 same-length-2 : tie.Need-same-length-2 Inv-loop μ-loop
 same-length-2 c = search needs
 
 returns-2 : tie.Need-returns-2 Inv-loop μ-loop
-unfolding painted cleared prioTo any
 returns-2 c =
     let at-lay = c .before in
     let at-loop = at-lay .before .before in
@@ -211,13 +198,16 @@ returns-2 c =
     let at-start = at-new .before .before .before in
     let a = at-start .args in
     let m = at-smaller .smaller .result in
-    let r1 = rw (zero-add m) at (painted-on (a .row .now) 0 m (shade (a .colours .now) (backColour (a .vram .now) (a .names) (a .sx) (a .y))) refl
-    (at-render-tile .render-tile .ensures .0)) in
-    let p1 = rw (zero-add m) at (at-render-tile .render-tile .ensures .1 (at-new .new .ensures)) in
+    let r1 = from-start (a .row .now) m (shade (a .colours .now) (backColour (a .vram .now) (a .names) (a .sx) (a .y)))
+    (at-render-tile .render-tile .ensures .0) in
+    let p1 = from-cleared (a .vram .now) (a .names) (a .sx) (a .y) (a .cut) m (at-render-tile .render-tile .ensures .1) (at-new .new .ensures) in
     let v = at-loop .loop .inv in
     let x = at-loop .loop .x in
-    let e : x ≡ a .width = omega arith in
-    (rw e at (v .1 (a .row .now) r1), rw e at (at-lay .lay .ensures ∙ v .2 p1))
+    let e : x ≡ a .width = le-antisymm (v .0) (c .if1 .left) in (
+      v .1 (a .row .now) r1
+          ∙ ap (λ (k : ℕ). painted (a .row .now) 0 k (shade (a .colours .now) (backColour (a .vram .now) (a .names) (a .sx) (a .y)))) e,
+      at-lay .lay .ensures ∙ v .2 p1 ∙ ap (λ (k : ℕ). bytesOf (prioTo (a .vram .now) (a .names) (a .sx) (a .y) (a .cut) k)) e,
+    )
 
 pub render-background-line-spec : {M : Type 1} → statement M
 render-background-line-spec =
