@@ -22,26 +22,16 @@ use Rattle.home_block.proofs.store_raster as home-store-raster
 use Rattle.home_block.proofs.store_cache as home-store-cache
 use Rattle.home_block.proofs.out as home-block-out
 use Rattle.home_block.proofs.input as home-block-input
-use Rattle.home_face.proofs.new_table as home-call-new-table
-use Rattle.home_face.proofs.new as home-call-new
-use Rattle.home_face.proofs.out as home-call-out
-use Rattle.home_face.proofs.input as home-call-input
-use Rattle.home_face.proofs.step as home-call-step
-use Rattle.home_face.proofs.row_step as home-call-row-step
-use Rattle.home_face.proofs.layer_step as home-call-layer-step
-use Rattle.home_face.proofs.layer_row_step as home-call-layer-row-step
-use Rattle.home_face.proofs.dump_tileset as home-call-dump-tileset
-use Rattle.home_face.proofs.pixel as home-call-pixel
-use Rattle.face.proofs.vdp_home_new_table as vdp-home-new-table
-use Rattle.face.proofs.vdp_home_new as vdp-home-new
-use Rattle.face.proofs.vdp_home_out as vdp-home-out
-use Rattle.face.proofs.vdp_home_input as vdp-home-input
-use Rattle.face.proofs.vdp_home_step as vdp-home-step
-use Rattle.face.proofs.vdp_home_row_step as vdp-home-row-step
-use Rattle.face.proofs.vdp_home_layer_step as vdp-home-layer-step
-use Rattle.face.proofs.vdp_home_layer_row_step as vdp-home-layer-row-step
-use Rattle.face.proofs.vdp_home_dump_tileset as vdp-home-dump-tileset
-use Rattle.face.proofs.vdp_home_pixel as vdp-home-pixel
+use Rattle.face.proofs.home_calls.vdp_home_new_table as vdp-home-new-table
+use Rattle.face.proofs.home_calls.vdp_home_new as vdp-home-new
+use Rattle.face.proofs.home_calls.vdp_home_out as vdp-home-out
+use Rattle.face.proofs.home_calls.vdp_home_input as vdp-home-input
+use Rattle.face.proofs.home_calls.vdp_home_step as vdp-home-step
+use Rattle.face.proofs.home_calls.vdp_home_row_step as vdp-home-row-step
+use Rattle.face.proofs.home_calls.vdp_home_layer_step as vdp-home-layer-step
+use Rattle.face.proofs.home_calls.vdp_home_layer_row_step as vdp-home-layer-row-step
+use Rattle.face.proofs.home_calls.vdp_home_dump_tileset as vdp-home-dump-tileset
+use Rattle.face.proofs.home_calls.vdp_home_pixel as vdp-home-pixel
 use Rattle.word.proofs.pixel_word as pixel-word
 
 -- ---- the parts of either machine's block
@@ -109,49 +99,6 @@ home-block-input-once κs a q z z′ w w′ e f =
     (λ i. record { refusal = (e .refusal ∙ sym (f .refusal)) i; byte = (e .byte ∙ sym (f .byte)) i }, λ i. ((e .block ∙ sym (f .block)) i, w .1))
 
 -- ---- the home machine's calls
-pub home-call-new-table-once :
-    OneOutcome 1 home-call-new-table.Kinds.ps home-call-new-table.Kinds.r home-call-new-table.Reads.Asked home-call-new-table.Reads.Learnt
-home-call-new-table-once κs a q z z′ w w′ e f = (e .word ∙ sym (f .word), λ i. ((e .block ∙ sym (f .block)) i, w .1))
-
-pub home-call-new-once : OneOutcome 1 home-call-new.Kinds.ps home-call-new.Kinds.r home-call-new.Reads.Asked home-call-new.Reads.Learnt
-home-call-new-once κs a q z z′ w w′ e f = (e .word ∙ sym (f .word), λ i. ((e .block ∙ sym (f .block)) i, w .1))
-
-pub home-call-out-once : OneOutcome 2 home-call-out.Kinds.ps home-call-out.Kinds.r home-call-out.Reads.Asked home-call-out.Reads.Learnt
-home-call-out-once κs a q z z′ w w′ e f = (e .word ∙ sym (f .word), λ i. ((e .block ∙ sym (f .block)) i, ((e .lent ∙ sym (f .lent)) i, w .1 .1)))
-
-pub home-call-input-once : OneOutcome 2 home-call-input.Kinds.ps home-call-input.Kinds.r home-call-input.Reads.Asked home-call-input.Reads.Learnt
-home-call-input-once κs a q z z′ w w′ e f = (e .word ∙ sym (f .word), λ i. ((e .block ∙ sym (f .block)) i, w .1))
-
-pub home-call-step-once : OneOutcome 3 home-call-step.Kinds.ps home-call-step.Kinds.r home-call-step.Reads.Asked home-call-step.Reads.Learnt
-home-call-step-once κs a q z z′ w w′ e f =
-    (e .word ∙ sym (f .word), λ i. ((e .block ∙ sym (f .block)) i, (tt, ((e .lent ∙ sym (f .lent)) i, w .1 .1 .1))))
-
-pub home-call-row-step-once : OneOutcome 3 home-call-row-step.Kinds.ps home-call-row-step.Kinds.r home-call-row-step.Reads.Asked home-call-row-step.Reads.Learnt
-home-call-row-step-once κs a q z z′ w w′ e f =
-    (e .word ∙ sym (f .word), λ i. ((e .block ∙ sym (f .block)) i, (tt, ((e .lent ∙ sym (f .lent)) i, w .1 .1 .1))))
-
-pub home-call-layer-step-once :
-    OneOutcome 4 home-call-layer-step.Kinds.ps home-call-layer-step.Kinds.r home-call-layer-step.Reads.Asked home-call-layer-step.Reads.Learnt
-home-call-layer-step-once κs a q z z′ w w′ e f = (
-  e .call .word ∙ sym (f .call .word),
-  λ i. ((e .call .block ∙ sym (f .call .block)) i, (tt, ((e .call .lent ∙ sym (f .call .lent)) i, ((e .owners ∙ sym (f .owners)) i, w .1 .1 .1 .1)))),
-)
-
-pub home-call-layer-row-step-once :
-    OneOutcome 4 home-call-layer-row-step.Kinds.ps home-call-layer-row-step.Kinds.r home-call-layer-row-step.Reads.Asked home-call-layer-row-step.Reads.Learnt
-home-call-layer-row-step-once κs a q z z′ w w′ e f = (
-  e .call .word ∙ sym (f .call .word),
-  λ i. ((e .call .block ∙ sym (f .call .block)) i, (tt, ((e .call .lent ∙ sym (f .call .lent)) i, ((e .owners ∙ sym (f .owners)) i, w .1 .1 .1 .1)))),
-)
-
-pub home-call-dump-tileset-once :
-    OneOutcome 3 home-call-dump-tileset.Kinds.ps home-call-dump-tileset.Kinds.r home-call-dump-tileset.Reads.Asked home-call-dump-tileset.Reads.Learnt
-home-call-dump-tileset-once κs a q z z′ w w′ e f = (e .word ∙ sym (f .word), λ i. (tt, (tt, ((e .lent ∙ sym (f .lent)) i, tt))))
-
-pub home-call-pixel-once : OneOutcome 2 home-call-pixel.Kinds.ps home-call-pixel.Kinds.r home-call-pixel.Reads.Asked home-call-pixel.Reads.Learnt
-home-call-pixel-once κs a q z z′ w w′ e f = (e ∙ sym f, refl)
-
--- ---- the same by their names for C
 pub vdp-home-new-table-once : OneOutcome 1 vdp-home-new-table.Kinds.ps vdp-home-new-table.Kinds.r vdp-home-new-table.Reads.Asked vdp-home-new-table.Reads.Learnt
 vdp-home-new-table-once κs a q z z′ w w′ e f = (e .word ∙ sym (f .word), λ i. ((e .block ∙ sym (f .block)) i, w .1))
 

@@ -1,6 +1,6 @@
 -- WHAT A LAYER TELLS of the colour beside it, and that a step which tells layers is otherwise the step without.
 -- R15.1, R15.2: said of any view, so of every screen. R15.3, R15.4: of every device of the handheld, memory and buffer; of the home machine's
--- calls, which alone tell its layers, R15.4 stands in crates/home_face/proofs/Laws.antt (`row-aside`, `frame-aside`).
+-- calls, which alone tell its layers, R15.4 stands in crates/face/proofs/HomeLaws.antt (`row-aside`, `frame-aside`).
 -- Assumes nothing.
 use mathlib.Core.Path.{_≡_}
 use mathlib.Core.Logic.{_↔_, _≢_, _⊎_}

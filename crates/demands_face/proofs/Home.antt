@@ -20,8 +20,8 @@ use Rattle.home.specs.declared.HomeStepped.{HomeStepped}
 use Rattle.home.specs.Step.{readingOf, refusedStep, stepped, stepWith, frameStep, frameAfter}
 use Rattle.home.proofs.Laws.{step-exact, frame-taken}
 use Rattle.home_block.specs.HomeBlock.{blockOf}
-use Rattle.home_face.specs.HomeFace.{steppedTo, stepOn}
-use Rattle.home_face.specs.Layers.{layerLines, layerOn}
+use Rattle.face.specs.Home.{steppedTo, stepOn}
+use Rattle.face.specs.HomeLayers.{layerLines, layerOn}
 use Rattle.demands.specs.Home.{home}
 use Rattle.passes.specs.Pass.{Demand3, pass}
 use Rattle.passes.specs.Chart.{InOrder}

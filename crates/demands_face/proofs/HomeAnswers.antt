@@ -25,11 +25,11 @@ use Rattle.home.specs.Ports.{portWrite, portRead}
 use Rattle.home.specs.Step.{readingOf, stepWith, rowStep, frameStep}
 use Rattle.home.proofs.Laws.{step-exact}
 use Rattle.home_block.specs.HomeBlock.{blockSize, stateOf, wellFormed}
-use Rattle.home_face.specs.Pixel.{pixelCall}
-use Rattle.home_face.proofs.Pixels.{pixel-call-exact}
-use Rattle.home_face.specs.HomeFace.{onBlock, newTableCall, outOn, outCall, inputOn, inputCall, stepWord, stepOn, stepCall, rowStepOn, rowStepCall, dumpOn}
-use Rattle.home_face.specs.HomeFace.{dumpCall}
-use Rattle.home_face.specs.Layers.{layerLines, layerOn, layerCall}
+use Rattle.face.specs.HomePixel.{pixelCall}
+use Rattle.face.proofs.HomePixels.{pixel-call-exact}
+use Rattle.face.specs.Home.{onBlock, newTableCall, outOn, outCall, inputOn, inputCall, stepWord, stepOn, stepCall, rowStepOn, rowStepCall, dumpOn}
+use Rattle.face.specs.Home.{dumpCall}
+use Rattle.face.specs.HomeLayers.{layerLines, layerOn, layerCall}
 use Rattle.demands.specs.Home.{Call, out, input, frame-step, row-step, dump-tileset, refusalOf, home}
 use Rattle.passes.proofs.Lawful.{Aimed}
 use Rattle.demands.proofs.Home.{home-lawful, never-six-home}

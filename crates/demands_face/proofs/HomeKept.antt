@@ -20,8 +20,8 @@ use Rattle.home_block.specs.HomeBlock.{blockSize, stateOf, wellFormed}
 use Rattle.home_block.proofs.Whole.{said, other-length}
 use Rattle.home_block.proofs.RoundTrip.{state-back, length-block, block-back}
 use Rattle.home_block.proofs.Shapes.{made-shape, state-shape}
-use Rattle.home_face.specs.HomeFace.{newTableCall, outCall, inputCall, stepCall, rowStepCall, dumpCall}
-use Rattle.home_face.specs.Layers.{layerCall}
+use Rattle.face.specs.Home.{newTableCall, outCall, inputCall, stepCall, rowStepCall, dumpCall}
+use Rattle.face.specs.HomeLayers.{layerCall}
 use Rattle.demands.specs.Home.{home}
 use Rattle.passes.proofs.Sound.{table-kept}
 use Rattle.demands.proofs.Home.{home-lawful}

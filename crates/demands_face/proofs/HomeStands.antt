@@ -39,8 +39,8 @@ use Rattle.home.proofs.Laws.{step-exact, step-accepted, step-either, step-left,
 use Rattle.home_block.specs.HomeBlock.{blockSize, blockOf, stateOf, wellFormed, Shape}
 use Rattle.home_block.proofs.RoundTrip.{state-back, good-block}
 use Rattle.home_block.proofs.Shapes.{made-shape, write-shape, read-shape, carried}
-use Rattle.home_face.specs.HomeFace.{onBlock, newTableCall, outOn, outCall, inputOn, inputCall, steppedTo, stepOn, stepCall, rowStepOn, rowStepCall, dumpCall}
-use Rattle.home_face.specs.Layers.{layerLines, layerOn, layerCall}
+use Rattle.face.specs.Home.{onBlock, newTableCall, outOn, outCall, inputOn, inputCall, steppedTo, stepOn, stepCall, rowStepOn, rowStepCall, dumpCall}
+use Rattle.face.specs.HomeLayers.{layerLines, layerOn, layerCall}
 use Rattle.demands.specs.Home.{Call, out, input, frame-step, row-step, after, home}
 use Rattle.demands_face.specs.Face.{makes, steps, Refused}
 use Rattle.demands_face.specs.HomeCalls.{HomeCall, vdp-home-new, vdp-home-new-table, vdp-home-out, vdp-home-input, vdp-home-step, vdp-home-row-step}

@@ -13,9 +13,9 @@ use Rattle.points.specs.Bytes.{rowFilled, frameFilled}
 use Rattle.word.specs.Called.{Called}
 use Rattle.home.specs.Step.{readingOf}
 use Rattle.home_block.specs.HomeBlock.{stateOf}
-use Rattle.home_face.specs.HomeFace.{newTableCall, newCall, outCall, inputCall, stepCall, rowStepCall, dumpCall}
-use Rattle.home_face.specs.Layers.{layerCall}
-use Rattle.home_face.specs.Pixel.{pixelCall}
+use Rattle.face.specs.Home.{newTableCall, newCall, outCall, inputCall, stepCall, rowStepCall, dumpCall}
+use Rattle.face.specs.HomeLayers.{layerCall}
+use Rattle.face.specs.HomePixel.{pixelCall}
 use Rattle.demands.specs.Home.{home}
 use Rattle.demands_face.specs.Face.{Kind, making, stepping, other, Way, plain, with-layers, Face}
 

@@ -1,35 +1,43 @@
 -- A call of the C face, from what its parts give.
 -- Assumes nothing.
 use mathlib.Core.Path.{_≡_, refl, sym, ap, _∙_}
-use mathlib.Core.Bool.{true, false, _&&_}
+use mathlib.Core.Bool.{Bool, true, false, _&&_}
 use mathlib.Core.Logic.{_≢_}
 use mathlib.Core.List.{List, []}
 use Prim.Native.Nat.{ℕ, _+_, _*_, _<_, _≤_}
+use native.Mathlib.Omega.{arith}
 use borrow.Author.Tests.{le-leb}
 use lib.Dec.{leb}
 use lib.ListN.{length}
 use Rattle.laws.specs.Lists.{at}
 use Rattle.laws.proofs.Parts.{at-past}
-use Rattle.laws.proofs.Tests.{split}
+use Rattle.laws.proofs.Tests.{split, both}
 use Rattle.picture.specs.declared.RenderArea.{RenderArea}
+use Rattle.picture.specs.declared.Screen.{Screen}
+use Rattle.picture.specs.Screen.{columns}
+use Rattle.raster.specs.declared.LineTable.{LineTable}
+use Rattle.raster.specs.declared.Raster.{Raster}
 use Rattle.raster.specs.Raster.{lineTableFrom}
 use Rattle.vdp.specs.declared.VdpState.{VdpState}
 use Rattle.refusal.specs.declared.Refusal.{Refusal}
-use Rattle.refusal.specs.declared.Refusal.the-variants.{Accepted, BlockMalformed}
+use Rattle.refusal.specs.declared.Refusal.the-variants.{BlockMalformed}
 use Rattle.vdp.specs.Device.{made, withCache}
-use Rattle.refusal.specs.Refusals.{refusalNumber, Line, first}
+use Rattle.refusal.specs.Refusals.{refusalNumber, Line, first, under}
 use Rattle.vdp.specs.Ports.{portRead}
 use Rattle.inplace.specs.declared.Got.{Got}
-use Rattle.block.specs.Block.{fits, freshIn, wellFormed, head, small, last, stateOf, blockOf, Sized}
+use Rattle.block.specs.Block.{oldSize, fits, freshIn, wellFormed, head, small, last, stateOf, blockOf, Sized}
 use Rattle.block.proofs.Whole.{long}
 use Rattle.block_ports.specs.InPlace.{OutInPlace, InputInPlace}
 use Rattle.block.proofs.RoundTrip.{block-back}
 use Rattle.block.proofs.Stores.{sized-state}
 use Rattle.step.specs.declared.Stepped.{Stepped}
 use Rattle.points.specs.declared.Points.{Points}
-use Rattle.points.specs.Points.{pointsWith}
-use Rattle.points.specs.Bytes.{layersUnder}
+use Rattle.points.specs.declared.Due.{Due}
+use Rattle.points.specs.Points.{bitsOf, rowLines, frameLines, pointsWith}
+use Rattle.points.specs.Bytes.{rowWith, frameWith, layersBy, alsoLayers}
+use Rattle.points.specs.Due.{dueOf, duePicture, dueLayers, pointsBy}
 use Rattle.step.specs.Step.{coloursNow, readingOf, cleaned, joined, stepWith}
+use Rattle.step.specs.Frame.{rowAfter, frameAfter}
 use Rattle.step.specs.Layers.{layersAfter}
 use Rattle.step.proofs.Laws.{step-table}
 use Rattle.step.proofs.Steps.{joined-with}
@@ -37,81 +45,97 @@ use Rattle.points.specs.declared.DrawnRow.{DrawnRow}
 use Rattle.points.specs.declared.DrawnRow.the-variants.{NoRow, Drawn}
 use Rattle.dump.specs.Sheet.{SheetLeaves}
 use Rattle.picture.specs.Area.{areaFrom, screenOf}
-use Rattle.face.specs.Layers.{layerLines, layerOn, layerCall, layersLeft, LayerLeaves}
+use Rattle.face.specs.Layers.{layerLines, layerOn, layerCall, layersLeft, LayerLeaves, rowFills, frameFills, LayerRowLeaves, LayerFrameLeaves}
 use Rattle.word.specs.Word.{pointsWord}
 use Rattle.word.specs.Called.{askedLines}
-use Rattle.word.proofs.Calls.{leaves, along, ten, on, asked-refused}
+use Rattle.word.proofs.Calls.{leaves, along, on, asked-both, asked-refused}
 use Rattle.face.specs.Face.{Called, Leaves, stepWord, onBlock, onArea, newTableCall, outOn, outCall, inputOn, inputCall, steppedTo, stepOn}
 use Rattle.face.specs.Face.{stepCall, rowStepOn, rowStepCall, dumpOn, dumpCall}
+use Rattle.face.proofs.Steps.{answer-by, colours-by, row-by, frame-by, layers-by}
 
 -- ---- a fresh block
-module _ (b : List ℕ) (t : ℕ) where
-  pub new-ten : (leb t 1 && fits (lineTableFrom t) (length b)) ≡ false → {n : ℕ} → n ≡ refusalNumber BlockMalformed → Leaves (newTableCall b t) n b []
-  unfolding newTableCall
-  new-ten h en = rw en (leaves (sym (rw h)))
+module _ (b : List ℕ) (t : ℕ) {k : LineTable} {room good : Bool} (ek : k ≡ lineTableFrom t) (er : room ≡ fits k (length b))
+    (eg : good ≡ (leb t 1 && room)) where
+  new-good : good ≡ (leb t 1 && fits (lineTableFrom t) (length b))
+  new-good = eg ∙ rw (er, ek)
 
-  pub new-done :
-      t ≤ 1 → fits (lineTableFrom t) (length b) ≡ true → {b′ : List ℕ} {n : ℕ} →
-      b′ ≡ freshIn (lineTableFrom t) b → n ≡ refusalNumber Accepted → Leaves (newTableCall b t) n b′ []
+  pub new-ten : good ≡ false → {n : ℕ} → n ≡ refusalNumber BlockMalformed → Leaves (newTableCall b t) n b []
+  unfolding newTableCall
+  new-ten h en = rw en (leaves (sym (rw (sym new-good ∙ h))))
+
+  pub new-done : good ≡ true → {b′ : List ℕ} → b′ ≡ freshIn k b → Leaves (newTableCall b t) 0 b′ []
   unfolding newTableCall freshIn
-  new-done h room {b′} eb en =
-      let low = le-leb t 1 h in
-      let k : b′ ≡ blockOf (length b) (made (lineTableFrom t)) = eb ∙ rw room in
-      record { word = en ∙ rw (low, room); block = k ∙ rw (low, room); lent = rw (low, room) }
+  new-done h {b′} eb =
+      let g = sym new-good ∙ h in
+      let room = both (leb t 1) (fits (lineTableFrom t) (length b)) g .1 in
+      let f : b′ ≡ blockOf (length b) (made (lineTableFrom t)) = (rw ek at eb) ∙ rw room in
+      record { word = rw g; block = f ∙ rw g; lent = rw g }
+
+-- ---- a call that is taken has a block of its size, with a status byte
+module _ (b : List ℕ) (n : ℕ) {q : ℕ} (eq : q ≡ refusalNumber (first (askedLines (wellFormed b) n))) (zero : q ≡ 0) where
+  pub room : oldSize ≤ length b
+  room = long b (asked-both (wellFormed b) n eq zero .0)
+
+  pub status-room : 2 < length b
+  status-room = omega (arith, room)
 
 -- ---- the block is tested first
-module _ (b : List ℕ) where
-  pub out-ten : (m : List ℕ) (p v : ℕ) {n : ℕ} → wellFormed b ≡ false → n ≡ refusalNumber BlockMalformed → Leaves (outCall b m p v) n b m
-  unfolding outCall
-  out-ten m p v = ten (stateOf b) b m (outOn m p v (length b))
+module _ (b : List ℕ) {q : ℕ} (eq : q ≡ refusalNumber (first (askedLines (wellFormed b) 0))) where
+  -- taken, it is well formed
+  pub whole : q ≡ 0 → wellFormed b ≡ true
+  whole z = asked-both (wellFormed b) 0 eq z .0
 
-  pub out-done :
-      (m : List ℕ) (p v : ℕ) {r : Refusal} {b′ m′ : List ℕ} {n : ℕ} → wellFormed b ≡ true → OutInPlace b m p v r b′ m′ → n ≡ refusalNumber r
-      → Leaves (outCall b m p v) n b′ m′
-  unfolding outCall
-  out-done m p v w l en =
-      along (on (stateOf b) b m (outOn m p v (length b)) w) (record { word = en ∙ ap refusalNumber (l .refusal); block = l .block; lent = l .memory })
+  module _ (h : q ≢ 0) where
+    pub out-refused : (m : List ℕ) (p v : ℕ) → Leaves (outCall b m p v) q b m
+    unfolding outCall
+    out-refused m p v = asked-refused (wellFormed b) 0 eq (stateOf b) b m (outOn m p v (length b)) h
 
-  pub input-ten : (m : List ℕ) (p : ℕ) {n : ℕ} → wellFormed b ≡ false → n ≡ refusalNumber BlockMalformed → Leaves (inputCall b m p) n b []
-  unfolding inputCall
-  input-ten m p = ten (stateOf b) b [] (inputOn m p (length b))
+    pub input-refused : (m : List ℕ) (p : ℕ) → Leaves (inputCall b m p) q b []
+    unfolding inputCall
+    input-refused m p = asked-refused (wellFormed b) 0 eq (stateOf b) b [] (inputOn m p (length b)) h
 
-  pub input-done :
-      (m : List ℕ) (p : ℕ) {r : Got} {b′ : List ℕ} {n : ℕ} → wellFormed b ≡ true → InputInPlace b m p r b′ → n ≡ refusalNumber (r .refusal)
-      → Leaves (inputCall b m p) (n + 256 * r .byte) b′ []
-  unfolding inputCall
-  input-done m p {r} w l en =
-      along (on (stateOf b) b [] (inputOn m p (length b)) w)
-      (record {
-        word = ap (λ (x : ℕ). x + 256 * r .byte) (en ∙ ap refusalNumber (l .refusal)) ∙ ap
-            (λ (x : ℕ). refusalNumber (portRead (stateOf b) m p .refusal) + 256 * x) (l .byte);
-        block = l .block;
-        lent = refl;
-      })
+    pub dump-refused : (m pixels : List ℕ) → Leaves (dumpCall b m pixels) q b pixels
+    unfolding dumpCall
+    dump-refused m pixels = asked-refused (wellFormed b) 0 eq (stateOf b) b pixels (dumpOn b m pixels) h
 
-  -- ---- the dump
-  pub dump-ten : (m pixels : List ℕ) {n : ℕ} → wellFormed b ≡ false → n ≡ refusalNumber BlockMalformed → Leaves (dumpCall b m pixels) n b pixels
-  unfolding dumpCall
-  dump-ten m pixels = ten (stateOf b) b pixels (dumpOn b m pixels)
+  module _ (z : q ≡ 0) where
+    pub out-done : (m : List ℕ) (p v : ℕ) {r : Refusal} {b′ m′ : List ℕ} {n : ℕ} → OutInPlace b m p v r b′ m′ → n ≡ refusalNumber r
+        → Leaves (outCall b m p v) n b′ m′
+    unfolding outCall
+    out-done m p v l en =
+        along (on (stateOf b) b m (outOn m p v (length b)) (whole z))
+        (record { word = en ∙ ap refusalNumber (l .refusal); block = l .block; lent = l .memory })
 
-  pub dump-done :
-      (m pixels : List ℕ) {reg cache : List ℕ} {r : Refusal} {pixels′ : List ℕ} {n : ℕ} → wellFormed b ≡ true → reg ≡ stateOf b .reg
-      → cache ≡ stateOf b .«color_cache» → SheetLeaves reg cache m pixels r pixels′ → n ≡ refusalNumber r → Leaves (dumpCall b m pixels) n b pixels′
-  unfolding dumpCall
-  dump-done m pixels w er ec l en =
-      along (on (stateOf b) b pixels (dumpOn b m pixels) w)
-      (record { word = en ∙ ap refusalNumber (l .refusal); block = refl; lent = rw (er, ec) at (l .bytes) })
+    pub input-done : (m : List ℕ) (p : ℕ) {r : Got} {b′ : List ℕ} {n : ℕ} → InputInPlace b m p r b′ → n ≡ refusalNumber (r .refusal)
+        → Leaves (inputCall b m p) (n + 256 * r .byte) b′ []
+    unfolding inputCall
+    input-done m p {r} l en =
+        along (on (stateOf b) b [] (inputOn m p (length b)) (whole z))
+        (record {
+          word = ap (λ (x : ℕ). x + 256 * r .byte) (en ∙ ap refusalNumber (l .refusal)) ∙ ap
+              (λ (x : ℕ). refusalNumber (portRead (stateOf b) m p .refusal) + 256 * x) (l .byte);
+          block = l .block;
+          lent = refl;
+        })
+
+    pub dump-done :
+        (m pixels : List ℕ) {reg cache : List ℕ} {r : Refusal} {pixels′ : List ℕ} {n : ℕ} → reg ≡ stateOf b .reg → cache ≡ stateOf b .«color_cache»
+        → SheetLeaves reg cache m pixels r pixels′ → n ≡ refusalNumber r → Leaves (dumpCall b m pixels) n b pixels′
+    unfolding dumpCall
+    dump-done m pixels er ec l en =
+        along (on (stateOf b) b pixels (dumpOn b m pixels) (whole z))
+        (record { word = en ∙ ap refusalNumber (l .refusal); block = refl; lent = rw (er, ec) at (l .bytes) })
 
 -- ---- a step under these lines, by what its points answer and leave, the block that they are stored in, and their word
-pub ran :
-    (b m x : List ℕ) (ls : List Line) (a : RenderArea) {points : Points} {colours b′ x′ y : List ℕ} {r : ℕ} (bytes : (i : ℕ) → at b i < 256)
+ran :
+    (b m : List ℕ) (ls : List Line) (a : RenderArea) {points : Points} {colours b′ x′ y : List ℕ} {r : ℕ} (bytes : (i : ℕ) → at b i < 256)
     (w : wellFormed b ≡ true) → points ≡ pointsWith ls (screenOf a) m (readingOf (stateOf b))
     → ((n : ℕ) → points .row ≡ Drawn n → colours ≡ coloursNow (stateOf b))
     → ((j : ℕ) (s : VdpState) → Sized s → points .raster .table ≡ s .raster .table → ((n : ℕ) → points .row ≡ Drawn n → colours ≡ coloursNow s)
     → b ≡ blockOf j s → b′ ≡ blockOf j (joined s points .vdp))
     → r ≡ pointsWord points → x′ ≡ y
     → Leaves (steppedTo (length b) (stepWith ls a m (stateOf b)) y) r b′ x′
-ran b m x ls a {points} bytes w e colour-of es er ex =
+ran b m ls a {points} bytes w e colour-of es er ex =
     let s : VdpState = stateOf b in
     let q : joined s points ≡ stepWith ls a m s = ap (λ (p : Points). joined s p) e ∙ joined-with ls a m s in
     record {
@@ -124,50 +148,93 @@ ran b m x ls a {points} bytes w e colour-of es er ex =
     }
 
 -- ---- a step: the block is tested, the area number, and then the block's parts are read each by itself
-module _ (b m x : List ℕ) (n : ℕ) where
-  -- a call that asks for an area, on block and area
-  abbrev asked : (VdpState → RenderArea → Called) → Called
-  asked call = onBlock b x (λ s. onArea n b x (call s))
+taken : (b x : List ℕ) (n : ℕ) (call : VdpState → RenderArea → Called) {q : ℕ} → q ≡ refusalNumber (first (askedLines (wellFormed b) n)) → q ≡ 0
+    → call (stateOf b) (areaFrom n) ≡ onBlock b x (λ s. onArea n b x (call s))
+taken b x n call eq zero = let t = asked-both (wellFormed b) n eq zero in sym (rw (t .0, le-leb n 2 (t .1)))
 
-  taken : (call : VdpState → RenderArea → Called) → wellFormed b ≡ true → n ≤ 2 → call (stateOf b) (areaFrom n) ≡ asked call
-  taken call w h = sym (rw (w, le-leb n 2 h))
+-- refused by 10 or 11
+module _ (b m x : List ℕ) (n : ℕ) {r : ℕ} (er : r ≡ refusalNumber (first (askedLines (wellFormed b) n))) (h : r ≢ 0) where
+  pub step-refused : Leaves (stepCall b m x n) r b x
+  unfolding stepCall
+  step-refused = asked-refused (wellFormed b) n er (stateOf b) b x (λ s. stepOn m x (length b) s (areaFrom n)) h
 
-  -- refused by 10 or 11
-  module _ {r : ℕ} (er : r ≡ refusalNumber (first (askedLines (wellFormed b) n))) (h : r ≢ 0) where
-    pub step-refused : Leaves (stepCall b m x n) r b x
-    unfolding stepCall
-    step-refused = asked-refused (wellFormed b) n er (stateOf b) b x (λ s. stepOn m x (length b) s (areaFrom n)) h
+  pub row-refused : Leaves (rowStepCall b m x n) r b x
+  unfolding rowStepCall
+  row-refused = asked-refused (wellFormed b) n er (stateOf b) b x (λ s. rowStepOn m x (length b) s (areaFrom n)) h
 
-    pub row-refused : Leaves (rowStepCall b m x n) r b x
-    unfolding rowStepCall
-    row-refused = asked-refused (wellFormed b) n er (stateOf b) b x (λ s. rowStepOn m x (length b) s (areaFrom n)) h
+  pub layer-refused : (lines : RenderArea → List Line) (filled : VdpState → RenderArea → List ℕ) (layers : List ℕ)
+      → LayerLeaves lines filled b m x layers n r b x layers
+  unfolding layerCall layersLeft
+  layer-refused lines filled layers =
+      record {
+        call = asked-refused (wellFormed b) n er (stateOf b) b x (λ s. layerOn lines filled m x layers (length b) s (areaFrom n)) h;
+        owners = split (wellFormed b) (λ e. split (leb n 2) (λ f. absurd (h (er ∙ rw (e, f)))) (λ f. rw (e, f))) (λ e. rw e);
+      }
 
-    pub layer-refused : (lines : RenderArea → List Line) (filled : VdpState → RenderArea → List ℕ) (layers : List ℕ)
-        → LayerLeaves lines filled b m x layers n r b x layers
-    unfolding layerCall layersLeft
-    layer-refused lines filled layers =
+-- the status byte is that of the device
+pub status-is : (b : List ℕ) {status : ℕ} → status ≡ at b 2 → status ≡ stateOf b .status
+unfolding stateOf
+status-is b e = e
+
+-- taken, it is that step, from what its parts give
+module _ (b m x : List ℕ) (n : ℕ) {q : ℕ} (eq : q ≡ refusalNumber (first (askedLines (wellFormed b) n))) (zero : q ≡ 0) (bytes : (i : ℕ) → at b i < 256)
+    {z : Screen} {reg : List ℕ} {raster : Raster} {status : ℕ} {d : Due} {colours : List ℕ} {points : Points} {b′ x′ : List ℕ} {r : ℕ}
+    (ez : z ≡ screenOf (areaFrom n)) (eg : reg ≡ stateOf b .reg) (et : raster ≡ stateOf b .raster) (eu : status ≡ stateOf b .status)
+    (ec : (y : ℕ) → d .row ≡ Drawn y → colours ≡ coloursNow (stateOf b)) (ep : points ≡ pointsBy reg status (bitsOf (d .row) (duePicture z m reg d)) d)
+    (er : r ≡ pointsWord points)
+    (es : (j : ℕ) (s : VdpState) → Sized s → points .raster .table ≡ s .raster .table → ((y : ℕ) → points .row ≡ Drawn y → colours ≡ coloursNow s)
+    → b ≡ blockOf j s → b′ ≡ blockOf j (joined s points .vdp)) where
+  -- under any lines, which may go by the screen
+  under-lines : (lines : Screen → List Line) {y : List ℕ} → d ≡ dueOf (lines z) z reg raster → x′ ≡ y
+      → Leaves (steppedTo (length b) (stepWith (lines (screenOf (areaFrom n))) (areaFrom n) m (stateOf b)) y) r b′ x′
+  under-lines lines ed ex =
+      let k = readingOf (stateOf b) in
+      ran b m (lines (screenOf (areaFrom n))) (areaFrom n) bytes (asked-both (wellFormed b) n eq zero .0)
+      (rw ez at (answer-by (lines z) z m k eg et eu ec ep ed))
+      (colours-by (lines z) z m k eg et eu ec ep ed) es er ex
+
+  pub step-kept : d ≡ dueOf (frameLines z m (length x)) z reg raster → x′ ≡ frameWith (d .row) z colours (duePicture z m reg d) x
+      → Leaves (stepCall b m x n) r b′ x′
+  unfolding stepCall frameAfter
+  step-kept ed ex =
+      along (taken b x n (stepOn m x (length b)) eq zero)
+      (under-lines (λ s. frameLines s m (length x)) ed
+      (rw ez at (frame-by (frameLines z m (length x)) z m (readingOf (stateOf b)) eg et eu ec ep ed x ex)))
+
+  pub row-kept : d ≡ dueOf (rowLines z m (length x)) z reg raster → x′ ≡ rowWith (d .row) z colours (duePicture z m reg d) x
+      → Leaves (rowStepCall b m x n) r b′ x′
+  unfolding rowStepCall rowAfter
+  row-kept ed ex =
+      along (taken b x n (rowStepOn m x (length b)) eq zero)
+      (under-lines (λ s. rowLines s m (length x)) ed
+      (rw ez at (row-by (rowLines z m (length x)) z m (readingOf (stateOf b)) eg et eu ec ep ed x ex)))
+
+  -- with layers
+  module _ (layers : List ℕ) {layers′ : List ℕ} (eo : layers′ ≡ layersBy (d .row) z (dueLayers z m reg d) layers) where
+    layered : (lines : Screen → List Line) (filled : VdpState → RenderArea → List ℕ)
+        → d ≡ dueOf (alsoLayers (columns z) (length layers) (lines z)) z reg raster
+        → x′ ≡ under (layerLines (λ a. lines (screenOf a)) layers (areaFrom n)) (λ r. x) (filled (stateOf b) (areaFrom n))
+        → LayerLeaves (λ a. lines (screenOf a)) filled b m x layers n r b′ x′ layers′
+    unfolding layerCall layersLeft layersAfter
+    layered lines filled ed ex =
+        let ls : Screen → List Line = λ s. alsoLayers (columns s) (length layers) (lines s) in
+        let t = asked-both (wellFormed b) n eq zero in
         record {
-          call = asked-refused (wellFormed b) n er (stateOf b) b x (λ s. layerOn lines filled m x layers (length b) s (areaFrom n)) h;
-          owners = split (wellFormed b) (λ e. split (leb n 2) (λ f. absurd (h (er ∙ rw (e, f)))) (λ f. rw (e, f))) (λ e. rw e);
+          call = along (taken b x n (layerOn (λ a. lines (screenOf a)) filled m x layers (length b)) eq zero) (under-lines ls ed ex);
+          owners = (rw ez at (layers-by (ls z) z m (readingOf (stateOf b)) eg et eu ec ep ed layers eo)) ∙ rw (t .0, le-leb n 2 (t .1));
         }
 
-  -- taken, it is that step
-  module _ (w : wellFormed b ≡ true) (h : n ≤ 2) {b′ x′ : List ℕ} {r : ℕ} where
-    pub step-kept : Leaves (stepOn m x (length b) (stateOf b) (areaFrom n)) r b′ x′ → Leaves (stepCall b m x n) r b′ x′
-    unfolding stepCall
-    step-kept l = along (taken (stepOn m x (length b)) w h) l
+    pub layer-frame-kept : d ≡ dueOf (alsoLayers (columns z) (length layers) (frameLines z m (length x))) z reg raster
+        → x′ ≡ frameWith (d .row) z colours (duePicture z m reg d) x → LayerFrameLeaves b m x layers n r b′ x′ layers′
+    layer-frame-kept ed ex =
+        layered (λ s. frameLines s m (length x)) (frameFills m x) ed
+        (rw ez at (frame-by (alsoLayers (columns z) (length layers) (frameLines z m (length x))) z m (readingOf (stateOf b)) eg et eu ec ep ed x ex))
 
-    pub row-kept : Leaves (rowStepOn m x (length b) (stateOf b) (areaFrom n)) r b′ x′ → Leaves (rowStepCall b m x n) r b′ x′
-    unfolding rowStepCall
-    row-kept l = along (taken (rowStepOn m x (length b)) w h) l
-
-    pub layer-kept : (lines : RenderArea → List Line) (filled : VdpState → RenderArea → List ℕ) (layers : List ℕ) {layers′ : List ℕ}
-        → Leaves (layerOn lines filled m x layers (length b) (stateOf b) (areaFrom n)) r b′ x′
-        → layers′ ≡ layersUnder (layerLines lines layers (areaFrom n)) (screenOf (areaFrom n)) m (readingOf (stateOf b)) layers
-        → LayerLeaves lines filled b m x layers n r b′ x′ layers′
-    unfolding layerCall layersLeft layersAfter
-    layer-kept lines filled layers l eo =
-        record { call = along (taken (layerOn lines filled m x layers (length b)) w h) l; owners = eo ∙ rw (w, le-leb n 2 h) }
+    pub layer-row-kept : d ≡ dueOf (alsoLayers (columns z) (length layers) (rowLines z m (length x))) z reg raster
+        → x′ ≡ rowWith (d .row) z colours (duePicture z m reg d) x → LayerRowLeaves b m x layers n r b′ x′ layers′
+    layer-row-kept ed ex =
+        layered (λ s. rowLines s m (length x)) (rowFills m x) ed
+        (rw ez at (row-by (alsoLayers (columns z) (length layers) (rowLines z m (length x))) z m (readingOf (stateOf b)) eg et eu ec ep ed x ex))
 
 -- a step's colours keep the sizes
 pub cleaned-sized : (r : DrawnRow) (s : VdpState) (colours : List ℕ) → Sized s → Sized (cleaned r s colours)

@@ -1,4 +1,5 @@
 -- The laws of the C face.
+pub mod Steps
 pub mod Laws
 pub mod Exact
 pub mod Pixels
@@ -9,3 +10,7 @@ pub mod Tiles
 pub mod Kept
 pub mod Repairs
 pub mod Records
+pub mod HomeLaws
+pub mod HomeExact
+pub mod HomeBehind
+pub mod HomePixels

@@ -8,22 +8,29 @@ use native.Mathlib.Omega.{arith}
 use lib.Dec.{leb}
 use lib.ListN.{length, take, drop}
 use lib.Seq.{getD-take, getD-drop}
-use borrow.Author.Tests.{eq-eqb, ne-eqb, eqb-false}
+use mathlib.Core.Bool.{cond}
+use borrow.Author.Tests.{eq-eqb, ne-eqb, eqb-false, le-leb}
 use Rattle.laws.specs.Lists.{at}
 use Rattle.laws.specs.Sizes.{vramSize}
 use Rattle.laws.proofs.Tables.{getD-table}
 use Rattle.laws.proofs.Tests.{split}
 use Rattle.colour.specs.Colour.{colour, coloursOf}
-use Rattle.picture.specs.Area.{areaFrom}
+use Rattle.picture.specs.declared.Screen.{Screen}
+use Rattle.picture.specs.Area.{areaFrom, screenOf}
+use Rattle.raster.specs.declared.Raster.{Raster}
 use Rattle.refusal.specs.Refusals.{refusalNumber, first, whole}
 use Rattle.block.specs.Block.{wellFormed, stateOf}
-use Rattle.pixel.specs.Pixel.{pixelLines}
+use Rattle.pixel.specs.declared.Spot.{Spot}
+use Rattle.pixel.specs.Pixel.{pixelLines, spotOf}
 use Rattle.step.specs.Step.{coloursNow}
 use Rattle.step.specs.Pixel.{pixelOf}
 use Rattle.step.proofs.Pixels.{pixel-exact, pixel-refused}
 use Rattle.face.specs.Refused.{refusalIn, stepCallLines}
 use Rattle.face.specs.Pixel.{pixelCall}
+use Rattle.word.specs.Word.{pixelBits}
+use Rattle.word.specs.Called.{askedLines}
 use Rattle.word.proofs.Words.{pixel-byte}
+use Rattle.word.proofs.Calls.{asked-both}
 
 module _ (b : List ℕ) (n : ℕ) where
   pub colour-dirty : n < 32 → at b 26 ≡ 1 → colour (at b (27 + 2 * n)) (at b (27 + (2 * n + 1))) ≡ at (coloursNow (stateOf b)) n
@@ -41,6 +48,19 @@ module _ (b : List ℕ) (n : ℕ) where
   pub colour-clean : (at b 26 ≡ 1 → ⊥) → at (stateOf b .«color_cache») n ≡ at (coloursNow (stateOf b)) n
   unfolding stateOf
   colour-clean e = rw (ne-eqb (at b 26) 1 e)
+
+-- ---- the call: refused by 10 or 11, and else from what its parts give
+module _ (b m : List ℕ) (n y x : ℕ) {q : ℕ} (eq : q ≡ refusalNumber (first (askedLines (wellFormed b) n))) where
+  pub pixel-asked : q ≢ 0 → q ≡ pixelCall b m n y x
+  unfolding pixelCall
+  pixel-asked h = eq ∙ split (wellFormed b) (λ e. split (leb n 2) (λ f. absurd (h (eq ∙ rw (e, f)))) (λ f. rw (e, f))) (λ e. rw e)
+
+  pub pixel-done :
+      q ≡ 0 → {z : Screen} {reg : List ℕ} {raster : Raster} {s : Spot} {c r : ℕ} → z ≡ screenOf (areaFrom n) → reg ≡ stateOf b .reg → raster ≡ stateOf b .raster
+      → s ≡ spotOf z reg (raster .«vertical_scroll») m y x → c ≡ cond (s .there) (at (coloursNow (stateOf b)) (s .colour)) 0
+      → r ≡ refusalNumber (s .refusal) + pixelBits (s .there) c → r ≡ pixelCall b m n y x
+  unfolding pixelCall pixelOf
+  pixel-done zero ez eg et es ec er = let t = asked-both (wellFormed b) n eq zero in er ∙ rw (ec, es, eg, et, ez, t .0, le-leb n 2 (t .1))
 
 -- R16.3: refused by the first line of its table that holds; R16.6: and then its word is the refusal alone, with no pixel and four zero bytes
 module _ (b m : List ℕ) (n y x : ℕ) where

@@ -8,3 +8,7 @@ pub mod Layers
 pub mod Pixel
 pub mod Repair
 pub mod Record
+pub mod Home
+pub mod HomeLayers
+pub mod HomePixel
+pub mod HomeRefused

@@ -3,12 +3,15 @@ ghost use mathlib.Core.List.{[]};
 ghost use mathlib.Core.Path.{_≡_};
 ghost use mathlib.Core.Bool.{cond};
 ghost use Prim.Native.Nat.{ℕ, _+_, _*_, _≤_, _<_};
-ghost use Rattle.refusal.specs.Refusals.{refusalNumber};
+ghost use Rattle.refusal.specs.Refusals.{refusalNumber, first};
 ghost use lib.ListN.{length};
 ghost use Rattle.laws.specs.Lists.{at};
 ghost use Rattle.vdp.specs.declared.VdpState.{VdpState};
 ghost use Rattle.points.specs.declared.DrawnRow.the-variants.{Drawn};
-ghost use Rattle.block.specs.Block.{oldSize, stateOf, blockOf, Sized};
+ghost use Rattle.word.specs.Word.{pointsWord};
+ghost use Rattle.word.specs.Called.{askedLines};
+ghost use Rattle.picture.specs.Area.{areaFrom, screenOf};
+ghost use Rattle.block.specs.Block.{oldSize, wellFormed, stateOf, blockOf, Sized};
 ghost use Rattle.step.specs.Step.{coloursNow, cleaned, joined};
 ghost use Rattle.face.specs.Tiles.{writeTileCall, readTileCall};
 ghost use Rattle.face.specs.Face.{newTableCall, newCall, outCall, inputCall, stepCall, rowStepCall, dumpCall, Leaves};
@@ -18,10 +21,12 @@ ghost use Rattle.face.specs.Record.{recordCall, recordStepCall, bytesWor
 ghost use Rattle.face.specs.Repair.{repairCall};
 ghost use Rattle.face.specs.Version.{version};
 ghost use Rattle.face.specs.Pixel.{pixelCall};
-ghost use Rattle.home_face.specs.HomeFace as home;
-ghost use Rattle.home_face.specs.Layers as home-layers;
-ghost use Rattle.home_face.specs.Pixel as home-pixel;
+
+pub mod home_calls;
+
+use picture::Screen;
 use points::DrawnRow;
+use points::Due;
 use points::Points;
 use refusal::Refusal;
 use trace_record::Record;
@@ -32,15 +37,12 @@ use trace_record::Recorded;
 pub extern "C" fn vdp_new_table(state: &mut [u8], table: u8) -> u32
     ensures { λ r. ⌜ Leaves (newTableCall (now (state .entry)) table) r (now (state .exit)) [] ⌝ }
 {
-    if 1 < table {
-        return word::number(Refusal::BlockMalformed);
-    }
     let named = raster::table_from(table);
-    if !block::has_room(named, state.len()) {
+    if !small::both(table <= 1, block::has_room(named, state.len())) {
         return word::number(Refusal::BlockMalformed);
     }
     block::fresh(state, named);
-    word::number(Refusal::Accepted)
+    0
 }
 
 // The same with no table named: the chart's.
@@ -51,13 +53,21 @@ pub extern "C" fn vdp_new(state: &mut [u8]) -> u32
     vdp_new_table(state, raster::unnamed_table())
 }
 
+// The number by which a call on the block is refused before its own tests, 0 where it is not; one that asks for no area has area 0.
+fn asked(state: &[u8], area: u8) -> u32
+    ensures { λ r. ⌜ r ≡ refusalNumber (first (askedLines (wellFormed (now (state .entry))) area)) ⌝ }
+{
+    word::asked(block::well_formed(state), area)
+}
+
 // A port write.
 #[no_mangle]
 pub extern "C" fn vdp_out(state: &mut [u8], vram: &mut [u8], port: u16, value: u8) -> u32
     ensures { λ r. ⌜ Leaves (outCall (now (state .entry)) (now (vram .entry)) port value) r (now (state .exit)) (now (vram .exit)) ⌝ }
 {
-    if !block::well_formed(state) {
-        return word::number(Refusal::BlockMalformed);
+    let refused = asked(state, 0);
+    if refused != 0 {
+        return refused;
     }
     word::number(block_ports::out(state, vram, port, value))
 }
@@ -67,19 +77,21 @@ pub extern "C" fn vdp_out(state: &mut [u8], vram: &mut [u8], port: u16, value: u
 pub extern "C" fn vdp_input(state: &mut [u8], vram: &[u8], port: u16) -> u32
     ensures { λ r. ⌜ Leaves (inputCall (now (state .entry)) (now (vram .entry)) port) r (now (state .exit)) [] ⌝ }
 {
-    if !block::well_formed(state) {
-        return word::number(Refusal::BlockMalformed);
+    let refused = asked(state, 0);
+    if refused != 0 {
+        return refused;
     }
     let got = block_ports::input(state, vram, port);
     let refusal = got.refusal;
     word::number(refusal) + 256 * (got.byte as u32)
 }
 
-// The colours that a step of the block's device draws a row with; where it draws none, none are made.
-fn colours_of(state: &[u8], row: DrawnRow) -> [u32; 32]
+// The colours that a step of the block's device which is due draws a row with; where it draws none, none are made.
+fn colours_of(state: &[u8], due: Due) -> [u32; 32]
     requires { ⌜ oldSize ≤ length (now state) ⌝ }
-    ensures { λ r. ⌜ ((y : ℕ) → row ≡ Drawn y → r ≡ coloursNow (stateOf (now (state .entry)))) ⌝ }
+    ensures { λ r. ⌜ ((y : ℕ) → due .row ≡ Drawn y → r ≡ coloursNow (stateOf (now (state .entry)))) ⌝ }
 {
+    let row = due.row;
     let DrawnRow::Drawn(_) = row else {
         return [0u32; 32];
     };
@@ -102,15 +114,32 @@ fn store_colours(state: &mut [u8], row: DrawnRow, colours: &[u32; 32])
     }
 }
 
-// What the points of a step leave of the device, into its block.
-fn store(state: &mut [u8], points: Points, colours: &[u32; 32])
+// The status byte of a block.
+fn status_in(state: &[u8]) -> u8
+    requires { ⌜ 2 < length (now state) ⌝ }
+    ensures { λ r. ⌜ r ≡ at (now (state .entry)) 2 ⌝ }
+{
+    state[fields::STATUS]
+}
+
+// What the points of a step leave of the device, into its block; answered by their word.
+fn left(points: Points, colours: &[u32; 32], state: &mut [u8]) -> u32
     requires { ⌜ oldSize ≤ length (now state) ⌝ }
+    ensures { λ r. ⌜ r ≡ pointsWord points ⌝ }
     ensures { λ _. ⌜ ((k : ℕ) (s : VdpState) → Sized s → points .raster .table ≡ s .raster .table → ((y : ℕ) → points .row ≡ Drawn y → now (colours .entry) ≡ coloursNow s) → now (state .entry) ≡ blockOf k s → now (state .exit) ≡ blockOf k (joined s points .vdp)) ⌝ }
 {
     let row = points.row;
     let raster = points.raster;
     store_colours(state, row, colours);
     block::store_raster(state, points.status, raster);
+    word::word_of(points)
+}
+
+// The screen of an area's number.
+fn screen_from(area: u8) -> Screen
+    ensures { λ r. ⌜ r ≡ screenOf (areaFrom area) ⌝ }
+{
+    picture::screen_of(picture::area_from(area))
 }
 
 // A step, whose row goes to its place in the frame.
@@ -118,29 +147,27 @@ fn store(state: &mut [u8], points: Points, colours: &[u32; 32])
 pub extern "C" fn vdp_step(state: &mut [u8], vram: &[u8], frame: &mut [u8], area: u8) -> u32
     ensures { λ r. ⌜ Leaves (stepCall (now (state .entry)) (now (vram .entry)) (now (frame .entry)) area) r (now (state .exit)) (now (frame .exit)) ⌝ }
 {
-    let refused = word::asked(block::well_formed(state), area);
+    let refused = asked(state, area);
     if refused != 0 {
         return refused;
     }
-    let screen = picture::screen_of(picture::area_from(area));
-    let reg = block::registers(state);
-    let raster = block::raster_in(state);
-    let due = points::frame_due(reg, raster, vram, frame.len(), screen);
+    let view: &[u8] = state;
+    let screen = screen_from(area);
+    let reg = block::registers(view);
+    let due = points::frame_due(reg, block::raster_in(view), vram, frame.len(), screen);
+    let colours = colours_of(view, due);
     let mut none = [0u8; 0];
-    let drawn = due.row;
-    let colours = colours_of(state, drawn);
     let points = points_run::frame_points_due(
         due,
         reg,
-        state[fields::STATUS],
+        status_in(view),
         &colours,
         vram,
         frame,
         &mut none,
         screen,
     );
-    store(state, points, &colours);
-    word::word_of(points)
+    left(points, &colours, state)
 }
 
 // A step, whose row goes to the first bytes of the row buffer.
@@ -148,29 +175,27 @@ pub extern "C" fn vdp_step(state: &mut [u8], vram: &[u8], frame: &mut [u8], area
 pub extern "C" fn vdp_row_step(state: &mut [u8], vram: &[u8], row: &mut [u8], area: u8) -> u32
     ensures { λ r. ⌜ Leaves (rowStepCall (now (state .entry)) (now (vram .entry)) (now (row .entry)) area) r (now (state .exit)) (now (row .exit)) ⌝ }
 {
-    let refused = word::asked(block::well_formed(state), area);
+    let refused = asked(state, area);
     if refused != 0 {
         return refused;
     }
-    let screen = picture::screen_of(picture::area_from(area));
-    let reg = block::registers(state);
-    let raster = block::raster_in(state);
-    let due = points::row_due(reg, raster, vram, row.len(), screen);
+    let view: &[u8] = state;
+    let screen = screen_from(area);
+    let reg = block::registers(view);
+    let due = points::row_due(reg, block::raster_in(view), vram, row.len(), screen);
+    let colours = colours_of(view, due);
     let mut none = [0u8; 0];
-    let drawn = due.row;
-    let colours = colours_of(state, drawn);
     let points = points_run::row_points_due(
         due,
         reg,
-        state[fields::STATUS],
+        status_in(view),
         &colours,
         vram,
         row,
         &mut none,
         screen,
     );
-    store(state, points, &colours);
-    word::word_of(points)
+    left(points, &colours, state)
 }
 
 // The step on a frame, with the layers of the row's columns, which go to the first bytes of the layer buffer.
@@ -184,29 +209,28 @@ pub extern "C" fn vdp_layer_step(
 ) -> u32
     ensures { λ r. ⌜ LayerFrameLeaves (now (state .entry)) (now (vram .entry)) (now (frame .entry)) (now (layers .entry)) area r (now (state .exit)) (now (frame .exit)) (now (layers .exit)) ⌝ }
 {
-    let refused = word::asked(block::well_formed(state), area);
+    let refused = asked(state, area);
     if refused != 0 {
         return refused;
     }
-    let screen = picture::screen_of(picture::area_from(area));
-    let reg = block::registers(state);
-    let raster = block::raster_in(state);
+    let view: &[u8] = state;
+    let screen = screen_from(area);
+    let reg = block::registers(view);
+    let raster = block::raster_in(view);
     let plain = points::frame_due(reg, raster, vram, frame.len(), screen);
     let due = points::layer_due(plain, raster, layers.len(), screen);
-    let drawn = due.row;
-    let colours = colours_of(state, drawn);
+    let colours = colours_of(view, due);
     let points = points_run::frame_points_due(
         due,
         reg,
-        state[fields::STATUS],
+        status_in(view),
         &colours,
         vram,
         frame,
         layers,
         screen,
     );
-    store(state, points, &colours);
-    word::word_of(points)
+    left(points, &colours, state)
 }
 
 // The same of the step on a row buffer.
@@ -220,29 +244,28 @@ pub extern "C" fn vdp_layer_row_step(
 ) -> u32
     ensures { λ r. ⌜ LayerRowLeaves (now (state .entry)) (now (vram .entry)) (now (row .entry)) (now (layers .entry)) area r (now (state .exit)) (now (row .exit)) (now (layers .exit)) ⌝ }
 {
-    let refused = word::asked(block::well_formed(state), area);
+    let refused = asked(state, area);
     if refused != 0 {
         return refused;
     }
-    let screen = picture::screen_of(picture::area_from(area));
-    let reg = block::registers(state);
-    let raster = block::raster_in(state);
+    let view: &[u8] = state;
+    let screen = screen_from(area);
+    let reg = block::registers(view);
+    let raster = block::raster_in(view);
     let plain = points::row_due(reg, raster, vram, row.len(), screen);
     let due = points::layer_due(plain, raster, layers.len(), screen);
-    let drawn = due.row;
-    let colours = colours_of(state, drawn);
+    let colours = colours_of(view, due);
     let points = points_run::row_points_due(
         due,
         reg,
-        state[fields::STATUS],
+        status_in(view),
         &colours,
         vram,
         row,
         layers,
         screen,
     );
-    store(state, points, &colours);
-    word::word_of(points)
+    left(points, &colours, state)
 }
 
 // All tiles into the pixels; the block is only read.
@@ -250,8 +273,9 @@ pub extern "C" fn vdp_layer_row_step(
 pub extern "C" fn vdp_dump_tileset(state: &[u8], vram: &[u8], pixels: &mut [u8]) -> u32
     ensures { λ r. ⌜ Leaves (dumpCall (now (state .entry)) (now (vram .entry)) (now (pixels .entry))) r (now (state .entry)) (now (pixels .exit)) ⌝ }
 {
-    if !block::well_formed(state) {
-        return word::number(Refusal::BlockMalformed);
+    let refused = asked(state, 0);
+    if refused != 0 {
+        return refused;
     }
     let colours = block::cache_in(state);
     word::number(dump::dump_tileset(block::registers(state), &colours, vram, pixels))
@@ -310,16 +334,14 @@ fn shown(state: &[u8], there: bool, n: usize) -> u32
 pub extern "C" fn vdp_pixel(state: &[u8], vram: &[u8], area: u8, row: u32, column: u32) -> u64
     ensures { λ r. ⌜ r ≡ pixelCall (now (state .entry)) (now (vram .entry)) area row column ⌝ }
 {
-    if !block::well_formed(state) {
-        return word::pixel_word(Refusal::BlockMalformed, false, 0);
-    }
-    if picture::LAST_AREA < area {
-        return word::pixel_word(Refusal::UnknownArea, false, 0);
+    let refused = asked(state, area);
+    if refused != 0 {
+        return refused as u64;
     }
     let raster = block::raster_in(state);
     let spot = pixel::spot_at(
         vram,
-        picture::screen_of(picture::area_from(area)),
+        screen_from(area),
         block::registers(state),
         raster.vertical_scroll,
         row,
@@ -397,86 +419,4 @@ pub extern "C" fn vdp_record_next(recording: &[u8], at: usize) -> u32
         Record::Bad => 4,
         Record::End => 0,
     }
-}
-
-// ---- the home machine's calls (R21.1), each by its name for C
-
-#[no_mangle]
-pub extern "C" fn vdp_home_new_table(state: &mut [u8], table: u8) -> u32
-    ensures { λ r. ⌜ Leaves (home.newTableCall (now (state .entry)) table) r (now (state .exit)) [] ⌝ }
-{
-    home_face::new_table(state, table)
-}
-
-#[no_mangle]
-pub extern "C" fn vdp_home_new(state: &mut [u8]) -> u32
-    ensures { λ r. ⌜ Leaves (home.newCall (now (state .entry))) r (now (state .exit)) [] ⌝ }
-{
-    home_face::new(state)
-}
-
-#[no_mangle]
-pub extern "C" fn vdp_home_out(state: &mut [u8], vram: &mut [u8], port: u16, value: u8) -> u32
-    ensures { λ r. ⌜ Leaves (home.outCall (now (state .entry)) (now (vram .entry)) port value) r (now (state .exit)) (now (vram .exit)) ⌝ }
-{
-    home_face::out(state, vram, port, value)
-}
-
-#[no_mangle]
-pub extern "C" fn vdp_home_input(state: &mut [u8], vram: &[u8], port: u16) -> u32
-    ensures { λ r. ⌜ Leaves (home.inputCall (now (state .entry)) (now (vram .entry)) port) r (now (state .exit)) [] ⌝ }
-{
-    home_face::input(state, vram, port)
-}
-
-#[no_mangle]
-pub extern "C" fn vdp_home_step(state: &mut [u8], vram: &[u8], frame: &mut [u8]) -> u32
-    ensures { λ r. ⌜ Leaves (home.stepCall (now (state .entry)) (now (vram .entry)) (now (frame .entry))) r (now (state .exit)) (now (frame .exit)) ⌝ }
-{
-    home_face::step(state, vram, frame)
-}
-
-#[no_mangle]
-pub extern "C" fn vdp_home_row_step(state: &mut [u8], vram: &[u8], row: &mut [u8]) -> u32
-    ensures { λ r. ⌜ Leaves (home.rowStepCall (now (state .entry)) (now (vram .entry)) (now (row .entry))) r (now (state .exit)) (now (row .exit)) ⌝ }
-{
-    home_face::row_step(state, vram, row)
-}
-
-#[no_mangle]
-pub extern "C" fn vdp_home_layer_step(
-    state: &mut [u8],
-    vram: &[u8],
-    frame: &mut [u8],
-    layers: &mut [u8],
-) -> u32
-    ensures { λ r. ⌜ home-layers.LayerFrameLeaves (now (state .entry)) (now (vram .entry)) (now (frame .entry)) (now (layers .entry)) r (now (state .exit)) (now (frame .exit)) (now (layers .exit)) ⌝ }
-{
-    home_face::layer_step(state, vram, frame, layers)
-}
-
-#[no_mangle]
-pub extern "C" fn vdp_home_layer_row_step(
-    state: &mut [u8],
-    vram: &[u8],
-    row: &mut [u8],
-    layers: &mut [u8],
-) -> u32
-    ensures { λ r. ⌜ home-layers.LayerRowLeaves (now (state .entry)) (now (vram .entry)) (now (row .entry)) (now (layers .entry)) r (now (state .exit)) (now (row .exit)) (now (layers .exit)) ⌝ }
-{
-    home_face::layer_row_step(state, vram, row, layers)
-}
-
-#[no_mangle]
-pub extern "C" fn vdp_home_pixel(state: &[u8], vram: &[u8], row: u32, column: u32) -> u64
-    ensures { λ r. ⌜ r ≡ home-pixel.pixelCall (now (state .entry)) (now (vram .entry)) row column ⌝ }
-{
-    home_face::pixel(state, vram, row, column)
-}
-
-#[no_mangle]
-pub extern "C" fn vdp_home_dump_tileset(state: &[u8], vram: &[u8], pixels: &mut [u8]) -> u32
-    ensures { λ r. ⌜ Leaves (home.dumpCall (now (state .entry)) (now (vram .entry)) (now (pixels .entry))) r (now (state .entry)) (now (pixels .exit)) ⌝ }
-{
-    home_face::dump_tileset(state, vram, pixels)
 }

@@ -1,41 +1,33 @@
 -- `face::vdp_dump_tileset` meets its contract: all tiles into the pixels.
 use borrow.Author.Needs.{needs}
-use mathlib.Core.Path.{sym, _∙_}
-use borrow.Author.Tests.{not-true, not-false}
-use Rattle.block.proofs.Whole.{long}
-use Rattle.face.proofs.Laws.{dump-ten, dump-done}
+use Rattle.face.proofs.Laws.{room, dump-refused, dump-done}
 use Rattle.face.proofs.vdp_dump_tileset.Statement.{statement}
 use Rattle.face.proofs.vdp_dump_tileset.Tie as tie
 
-well-formed-requires : tie.Need-well-formed-requires
-well-formed-requires c κs = search needs
-
-number-requires : tie.Need-number-requires
-number-requires c κs = search needs
+asked-requires : tie.Need-asked-requires
+asked-requires c κs = search needs
 
 returns : tie.Need-returns
 returns c =
-    let at-well-formed = c .before .before in
-    let at-start = at-well-formed .before .before .before .before in
-    dump-ten (at-start .args .state .now) (at-start .args .vram .now) (at-start .args .pixels .now)
-    (sym (at-well-formed .well-formed .ensures) ∙ not-true _ (c .before .if1 .taken)) (c .number .ensures .0)
+    let at-start = c .before .before .before .before .before in
+    dump-refused (at-start .args .state .now) (c .before .asked .ensures) (c .if1 .taken) (at-start .args .vram .now) (at-start .args .pixels .now)
 
 cache-in-requires : tie.Need-cache-in-requires
 cache-in-requires c κs =
     let at-start = c .before .before .before .before .before in
-    long (at-start .args .state .now) (sym (c .before .well-formed .ensures) ∙ not-false _ (c .if1 .left))
+    room (at-start .args .state .now) 0 (c .before .asked .ensures) (c .if1 .left)
 
 registers-requires : tie.Need-registers-requires
 registers-requires c κs =
-    let at-well-formed = c .before .before in
-    let at-start = at-well-formed .before .before .before .before in
-    long (at-start .args .state .now) (sym (at-well-formed .well-formed .ensures) ∙ not-false _ (c .before .if1 .left))
+    let at-asked = c .before .before in
+    let at-start = at-asked .before .before .before .before in
+    room (at-start .args .state .now) 0 (at-asked .asked .ensures) (c .before .if1 .left)
 
 dump-tileset-requires : tie.Need-dump-tileset-requires
 dump-tileset-requires c κs = search needs
 
-number-requires-2 : tie.Need-number-requires-2
-number-requires-2 c κs = search needs
+number-requires : tie.Need-number-requires
+number-requires c κs = search needs
 
 same-length : tie.Need-same-length
 same-length c = search needs
@@ -46,22 +38,20 @@ returns-2 c =
     let at-registers = at-dump-tileset .before .before .before in
     let at-cache-in = at-registers .before in
     let at-if1 = at-cache-in .before in
-    let at-well-formed = at-if1 .before in
-    let at-start = at-well-formed .before .before .before .before in
-    dump-done (at-start .args .state .now) (at-start .args .vram .now) (at-start .args .pixels .now)
-    (sym (at-well-formed .well-formed .ensures) ∙ not-false _ (at-if1 .if1 .left)) (at-registers .registers .ensures)
-    (at-cache-in .cache-in .ensures) (at-dump-tileset .dump-tileset .ensures) (c .number2 .ensures .0)
+    let at-asked = at-if1 .before in
+    let at-start = at-asked .before .before .before .before in
+    dump-done (at-start .args .state .now) (at-asked .asked .ensures) (at-if1 .if1 .left) (at-start .args .vram .now) (at-start .args .pixels .now)
+    (at-registers .registers .ensures) (at-cache-in .cache-in .ensures) (at-dump-tileset .dump-tileset .ensures) (c .number .ensures .0)
 
 pub vdp-dump-tileset-spec : {M : Type 1} → statement M
 vdp-dump-tileset-spec =
     tie.close
     (tie.spec
-    well-formed-requires
-    number-requires
+    asked-requires
     returns
     cache-in-requires
     registers-requires
     dump-tileset-requires
-    number-requires-2
+    number-requires
     same-length
     returns-2)

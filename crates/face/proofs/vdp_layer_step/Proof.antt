@@ -1,25 +1,13 @@
 -- `face::vdp_layer_step` meets its contract: the step on a frame, with the layers of the row's columns.
 use borrow.Author.Needs.{needs}
-use mathlib.Core.Path.{_≡_, sym, ap, _∙_}
-use mathlib.Core.Bool.{true}
-use Prim.Native.Nat.{_≤_}
-use native.Mathlib.Omega.{arith}
 use lib.ListN.{length}
-use Rattle.picture.specs.Area.{areaFrom, screenOf}
 use Rattle.picture.specs.Screen.{columns}
 use Rattle.points.specs.Points.{frameLines}
-use Rattle.points.specs.Bytes.{alsoLayers}
-use Rattle.points_run.proofs.Steps.{due-row, answered, owned, frame-filled, frame-layers-fit}
-use Rattle.word.proofs.Calls.{asked-both}
-use Rattle.step.specs.Step.{readingOf}
-use Rattle.block.specs.Block.{stateOf, wellFormed}
-use Rattle.block.proofs.Whole.{long}
-use Rattle.face.proofs.Laws.{layer-refused, ran, layer-kept}
+use native.Mathlib.Omega.{arith}
+use Rattle.points_run.proofs.Steps.{frame-layers-fit}
+use Rattle.face.proofs.Laws.{room, status-room, status-is, layer-refused, layer-frame-kept}
 use Rattle.face.proofs.vdp_layer_step.Statement.{statement}
 use Rattle.face.proofs.vdp_layer_step.Tie as tie
-
-well-formed-requires : tie.Need-well-formed-requires
-well-formed-requires c κs = search needs
 
 asked-requires : tie.Need-asked-requires
 asked-requires c κs = search needs
@@ -29,36 +17,26 @@ same-length c = search needs
 
 returns : tie.Need-returns
 returns c =
-    let at-asked = c .before in
-    let at-start = at-asked .before .before .before .before .before .before .before in
-    layer-refused (at-start .args .state .now) (at-start .args .vram .now) (at-start .args .frame .now) (at-start .args .area)
-    (rw (at-asked .before .well-formed .ensures) at (at-asked .asked .ensures)) (c .if1 .taken) _ _ (at-start .args .layers .now)
+    let at-start = c .before .before .before .before .before .before .before in
+    layer-refused (at-start .args .state .now) (at-start .args .vram .now) (at-start .args .frame .now) (at-start .args .area) (c .before .asked .ensures)
+    (c .if1 .taken) _ _ (at-start .args .layers .now)
 
--- else the block is well formed, and the area one of three
-taken :
-    (c : tie.Else1) → (wellFormed (c .before .before .before .before .before .before .before .before .args .state .now) ≡ true)
-    × (c .before .before .before .before .before .before .before .before .args .area ≤ 2)
-taken c =
-    let at-asked = c .before in
-    let at-start = at-asked .before .before .before .before .before .before .before in
-    asked-both (wellFormed (at-start .args .state .now)) (at-start .args .area) (rw (at-asked .before .well-formed .ensures) at (at-asked .asked .ensures))
-    (c .if1 .left)
-
-area-from-requires : tie.Need-area-from-requires
-area-from-requires c κs = search needs
-
-screen-of-requires : tie.Need-screen-of-requires
-screen-of-requires c κs = search needs
+screen-from-requires : tie.Need-screen-from-requires
+screen-from-requires c κs = search needs
 
 registers-requires : tie.Need-registers-requires
 registers-requires c κs =
-    let at-here = c .before .before .before in
-    long _ (taken at-here .0)
+    let at-if1 = c .before .before in
+    let at-asked = at-if1 .before in
+    let at-start = at-asked .before .before .before .before .before .before in
+    room (at-start .args .state .now) (at-start .args .area) (at-asked .asked .ensures) (at-if1 .if1 .left)
 
 raster-in-requires : tie.Need-raster-in-requires
 raster-in-requires c κs =
-    let at-here = c .before .before .before .before .before in
-    long _ (taken at-here .0)
+    let at-if1 = c .before .before .before in
+    let at-asked = at-if1 .before in
+    let at-start = at-asked .before .before .before .before .before .before in
+    room (at-start .args .state .now) (at-start .args .area) (at-asked .asked .ensures) (at-if1 .if1 .left)
 
 frame-due-requires : tie.Need-frame-due-requires
 frame-due-requires c κs = search needs
@@ -68,40 +46,38 @@ layer-due-requires c κs = search needs
 
 colours-of-requires : tie.Need-colours-of-requires
 colours-of-requires c κs =
-    let at-here = c .before .before .before .before .before .before .before .before .before in
-    long _ (taken at-here .0)
+    let at-if1 = c .before .before .before .before .before .before in
+    let at-asked = at-if1 .before in
+    let at-start = at-asked .before .before .before .before .before .before in
+    room (at-start .args .state .now) (at-start .args .area) (at-asked .asked .ensures) (at-if1 .if1 .left)
 
-slice-read-frame-points-due : tie.Need-slice-read-frame-points-due
-slice-read-frame-points-due c =
-    let at-here = c .before .before .before .before .before .before .before .before .before .before .before in
-    omega (arith, long _ (taken at-here .0))
+status-in-requires : tie.Need-status-in-requires
+status-in-requires c κs =
+    let at-if1 = c .before .before .before .before .before .before .before in
+    let at-asked = at-if1 .before in
+    let at-start = at-asked .before .before .before .before .before .before in
+    status-room (at-start .args .state .now) (at-start .args .area) (at-asked .asked .ensures) (at-if1 .if1 .left)
 
 frame-points-due-requires : tie.Need-frame-points-due-requires
 frame-points-due-requires c κs =
-    let at-layer-due = c .before .before .before .before .before .before in
+    let at-layer-due = c .before .before .before .before .before in
     let at-frame-due = at-layer-due .before in
     let at-raster-in = at-frame-due .before in
-    let at-registers = at-raster-in .before .before in
-    let at-screen-of = at-registers .before .before in
-    let at-area-from = at-screen-of .before in
-    let at-if1 = at-area-from .before in
-    let at-start = at-if1 .before .before .before .before .before .before .before .before in
-    let es = at-screen-of .screen-of .ensures ∙ ap screenOf (at-area-from .area-from .ensures) in
-    let ed = rw (at-registers .registers .ensures, at-raster-in .raster-in .ensures, es) at
-    (at-layer-due .layer-due .ensures .1 (frameLines (at-screen-of .screen-of .result) (at-start .args .vram .now) (length (at-start .args .frame .now)))
-    (at-registers .registers .result) (at-frame-due .frame-due .ensures)) in
-    rw es (frame-layers-fit (screenOf (areaFrom (at-start .args .area))) (stateOf (at-start .args .state .now) .reg)
-    (stateOf (at-start .args .state .now) .raster) (at-start .args .vram .now)
-    (length (at-start .args .frame .now)) (columns (screenOf (areaFrom (at-start .args .area)))) (length (at-start .args .layers .now)) ed)
+    let at-registers = at-raster-in .before in
+    let at-screen-from = at-registers .before in
+    let at-start = at-screen-from .before .before .before .before .before .before .before .before .before in
+    frame-layers-fit (at-screen-from .screen-from .result) (at-registers .registers .result) (at-raster-in .raster-in .result) (at-start .args .vram .now)
+    (length (at-start .args .frame .now)) (columns (at-screen-from .screen-from .result)) (length (at-start .args .layers .now))
+    (at-layer-due .layer-due .ensures .1 (frameLines (at-screen-from .screen-from .result) (at-start .args .vram .now)
+    (length (at-start .args .frame .now))) (at-registers .registers .result) (at-frame-due .frame-due .ensures))
 
-store-requires : tie.Need-store-requires
-store-requires c κs =
-    let at-here = c .before .before .before .before .before .before .before .before .before .before .before .before .before .before .before .before .before
-    .before .before .before .before in
-    long _ (taken at-here .0)
-
-word-of-requires : tie.Need-word-of-requires
-word-of-requires c κs = search needs
+left-requires : tie.Need-left-requires
+left-requires c κs =
+    let at-if1 = c .before .before .before .before .before .before .before .before .before .before .before .before .before .before .before .before .before
+    .before in
+    let at-asked = at-if1 .before in
+    let at-start = at-asked .before .before .before .before .before .before in
+    room (at-start .args .state .now) (at-start .args .area) (at-asked .asked .ensures) (at-if1 .if1 .left)
 
 same-length-2 : tie.Need-same-length-2
 same-length-2 c = search needs
@@ -113,57 +89,45 @@ same-length-4 : tie.Need-same-length-4
 same-length-4 c = search needs
 
 returns-2 : tie.Need-returns-2
-unfolding stateOf
 returns-2 c =
-    let at-store = c .before .before .before in
-    let at-points = at-store .before .before .before .before .before .before .before in
-    let at-colours-of = at-points .before .before .before .before .before in
-    let at-layer-due = at-colours-of .before .before in
+    let at-left = c .before .before in
+    let at-frame-points-due = at-left .before .before .before .before .before .before .before in
+    let at-status-in = at-frame-points-due .before .before .before .before in
+    let at-colours-of = at-status-in .before in
+    let at-layer-due = at-colours-of .before in
     let at-frame-due = at-layer-due .before in
     let at-raster-in = at-frame-due .before in
-    let at-registers = at-raster-in .before .before in
-    let at-screen-of = at-registers .before .before in
-    let at-area-from = at-screen-of .before in
-    let at-if1 = at-area-from .before in
-    let at-start = at-if1 .before .before .before .before .before .before .before .before in
-    let es = at-screen-of .screen-of .ensures ∙ ap screenOf (at-area-from .area-from .ensures) in
-    let at-slice-known = at-if1 .before .before .before .before .before .before .before in
-    let b = at-start .args .state .now in
-    let m = at-start .args .vram .now in
-    let x = at-start .args .frame .now in
-    let z = (screenOf (areaFrom (at-start .args .area))) in
-    let k = readingOf (stateOf b) in
-    let ls = alsoLayers (columns (screenOf (areaFrom (at-start .args .area)))) (length (at-start .args .layers .now))
-    (frameLines (screenOf (areaFrom (at-start .args .area))) (at-start .args .vram .now) (length (at-start .args .frame .now))) in
-    let ed = rw (at-registers .registers .ensures, at-raster-in .raster-in .ensures, es) at
-    (at-layer-due .layer-due .ensures .1 (frameLines (at-screen-of .screen-of .result) (at-start .args .vram .now) (length (at-start .args .frame .now)))
-    (at-registers .registers .result) (at-frame-due .frame-due .ensures)) in
-    let p = rw (at-registers .registers .ensures, es) at (at-points .frame-points-due .ensures) in
-    layer-kept b m x (at-start .args .area) (taken at-if1 .0) (taken at-if1 .1) _ _ (at-start .args .layers .now)
-    (ran b m x ls (areaFrom (at-start .args .area)) (λ i. omega (arith, at-slice-known .slice-known .given i)) (taken at-if1 .0)
-    (answered ls z m k ed (p .0)) (λ y q. at-colours-of .colours-of .ensures y (sym (due-row ls z m k ed (p .0)) ∙ q)) (at-store .store .ensures)
-    (c .word-of .ensures) (frame-filled ls z m k ed (at-colours-of .colours-of .ensures) x (p .1 .0)))
-    (owned ls z m k ed (at-start .args .layers .now) (p .1 .1))
+    let at-registers = at-raster-in .before in
+    let at-screen-from = at-registers .before in
+    let at-if1 = at-screen-from .before .before in
+    let at-asked = at-if1 .before in
+    let at-slice-known = at-asked .before .before .before .before .before in
+    let at-start = at-slice-known .before in
+    layer-frame-kept (at-start .args .state .now) (at-start .args .vram .now) (at-start .args .frame .now) (at-start .args .area) (at-asked .asked .ensures)
+    (at-if1 .if1 .left)
+    (λ i. omega (arith, at-slice-known .slice-known .given i)) (at-screen-from .screen-from .ensures) (at-registers .registers .ensures)
+    (at-raster-in .raster-in .ensures) (status-is (at-start .args .state .now) (at-status-in .status-in .ensures))
+    (at-colours-of .colours-of .ensures) (at-frame-points-due .frame-points-due .ensures .0) (at-left .left .ensures .0) (at-left .left .ensures .1)
+    (at-start .args .layers .now) (at-frame-points-due .frame-points-due .ensures .1 .1)
+    (at-layer-due .layer-due .ensures .1 (frameLines (at-screen-from .screen-from .result) (at-start .args .vram .now) (length (at-start .args .frame .now)))
+    (at-registers .registers .result) (at-frame-due .frame-due .ensures)) (at-frame-points-due .frame-points-due .ensures .1 .0)
 
 pub vdp-layer-step-spec : {M : Type 1} → statement M
 vdp-layer-step-spec =
     tie.close
     (tie.spec
-    well-formed-requires
     asked-requires
     same-length
     returns
-    area-from-requires
-    screen-of-requires
+    screen-from-requires
     registers-requires
     raster-in-requires
     frame-due-requires
     layer-due-requires
     colours-of-requires
-    slice-read-frame-points-due
+    status-in-requires
     frame-points-due-requires
-    store-requires
-    word-of-requires
+    left-requires
     same-length-2
     same-length-3
     same-length-4

@@ -1,35 +1,29 @@
 -- `face::vdp_out` meets its contract: a port write.
 use borrow.Author.Needs.{needs}
-use mathlib.Core.Path.{sym, _∙_}
-use borrow.Author.Tests.{not-true, not-false}
-use Rattle.face.proofs.Laws.{out-ten, out-done}
+use Rattle.face.proofs.Laws.{whole, out-refused, out-done}
 use Rattle.face.proofs.vdp_out.Statement.{statement}
 use Rattle.face.proofs.vdp_out.Tie as tie
 
-well-formed-requires : tie.Need-well-formed-requires
-well-formed-requires c κs = search needs
-
-number-requires : tie.Need-number-requires
-number-requires c κs = search needs
+asked-requires : tie.Need-asked-requires
+asked-requires c κs = search needs
 
 same-length : tie.Need-same-length
 same-length c = search needs
 
 returns : tie.Need-returns
 returns c =
-    let at-well-formed = c .before .before in
-    let at-start = at-well-formed .before .before .before .before in
-    out-ten (at-start .args .state .now) (at-start .args .vram .now) (at-start .args .port) (at-start .args .value)
-    (sym (at-well-formed .well-formed .ensures) ∙ not-true _ (c .before .if1 .taken)) (c .number .ensures .0)
+    let at-start = c .before .before .before .before .before in
+    out-refused (at-start .args .state .now) (c .before .asked .ensures) (c .if1 .taken) (at-start .args .vram .now) (at-start .args .port)
+    (at-start .args .value)
 
 out-requires : tie.Need-out-requires
 out-requires c κs =
     let at-if1 = c .before .before in
-    let at-well-formed = at-if1 .before in
-    (sym (at-well-formed .well-formed .ensures) ∙ not-false _ (at-if1 .if1 .left))
+    let at-asked = at-if1 .before in
+    whole _ (at-asked .asked .ensures) (at-if1 .if1 .left)
 
-number-requires-2 : tie.Need-number-requires-2
-number-requires-2 c κs = search needs
+number-requires : tie.Need-number-requires
+number-requires c κs = search needs
 
 same-length-2 : tie.Need-same-length-2
 same-length-2 c = search needs
@@ -41,21 +35,20 @@ returns-2 : tie.Need-returns-2
 returns-2 c =
     let at-out = c .before .before .before .before .before in
     let at-if1 = at-out .before .before .before in
-    let at-well-formed = at-if1 .before in
-    let at-start = at-well-formed .before .before .before .before in
-    out-done (at-start .args .state .now) (at-start .args .vram .now) (at-start .args .port) (at-start .args .value)
-    (sym (at-well-formed .well-formed .ensures) ∙ not-false _ (at-if1 .if1 .left)) (at-out .out .ensures) (c .number2 .ensures .0)
+    let at-asked = at-if1 .before in
+    let at-start = at-asked .before .before .before .before in
+    out-done (at-start .args .state .now) (at-asked .asked .ensures) (at-if1 .if1 .left) (at-start .args .vram .now) (at-start .args .port)
+    (at-start .args .value) (at-out .out .ensures) (c .number .ensures .0)
 
 pub vdp-out-spec : {M : Type 1} → statement M
 vdp-out-spec =
     tie.close
     (tie.spec
-    well-formed-requires
-    number-requires
+    asked-requires
     same-length
     returns
     out-requires
-    number-requires-2
+    number-requires
     same-length-2
     same-length-3
     returns-2)

@@ -1,5 +1,0 @@
--- The laws of the home machine's calls.
-pub mod Laws
-pub mod Exact
-pub mod Behind
-pub mod Pixels
