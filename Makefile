@@ -7,12 +7,9 @@ CALLS ?= 1000000
 SEED ?= 1
 ROUNDS ?= 400
 PREFIX ?= /usr/local
-# The crates of the programs, and the names that each of them is a program under.
-PROGRAMS := trace snapshot sheet repair
-NAMES_trace := trace trace-261 home-trace
-NAMES_snapshot := snapshot snapshot-261 home-snapshot layers
-bins = $(addprefix build/bin/,$(or $(NAMES_$(1)),$(1)))
-BINS := $(foreach crate,$(PROGRAMS),$(call bins,$(crate)))
+# The names that the crate `programs` is a program under.
+PROGRAMS := trace trace-261 home-trace snapshot snapshot-261 home-snapshot layers sheet repair
+BINS := $(PROGRAMS:%=build/bin/%)
 NATIVE := build/native/libvdp.a build/native/libvdp.so
 # What compiles a module for a machine.
 COMPILE := tools/native-module.sh tools/target.sh tools/toolchain.sh
@@ -31,22 +28,19 @@ build/bin/desk: desk/desk | setup
 	@mkdir -p build/bin
 	@cp desk/desk $@
 
-# A file is made again where a source of it, or the toolchain, has changed. All programs are proved by one plan, which leaves their LLVM modules
-# (tools/modules.sh); one whose module stays as it was is not compiled again.
-PROVE := OF="$(PROGRAMS) face" bash tools/prove.sh
-build/modules/programs: $(shell sh tools/sources.sh $(PROGRAMS)) build/toolchain tools/modules.sh | setup
-	@$(PROVE) programs $(PROGRAMS)
+# A file is made again where a source of it, or the toolchain, has changed. The crate of the programs is proved by a plan, which leaves its LLVM module
+# (tools/modules.sh); where that stays as it was nothing is compiled again.
+PROVE := OF="programs face" bash tools/prove.sh
+build/modules/programs: $(shell sh tools/sources.sh programs) build/toolchain tools/modules.sh | setup
+	@$(PROVE) programs programs
 	@touch $@
 
-$(PROGRAMS:%=build/modules/%.ll): build/modules/programs
-	@[ -e $@ ] || $(PROVE) programs $(PROGRAMS)
+build/modules/programs.ll: build/modules/programs
+	@[ -e $@ ] || $(PROVE) programs programs
 
-define program
-$(call bins,$(1)) &: build/modules/$(1).ll tools/native-program.sh tools/program.c $(COMPILE)
-	@TARGET= sh tools/native-program.sh $$< $(call bins,$(1))
-	@echo "$(call bins,$(1)) compiled for this machine"
-endef
-$(foreach name,$(PROGRAMS),$(eval $(call program,$(name))))
+$(BINS) &: build/modules/programs.ll tools/native-program.sh tools/program.c $(COMPILE)
+	@TARGET= sh tools/native-program.sh $< $(BINS)
+	@echo "$(BINS) compiled for this machine"
 
 build/modules/face.ll build/libvdp.a &: $(shell sh tools/sources.sh face) build/toolchain tools/modules.sh | setup
 	@$(PROVE) library face
@@ -54,7 +48,7 @@ build/modules/face.ll build/libvdp.a &: $(shell sh tools/sources.sh face) build/
 
 # From nothing the library is proved with the programs, by one plan; later each by itself, where it has changed.
 together: build/toolchain | setup
-	@[ -e build/modules/programs ] || [ -e build/modules/face.ll ] || { $(PROVE) both face $(PROGRAMS) && cp target/staticlib/libface.a build/libvdp.a && touch build/modules/programs; }
+	@[ -e build/modules/programs ] || [ -e build/modules/face.ll ] || { $(PROVE) both face programs && cp target/staticlib/libface.a build/libvdp.a && touch build/modules/programs; }
 
 build/toolchain: FORCE | setup
 	@[ "$$(rt version)" = "$$(cat $@ 2> /dev/null)" ] || rt version > $@

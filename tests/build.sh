@@ -50,7 +50,7 @@ echo one >"$work/version"
 # calls_of PLAN: how rt is called for the programs, for the library, or for both in one plan: for each crate once.
 calls_of() {
     local names
-    case $1 in programs) names='trace snapshot' ;; library) names=face ;; both) names='face trace snapshot' ;; esac
+    case $1 in programs) names=programs ;; library) names=face ;; both) names='face programs' ;; esac
     sh tools/crates.sh $names | sed 's/^/check /; s/^check face$/staticlib face/' | sort
 }
 # called PLAN..: rt was called for these plans, one after the other, and for nothing else.
@@ -65,23 +65,22 @@ called() {
 }
 # anew CRATE..: these were proved again, each once, and no other; `all` are those of both plans.
 anew() {
-    [ "$*" != all ] || set -- $(sh tools/crates.sh face trace snapshot)
+    [ "$*" != all ] || set -- $(sh tools/crates.sh face programs)
     [ "$(sort "$work/proved")" = "$(printf '%s\n' "$@" | sort)" ]
 }
-# made NAME PLANS CRATES WORDS..: make with these words calls rt for these plans, which prove these crates, and leaves what a user takes away. Two crates of
-# programs are as good as all here.
+# made NAME PLANS CRATES WORDS..: make with these words calls rt for these plans, which prove these crates, and leaves what a user takes away.
 made() {
     local name=$1 plans=$2 crates=$3 status
     shift 3
     : >"$work/calls"
     : >"$work/proved"
-    (cd "$copy" && PATH="$work/bin:$PATH" make --no-print-directory PROGRAMS='trace snapshot' "$@" </dev/null) >"$work/said" 2>&1
+    (cd "$copy" && PATH="$work/bin:$PATH" make --no-print-directory "$@" </dev/null) >"$work/said" 2>&1
     status=$?
     [ "$status" -eq 0 ] || cat "$work/said"
     [ "$status" -eq 0 ] && called $plans && anew $crates && ! grep -q warning "$work/said"
     status=$?
     [ "$status" -eq 0 ] || echo "called for $(wc -l <"$work/calls") crates; proved: $(echo $(cat "$work/proved"))"
-    for file in libvdp.a native/libvdp.a native/libvdp.so bin/trace bin/snapshot-261 bin/desk; do cmp "build/$file" "$copy/build/$file" || status=1; done
+    for file in libvdp.a native/libvdp.a native/libvdp.so bin/trace bin/snapshot-261 bin/repair bin/desk; do cmp "build/$file" "$copy/build/$file" || status=1; done
     tell "$name" $status
 }
 # later FILE: this source is newer than all that was made.
@@ -103,13 +102,13 @@ while read -r line; do
 done < <(sed -n '/^Try:$/,$p' "$work/said" | sed 1d)
 [ $lines -ge 4 ] && [ $status -eq 0 ]
 tell "its last lines say what to try, and each of the commands works" $?
-[ "$(sed -n 's/^  build\/bin  *//p' "$work/said")" = 'desk home-snapshot home-trace layers snapshot snapshot-261 trace trace-261' ] && grep -q "^Built for this machine, $(uname -m):$" "$work/said"
+[ "$(sed -n 's/^  build\/bin  *//p' "$work/said")" = 'desk home-snapshot home-trace layers repair sheet snapshot snapshot-261 trace trace-261' ] && grep -q "^Built for this machine, $(uname -m):$" "$work/said"
 tell "and what is there" $?
 made "make again: rt is not called" "" "" all
 later crates/laws/src/lib.rt
 made "after a change below both: all that stands on it is made" "programs library" all build
-later crates/trace/src/main.rt
-made "after a change of a program: the library stays" programs trace build
+later crates/programs/src/trace.rt
+made "after a change of a program: the library stays" programs programs build
 later crates/face/specs/Face.antt
 made "after a change of the library: the programs stay" library face build
 later crates/passes/specs/Pass.antt
@@ -120,13 +119,13 @@ echo two >"$work/version"
 made "with another toolchain" "programs library" all build
 rm "$copy/build/bin/snapshot-261"
 made "a program that was removed is made again, of the module that is there" "" "" build
-rm "$copy/build/modules/trace.ll"
+rm "$copy/build/modules/programs.ll"
 made "the text of a module that was removed is made again, of the module" programs "" build
-rm "$copy/build/modules/trace.bc" "$copy/build/modules/trace.ll"
-made "a module that was removed is made again" programs trace build
-echo >>"$copy/target/stamp/trace"
-later crates/trace/src/main.rt
-made "so is one of other sources than rt's stamp tells of" programs trace build
+rm "$copy/build/modules/programs.bc" "$copy/build/modules/programs.ll"
+made "a module that was removed is made again" programs programs build
+echo >>"$copy/target/stamp/programs"
+later crates/programs/src/trace.rt
+made "so is one of other sources than rt's stamp tells of" programs programs build
 later include/vdp.h
 made "after a change of the header: the libraries for this machine" "" "" build
 later tools/program.c
@@ -134,31 +133,35 @@ made "after a change of what programs are linked with" "" "" build
 made "make -j4" "" "" -j4 all
 made "make -j4 clean all" both all -j4 clean all
 
-# Ended in the middle: what was proved is not proved again, nor is a program whose module was kept. (The library is built each time.)
-rm -rf "$copy/build" "$copy/target"
-echo snapshot >"$work/stuck"
-: >"$work/calls"
-: >"$work/proved"
-set -m
-(cd "$copy" && PATH="$work/bin:$PATH" RT_JOBS=1 exec make --no-print-directory PROGRAMS='trace snapshot' build </dev/null) >"$work/said" 2>&1 &
-group=$!
-set +m
-for _ in $(seq 300); do
-    ! grep -qx snapshot "$work/proved" || break
-    sleep 0.1
+# Ended in the middle: what was proved is not proved again, nor are the programs, where their module was kept. (The library is built each time.)
+for stuck in programs face; do
+    rm -rf "$copy/build" "$copy/target"
+    echo $stuck >"$work/stuck"
+    : >"$work/calls"
+    : >"$work/proved"
+    again='face programs' other=staticlib/libface.a
+    [ $stuck = programs ] || again=face other=stamp/programs
+    set -m
+    (cd "$copy" && PATH="$work/bin:$PATH" RT_JOBS=2 exec make --no-print-directory build </dev/null) >"$work/said" 2>&1 &
+    group=$!
+    set +m
+    for _ in $(seq 300); do
+        ! grep -qx $stuck "$work/proved" || [ ! -e "$copy/target/$other" ] || break
+        sleep 0.1
+    done
+    kill -TERM -- "-$group"
+    wait "$group"
+    for _ in $(seq 100); do
+        ! grep -q '^prove: ended; what was proved stays' "$work/said" || break
+        sleep 0.1
+    done
+    : >"$work/stuck"
+    anew all && grep -q '^prove: ended; what was proved stays' "$work/said"
+    status=$?
+    [ "$status" -eq 0 ] || cat "$work/said"
+    tell "make, ended while $stuck is proved" "$status"
+    made "the next make goes on from there" both "$again" build
 done
-kill -TERM -- "-$group"
-wait "$group"
-for _ in $(seq 100); do
-    ! grep -q '^prove: ended; what was proved stays' "$work/said" || break
-    sleep 0.1
-done
-: >"$work/stuck"
-anew all && grep -q '^prove: ended; what was proved stays' "$work/said"
-status=$?
-[ "$status" -eq 0 ] || cat "$work/said"
-tell "make, ended while the last program is proved" "$status"
-made "the next make goes on from there" both "face snapshot" build
 
 # refused NAME LINE WORDS..: these words fail with this line, and before rt is called; make itself may add a line.
 refused() {

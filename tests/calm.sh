@@ -87,7 +87,7 @@ export TMPDIR=$work/tmp
 mkdir "$TMPDIR"
 cd "$copy"
 # Some of the crates are as good as all here.
-awk -F: -v kept=' laws bitmap small picture column stand tile background sprites dump program sheet repair demands face io os libc ' '
+awk -F: -v kept=' laws bitmap small picture column stand tile background sprites dump program programs demands face io os libc ' '
     function has(name) { return index(kept, " " name " ") }
     has($1) {
         line = $1 ":"
@@ -178,26 +178,26 @@ tell "what stands on a crate that is not proved is not tried" $?
 free=$((all - 1 - $(wc -l <"$work/above")))
 [ "$(cat "$work/proved" "$work/above" | sort)" = "$(sh tools/crates.sh | sort)" ] && [ "$(ls target/stamp | wc -l)" -eq $free ]
 tell "and all others are" $?
-anew misran sheet
+anew misran programs
 bash tools/prove.sh all >"$work/said" 2>&1
-[ $? -eq 1 ] && grep -qx 'sheet is proved, and its run FAILED' "$work/said" && ! grep -q NOT "$work/said" &&
-    [ "$(cat target/log/sheet.stderr)" = 'it went wrong' ]
+[ $? -eq 1 ] && grep -qx 'programs is proved, and its run FAILED' "$work/said" && ! grep -q NOT "$work/said" &&
+    [ "$(cat target/log/programs.stderr)" = 'it went wrong' ]
 tell "a program whose run fails is told, and what it said is where rt says" $?
 
 # The plan by itself.
 anew
-bash tools/plan.sh face.a sheet repair >"$work/said" 2>&1
-[ $? -eq 0 ] && [ "$(sort "$work/calls")" = "$(sh tools/crates.sh face sheet repair | sed 's/^/check /; s/^check face$/staticlib face/' | sort)" ] &&
+bash tools/plan.sh face.a programs >"$work/said" 2>&1
+[ $? -eq 0 ] && [ "$(sort "$work/calls")" = "$(sh tools/crates.sh face programs | sed 's/^/check /; s/^check face$/staticlib face/' | sort)" ] &&
     [ ! -s "$work/early" ]
 tell "a library is built for C, once those below it are proved; each crate has one run of rt" $?
 others=
-for name in $(sh tools/crates.sh face sheet repair); do
+for name in $(sh tools/crates.sh face programs); do
     [ "$(grep '::something: proved' "target/log/$name.out")" = "fn $name::something: proved" ] || others="$others $name"
 done
 [ -z "$others" ] || echo "not the log of the crate:$others"
 [ -z "$others" ]
 tell "each has a log, with what rt said of it" $?
-grep '^tile:' crates.txt | cmp - "$work/found/tile" && [ "$(grep -E '^(repair|program):' crates.txt | sort)" = "$(sort "$work/found/repair")" ]
+grep '^tile:' crates.txt | cmp - "$work/found/tile" && [ "$(grep -E '^(programs|program):' crates.txt | sort)" = "$(sort "$work/found/programs")" ]
 tell "rt finds the crate's line alone, and of those below it only the ones that lead to a library of the kit" $?
 small=$work/small
 mkdir -p "$small/target"
@@ -209,9 +209,10 @@ for name in base:1 wide:12 deep:1 deeper:1 deepest:1 short:1; do
 done
 mkdir -p "$small/crates/shown/src"
 echo 'fn main() {}' >"$small/crates/shown/src/main.rt"
+for k in $(seq 9); do echo "pub fn f$k() {}"; done >"$small/crates/shown/src/other.rt"
 anew
 RT_JOBS=1 bash "$small/tools/plan.sh" >"$work/said" 2>&1 && [ "$(tr '\n' ' ' <"$work/proved")" = 'base deep deeper deepest wide shown short ' ]
-tell "the longest way above it comes first, by the functions that are there" $?
+tell "the longest way above it comes first, by the functions that are there, in all files of a crate" $?
 # refused NAME LINE WORDS..: the plan says this line, and calls rt for nothing.
 refused() {
     local name=$1 line=$2 status

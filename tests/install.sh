@@ -23,7 +23,7 @@ for name in trace snapshot layers trace-261 snapshot-261 home-trace home-snapsho
     "$prefix/bin/$name" split90.trace | cmp expected -
     tell "$name from there" $?
 done
-head -c 64 /dev/zero | "$prefix/bin/sheet" | cmp - <(head -c 32 /dev/zero) && "$prefix/bin/repair" "$project/crates/repair/stdout" | cmp - "$project/crates/repair/stdout"
+head -c 64 /dev/zero | "$prefix/bin/sheet" | cmp - <(head -c 32 /dev/zero) && "$prefix/bin/repair" "$project/tests/programs/repair.mended" | cmp - "$project/tests/programs/repair.mended"
 tell "sheet and repair from there" $?
 
 if command -v python3 >/dev/null; then

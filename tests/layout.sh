@@ -101,7 +101,7 @@ face_calls() {
     local calls
     calls=$(constructors "crates/demands_face/specs/$1.antt" "$2")
     shift 2
-    [ -n "$calls" ] && diff <(sed -nE 's/^pub extern "C" fn ([a-z0-9_]+).*/\1/p' crates/face/src/lib.rt | grep "$@" | sort) <(printf '%s\n' "$calls" | sort)
+    [ -n "$calls" ] && diff <(sed -nE 's/^pub extern "C" fn ([a-z0-9_]+).*/\1/p' crates/face/src/*.rt | grep "$@" | sort) <(printf '%s\n' "$calls" | sort)
 }
 face_calls Calls FaceCall -v ^vdp_home_
 tell "and of every function of the C face" $?

@@ -1,25 +1,15 @@
 #!/usr/bin/env bash
-# native.sh: the programs for the machine at hand, build/bin, beside the x86-64 ones that rt itself compiles and links, target/bin: what both print of every
+# native.sh: the programs for the machine at hand, build/bin, beside the x86-64 one that rt itself compiles and links, target/bin/programs, under each of their names: what both print of every
 # test trace, of sheets and of blocks is the same. And the same programs for the other of the two machines that the project is built on, by an emulator.
 # And what tools/ say where a toolchain has another shape than they know.
 . "$(dirname "$0")/begin.sh"
 needs build
 programs=$(cd build/bin && ls | grep -vx desk)
-# crate NAME: the crate that is the program of this name.
-crate() {
-    case $1 in
-    trace-261 | home-trace) echo trace ;;
-    snapshot-261 | home-snapshot | layers) echo snapshot ;;
-    *) echo "$1" ;;
-    esac
-}
-# rt's own go by the word that they are started by: their name alone.
+# rt's own goes by the word that it is started by: a name alone.
 root=$PWD
 mkdir $work/rt
-for name in $programs; do
-    [ -x target/bin/"$(crate $name)" ] || rt check "$(crate $name)" >/dev/null || exit 1
-    cp target/bin/"$(crate $name)" $work/rt/$name
-done
+[ -x target/bin/programs ] || rt check programs >/dev/null || exit 1
+for name in $programs; do cp target/bin/programs $work/rt/$name; done
 
 # kind FILE: the machine that a program is for, two bytes of its header.
 kind() { od -An -tx1 -j 18 -N 2 "$1"; }
@@ -30,9 +20,9 @@ tell "every program of build/bin is for this machine" $status
 # inputs NAME: the files that a program is tried on.
 inputs() {
     case $1 in
-    sheet) echo crates/sheet/stdin tests/traces/empty.trace crates/repair/stdin ;;
-    repair) echo crates/repair/stdin crates/repair/stdout tests/traces/empty.trace ;;
-    *) echo tests/traces/*.trace crates/repair/stdin ;;
+    sheet) echo tests/programs/sheet.sheet tests/traces/empty.trace tests/programs/repair.block ;;
+    repair) echo tests/programs/repair.block tests/programs/repair.mended tests/traces/empty.trace ;;
+    *) echo tests/traces/*.trace tests/programs/repair.block ;;
     esac
 }
 # compared NAME WORDS..: what the program that these words start writes of each input, to standard output and to standard error, is what rt's own writes; its
@@ -65,9 +55,7 @@ other=aarch64
 why=$(sh tools/setup.sh cross 2>&1 >/dev/null)
 if TARGET=$other && . tools/target.sh && command -v $cc >/dev/null && sh tools/emulate.sh $other; then
     machine=$other
-    for one in $(for name in $programs; do crate $name; done | sort -u); do
-        TARGET=$other sh tools/native-program.sh build/modules/$one.ll $(for name in $programs; do [ "$(crate $name)" != $one ] || echo $work/$other/$name; done)
-    done
+    TARGET=$other sh tools/native-program.sh build/modules/programs.ll $(for name in $programs; do echo $work/$other/$name; done)
     for name in $programs; do
         [ -x $work/$other/$name ] && [ "$(kind $work/$other/$name)" != "$(kind build/bin/$name)" ]
         tell "$name is compiled for $other" $?
@@ -96,7 +84,7 @@ if [ "$(uname -m)" = x86_64 ] && [ "$machine" = aarch64 ]; then
     [ $status -eq 0 ] || cat $work/said
     for name in trace sheet; do [ "$(kind "$arm/copy/build/bin/$name")" = "$(kind $work/aarch64/$name)" ] || status=1; done
     [ "$(kind "$arm/copy/build/native/libvdp.so")" = "$(kind $work/aarch64/trace)" ] && cmp build/libvdp.a "$arm/copy/build/libvdp.a" || status=1
-    sh tools/emulate.sh aarch64 "$arm/copy/build/bin/trace" crates/trace/stdin | cmp - crates/trace/stdout || status=1
+    sh tools/emulate.sh aarch64 "$arm/copy/build/bin/trace" crates/programs/stdin | cmp - crates/programs/stdout || status=1
     tell "make as on Arm: programs and libraries for it, with no emulator, and libvdp.a for x86-64" $status
 else
     echo "SKIPPED: make as on Arm: this is no x86-64 machine, or it has no compiler for Arm"
@@ -106,7 +94,7 @@ fi
 # A toolchain with no clang at its place; one that hands it no module; a module of another form; a machine that has no programs.
 . tools/toolchain.sh
 mkdir -p $work/kit/on/"$(uname -m)"/toolchain/bin $work/bin
-said=$(RATTLE_HOME=$PWD/$work/kit bash tools/modules.sh trace 2>&1)
+said=$(RATTLE_HOME=$PWD/$work/kit bash tools/modules.sh programs 2>&1)
 [ $? -ne 0 ] && [ "$(wc -l <<<"$said")" -eq 1 ] && grep -q '^toolchain: no clang at .* has not the shape that tools/ knows' <<<"$said"
 tell "a toolchain with no clang at its place is told in a line" $?
 printf '#!/bin/sh\ncase $1 in version) echo another ;; esac\n' >$work/bin/rt
@@ -117,11 +105,11 @@ ln -s "$PWD/crates" $work/copy/
 said=$(cd $work/copy && PATH="$OLDPWD/$work/bin:$PATH" RATTLE_HOME=$kit bash tools/modules.sh face 2>&1)
 [ $? -ne 0 ] && [ "$(wc -l <<<"$said")" -eq 1 ] && grep -q '^modules: the toolchain (another) built face and handed no module .* has not the shape that tools/modules.sh knows' <<<"$said"
 tell "a toolchain that hands no module to its clang is told in a line" $?
-grep -v '@main' build/modules/sheet.ll >$work/mainless.ll
+grep -v '@main' build/modules/programs.ll >$work/mainless.ll
 said=$(sh tools/native-program.sh $work/mainless.ll $work/mainless 2>&1)
 [ $? -ne 0 ] && [ "$(wc -l <<<"$said")" -eq 1 ] && grep -q 'has no main: the toolchain' <<<"$said"
 tell "a module with no main is told in a line" $?
-said=$(TARGET=armv7 sh tools/native-program.sh build/modules/sheet.ll $work/armv7 2>&1)
+said=$(TARGET=armv7 sh tools/native-program.sh build/modules/programs.ll $work/armv7 2>&1)
 [ $? -ne 0 ] && [ "$said" = "native-program: programs are for 64-bit Linux, and armv7 is none" ]
 tell "a machine that has no programs is told in a line" $?
 

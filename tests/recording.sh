@@ -7,7 +7,7 @@ strict="-Wall -Wextra -pedantic -Werror -O2"
 
 $CC_X86 -std=c99 $strict -Iinclude tests/record.c build/libvdp.a -o $work/record && $RUN $work/record $work/worked.trace
 tell "the calls on a recording, from C" $?
-cmp crates/trace/stdin $work/worked.trace && build/bin/trace $work/worked.trace | cmp crates/trace/stdout -
+cmp crates/programs/stdin $work/worked.trace && build/bin/trace $work/worked.trace | cmp crates/programs/stdout -
 tell "what C recorded is the worked trace" $?
 cc -std=c99 $strict -Iinclude tests/record.c build/native/libvdp.a -o $work/record-here && $work/record-here >/dev/null
 tell "the same with the library for this machine" $?

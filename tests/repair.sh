@@ -90,11 +90,16 @@ mends 'input without an end' /dev/zero $work/bad
 { head -c 100 $work/second; sleep 0.2; tail -c 120 $work/second; } | build/bin/repair | cmp $work/second -
 tell 'a block in small pieces' $?
 
+# The block of docs/SAVES.md, and the lines that stand there.
+build/bin/repair tests/programs/repair.block >$work/written 2>$work/told
+[ $? -eq 1 ] && cmp tests/programs/repair.mended $work/written && grep '^repair: byte ' docs/SAVES.md | cmp - $work/told
+tell 'the block of docs/SAVES.md' $?
+
 # What cannot be told does not keep the block back.
-build/bin/repair crates/repair/stdin 2>&- | cmp crates/repair/stdout -
+build/bin/repair tests/programs/repair.block 2>&- | cmp tests/programs/repair.mended -
 tell 'standard error closed' $?
 # What cannot be written has not changed.
-build/bin/repair crates/repair/stdin >/dev/full 2>$work/told
+build/bin/repair tests/programs/repair.block >/dev/full 2>$work/told
 [ $? -eq 1 ] && echo 'repair: standard output: No space left on device' | cmp - $work/told
 tell 'a mended block that cannot be written: that is told, and no byte of it' $?
 

@@ -34,6 +34,8 @@ writes '1 tile, code 6 at line 2, pixel 1' $work/sheet $work/tiles
 { zeros 32; printf '\0\0\377\0\0\0\377\0\0\0\377\0\0\0\377\0\0\0\377\0\0\0\377\0\0\0\377\0\0\0\377\0'; } > $work/tiles
 writes '2 tiles, the second of code 4' $work/sheet $work/tiles
 
+writes '2 tiles, with every code' tests/programs/sheet.sheet tests/programs/sheet.tiles
+
 # At the limits.
 codes 16384 '\017' > $work/sheet
 zeros 8192 | tr '\000' '\377' > $work/tiles

@@ -47,7 +47,7 @@ for both in "trace 219 00" "trace-261 218 01"; do
     build/bin/$program < tests/traces/p7.trace | cmp $work/expected -
     tell "262 steps: $program goes by its own table" $?
 done
-build/bin/snapshot-261 tests/traces/split90.trace | cmp crates/snapshot/stdout -
+build/bin/snapshot-261 tests/traces/split90.trace | cmp tests/programs/split90.ppm -
 tell "snapshot-261 of the split: a pass of 261 steps draws the same" $?
 # After 285 steps the one has drawn a row of its second pass, and the other has not.
 build/bin/snapshot tests/traces/late.trace > $work/late.ppm && build/bin/snapshot-261 tests/traces/late.trace > $work/late-261.ppm
@@ -134,6 +134,8 @@ row() { od -An -v -tx1 -j $((15 + 480 * $1)) -N 480 $work/split90.ppm | tr -d ' 
 # plain COLOUR: a row of this colour.
 plain() { yes "$1" | head -n 160 | tr -d '\n'; }
 build/bin/snapshot < tests/traces/split90.trace > $work/split90.ppm
+cmp tests/programs/split90.ppm $work/split90.ppm
+tell 'split at line 90: the picture that the rule gives' $?
 [ "$(head -c 15 $work/split90.ppm | od -An -v -tx1 | tr -d ' \n')" = 50360a313630203134340a3235350a ] && [ "$(($(wc -c < $work/split90.ppm)))" = 69135 ]
 tell 'split at line 90: the picture is a whole PPM' $?
 [ "$(row 66)" = "$(plain ff0000)" ]

@@ -2,8 +2,8 @@
 # built.sh: the last lines of `make`: the trace program at work, what is there, and what to try next, as commands that can be pasted.
 set -eu
 cd "$(dirname "$0")/.."
-echo "The trace of crates/trace/stdin (docs/TRACES.md says what its lines mean):"
-build/bin/trace crates/trace/stdin
+echo "The trace of crates/programs/stdin (docs/TRACES.md says what its lines mean):"
+build/bin/trace crates/programs/stdin
 echo
 echo "Built for this machine, $(uname -m):"
 echo "  build/bin       $(cd build/bin && echo *)"

@@ -1,6 +1,6 @@
 #!/bin/sh
 # native-program.sh MODULE.ll OUT..: the program whose module this is (tools/modules.sh), under each of these names, for this machine, or for the 64-bit Linux
-# that TARGET names. A program goes by the name that its file is made under (tools/program.c): two of the crates are a program under several. It is linked with
+# that TARGET names. It goes by the name that its file is made under (tools/program.c): the crate `programs` is a program under nine. It is linked with
 # tools/program.c: on x86-64 by the toolchain's own linker and C library, so that no C compiler is needed, elsewhere by the C compiler.
 set -eu
 [ $# -ge 2 ] || { echo "usage: native-program.sh MODULE.ll OUT.." >&2; exit 2; }

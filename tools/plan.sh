@@ -26,7 +26,7 @@ done
 
 # Of each crate a line: the length of its way, its name, the word for rt, the crates below it. In its folder a crates.txt with its own line, and the lines of
 # those below it by which it comes to a library of the kit: rt asks these for the C code to link. A crate weighs as many as it has functions, and five more for
-# all that is read before them; a program, which has few, weighs fifteen.
+# all that is read before them.
 plan=$({ grep -rcH --include='*.rt' 'fn ' crates || :; } | WANTED=$* NAMES=$names WORK=$work awk '
     function fail(words) { print "plan: crates.txt: " words > "/dev/stderr"; bad = 2; exit 2 }
     # its own weight, and the longest way of those that stand on it
@@ -36,7 +36,7 @@ plan=$({ grep -rcH --include='*.rt' 'fn ' crates || :; } | WANTED=$* NAMES=$name
         visited[name]
         count = split(above[name], list, " ")
         for (k = 1; k <= count; k++) if (way(list[k]) > most) most = way(list[k])
-        return ways[name] = most + (name in program ? 15 : 5 + functions[name])
+        return ways[name] = most + 5 + functions[name]
     }
     # whether it comes to a library of the kit
     function leads(name, list, k, count) {
@@ -57,7 +57,6 @@ plan=$({ grep -rcH --include='*.rt' 'fn ' crates || :; } | WANTED=$* NAMES=$name
     part == 1 {
         count = split($0, path, /[\/:]/)
         functions[path[2]] += path[count]
-        if (path[3] "/" path[4] == "src/main.rt") program[path[2]]
         next
     }
     { sub(/#.*/, "") }

@@ -16,22 +16,22 @@ pub struct Taken {
     pub len: usize,
 }
 
-// The first bytes of buf as the input; or none, where what was asked for is done, or what failed is told.
-fn start(ready: bool, len: usize, buf: &[u8]) -> Taken
-    requires { ⌜ len ≤ length (now buf) ⌝ }
-    ensures { λ r. ⌜ Counts (r .len) (now (buf .entry)) ⌝ }
-{
-    Taken {
-        ready: ready,
-        len: len,
-    }
-}
-
 // Tells what failed and, by errno, why. The program's name comes first: a write that succeeds leaves errno as it was.
 fn tell(name: &[u8], what: &[u8]) {
     io::write_all(STDERR_FILENO, name);
     io::write_all(STDERR_FILENO, b": ");
     os::fail(what);
+}
+
+// The same, where there is then no input.
+fn failed(name: &[u8], what: &[u8]) -> Taken
+    ensures { λ r. ⌜ r .len ≡ 0 ⌝ }
+{
+    tell(name, what);
+    Taken {
+        ready: false,
+        len: 0,
+    }
 }
 
 // Whether two texts are the same.
@@ -58,16 +58,21 @@ fn read_from(fd: i32, name: &[u8], what: &[u8], buf: &mut [u8]) -> Taken
     while done < buf.len() {
         let got = libc::read(fd, &mut buf[done..]);
         if got < 0 {
-            tell(name, what);
-            return start(false, 0, buf);
+            return failed(name, what);
         }
         let more = io::count(got, &buf[done..]);
         if more == 0 {
-            return start(true, done, buf);
+            return Taken {
+                ready: true,
+                len: done,
+            };
         }
         done += more;
     }
-    start(true, done, buf)
+    Taken {
+        ready: true,
+        len: done,
+    }
 }
 
 // Writes all of the output to standard output, and answers whether it could.
@@ -79,41 +84,86 @@ pub fn output(name: &[u8], bytes: &[u8]) -> bool {
     true
 }
 
+// From standard input.
+fn standard_input(name: &[u8], buf: &mut [u8]) -> Taken
+    ensures { λ r. ⌜ Counts (r .len) (now (buf .exit)) ⌝ }
+{
+    read_from(STDIN_FILENO, name, b"standard input", buf)
+}
+
+// From the file of this name.
+fn file(name: &[u8], path: &[u8], buf: &mut [u8]) -> Taken
+    ensures { λ r. ⌜ Counts (r .len) (now (buf .exit)) ⌝ }
+{
+    let fd = os::open_read(path);
+    if fd < 0 {
+        return failed(name, path);
+    }
+    let taken = read_from(fd, name, path, buf);
+    libc::close(fd);
+    taken
+}
+
+// The help text is what was asked for: there is no input then.
+fn helped(name: &[u8], help: &[u8]) -> Taken
+    ensures { λ r. ⌜ r .len ≡ 0 ⌝ }
+{
+    output(name, help);
+    Taken {
+        ready: false,
+        len: 0,
+    }
+}
+
+// By what the argument says.
+fn by_word(name: &[u8], help: &[u8], word: &[u8], buf: &mut [u8]) -> Taken
+    ensures { λ r. ⌜ Counts (r .len) (now (buf .exit)) ⌝ }
+{
+    if same(word, b"--help") {
+        return helped(name, help);
+    }
+    if same(word, b"-") {
+        return standard_input(name, buf);
+    }
+    file(name, word, buf)
+}
+
+// By the argument.
+fn by_argument(name: &[u8], help: &[u8], buf: &mut [u8]) -> Taken
+    ensures { λ r. ⌜ Counts (r .len) (now (buf .exit)) ⌝ }
+{
+    let mut word = io::buffer();
+    let n = os::arg(1, &mut word);
+    if os::errno() != 0 {
+        return failed(name, b"its argument");
+    }
+    by_word(name, help, &word[..n], buf)
+}
+
+// More than one: there is no input.
+fn too_many(name: &[u8]) -> Taken
+    ensures { λ r. ⌜ r .len ≡ 0 ⌝ }
+{
+    io::write_all(STDERR_FILENO, name);
+    io::write_all(STDERR_FILENO, b": one file at most; --help tells more\n");
+    Taken {
+        ready: false,
+        len: 0,
+    }
+}
+
 // Fills buf from the file that the first argument names; with no argument, or one that is `-`, from standard input. `--help` is answered here, with the help text.
 pub fn input(name: &[u8], help: &[u8], buf: &mut [u8]) -> Taken
     ensures { λ r. ⌜ Counts (r .len) (now (buf .exit)) ⌝ }
 {
     let words = os::arg_count();
-    if words < 2 {
-        return read_from(STDIN_FILENO, name, b"standard input", buf);
-    }
     if 2 < words {
-        io::write_all(STDERR_FILENO, name);
-        io::write_all(STDERR_FILENO, b": one file at most; --help tells more\n");
-        return start(false, 0, buf);
+        return too_many(name);
     }
-    let mut word = io::buffer();
-    let n = os::arg(1, &mut word);
-    if os::errno() != 0 {
-        tell(name, b"its argument");
-        return start(false, 0, buf);
+    if words < 2 {
+        return standard_input(name, buf);
     }
-    let path = &word[..n];
-    if same(path, b"--help") {
-        output(name, help);
-        return start(false, 0, buf);
-    }
-    if same(path, b"-") {
-        return read_from(STDIN_FILENO, name, b"standard input", buf);
-    }
-    let fd = os::open_read(path);
-    if fd < 0 {
-        tell(name, path);
-        return start(false, 0, buf);
-    }
-    let got = read_from(fd, name, path, buf);
-    libc::close(fd);
-    got
+    by_argument(name, help, buf)
 }
 
 // ---- buffers that several programs need. The contract of a room gives its length alone, that of a frame also that it is zeroed: so long an array then costs

@@ -4,6 +4,8 @@ use borrow.Author.Needs.{needs}
 use Prim.Native.Nat.{_-_, _≤_}
 use mathlib.Core.Path.{_≡_}
 use lib.ListN.{length}
+use native.Mathlib.Omega.{arith}
+use Rattle.io.proofs.Counting.{counts}
 use Rattle.program.proofs.read_from.Statement.{statement}
 use Rattle.program.proofs.read_from.Tie as tie
 
@@ -28,11 +30,8 @@ part-read-end c = search needs
 read-requires : tie.Need-read-requires Inv-loop μ-loop
 read-requires c κs = search needs
 
-tell-requires : tie.Need-tell-requires Inv-loop μ-loop
-tell-requires c κs = search needs
-
-start-requires : tie.Need-start-requires Inv-loop μ-loop
-start-requires c κs = search needs
+failed-requires : tie.Need-failed-requires Inv-loop μ-loop
+failed-requires c κs = search needs
 
 same-length : tie.Need-same-length Inv-loop μ-loop
 same-length c = search needs
@@ -52,14 +51,11 @@ part-count-end c = search needs
 count-requires : tie.Need-count-requires Inv-loop μ-loop
 count-requires c κs = search needs
 
-start-requires-2 : tie.Need-start-requires-2 Inv-loop μ-loop
-start-requires-2 c κs = search needs
-
 same-length-2 : tie.Need-same-length-2 Inv-loop μ-loop
 same-length-2 c = search needs
 
 returns-2 : tie.Need-returns-2 Inv-loop μ-loop
-returns-2 c = search needs
+returns-2 c = counts _ _ (search needs)
 
 add-done : tie.Need-add-done Inv-loop μ-loop
 add-done c = search needs
@@ -70,14 +66,11 @@ loop-less c = search needs
 loop-again : tie.Need-loop-again Inv-loop μ-loop
 loop-again c = search needs
 
-start-requires-3 : tie.Need-start-requires-3 Inv-loop μ-loop
-start-requires-3 c κs = search needs
-
 same-length-3 : tie.Need-same-length-3 Inv-loop μ-loop
 same-length-3 c = search needs
 
 returns-3 : tie.Need-returns-3 Inv-loop μ-loop
-returns-3 c = search needs
+returns-3 c = counts _ _ (omega arith)
 
 pub read-from-spec : {M : Type 1} → statement M
 read-from-spec =
@@ -90,20 +83,17 @@ read-from-spec =
     part-read-start
     part-read-end
     read-requires
-    tell-requires
-    start-requires
+    failed-requires
     same-length
     returns
     sub-count
     part-count-start
     part-count-end
     count-requires
-    start-requires-2
     same-length-2
     returns-2
     add-done
     loop-less
     loop-again
-    start-requires-3
     same-length-3
     returns-3)

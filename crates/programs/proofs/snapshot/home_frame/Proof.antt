@@ -1,10 +1,10 @@
--- `snapshot::home_frame` meets its contract: a home frame, zeroed: the contract says so, and gives its length, which the caller's check then need not compute.
+-- `programs::snapshot::home_frame` meets its contract: a home frame, zeroed, of 196,608 bytes.
 -- By a law, since to compute the length of 196,608 zeros takes much memory.
 use mathlib.Core.Path.{refl, sym}
 use Prim.Native.Nat.{ℕ}
 use lib.ListN.{length-replicate}
-use Rattle.snapshot.proofs.home_frame.Statement.{statement}
-use Rattle.snapshot.proofs.home_frame.Tie as tie
+use Rattle.programs.proofs.snapshot.home_frame.Statement.{statement}
+use Rattle.programs.proofs.snapshot.home_frame.Tie as tie
 
 returns : tie.Need-returns
 returns c = (refl, sym (length-replicate {A = ℕ} 196608 0))

@@ -1,10 +1,10 @@
--- `repair::tell_changes` meets its contract: each offset at which the two differ, in rising order: those of a repair's list.
+-- `programs::repair::tell_changes` meets its contract: each offset at which the two differ, in rising order: those of a repair's list.
 -- Safe, and it ends: the measure is what is left to look at. Assumes nothing.
 use borrow.Author.Needs.{needs}
 use Prim.Native.Nat.{_-_, _≤_}
 use lib.ListN.{length}
-use Rattle.repair.proofs.tell_changes.Statement.{statement}
-use Rattle.repair.proofs.tell_changes.Tie as tie
+use Rattle.programs.proofs.repair.tell_changes.Statement.{statement}
+use Rattle.programs.proofs.repair.tell_changes.Tie as tie
 
 abbrev Inv-loop : tie.InvT-loop
 Inv-loop old new i₀ i = i ≤ length old
@@ -15,17 +15,11 @@ abbrev μ-loop : tie.MeasureT-loop
 loop-holds : tie.Need-loop-holds Inv-loop μ-loop
 loop-holds c = search needs
 
-shared-slice-read-if2 : tie.Need-shared-slice-read-if2 Inv-loop μ-loop
-shared-slice-read-if2 c = search needs
+shared-slice-read-was : tie.Need-shared-slice-read-was Inv-loop μ-loop
+shared-slice-read-was c = search needs
 
-shared-slice-read-if2-2 : tie.Need-shared-slice-read-if2-2 Inv-loop μ-loop
-shared-slice-read-if2-2 c = search needs
-
-shared-slice-read-tell-change : tie.Need-shared-slice-read-tell-change Inv-loop μ-loop
-shared-slice-read-tell-change c = search needs
-
-shared-slice-read-tell-change-2 : tie.Need-shared-slice-read-tell-change-2 Inv-loop μ-loop
-shared-slice-read-tell-change-2 c = search needs
+shared-slice-read-is : tie.Need-shared-slice-read-is Inv-loop μ-loop
+shared-slice-read-is c = search needs
 
 tell-change-requires : tie.Need-tell-change-requires Inv-loop μ-loop
 tell-change-requires c κs = search needs
@@ -49,10 +43,8 @@ tell-changes-spec =
     Inv-loop
     μ-loop
     loop-holds
-    shared-slice-read-if2
-    shared-slice-read-if2-2
-    shared-slice-read-tell-change
-    shared-slice-read-tell-change-2
+    shared-slice-read-was
+    shared-slice-read-is
     tell-change-requires
     add-i
     loop-less

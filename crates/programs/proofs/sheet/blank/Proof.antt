@@ -1,10 +1,10 @@
--- `sheet::blank` meets its contract: room for the tiles of the longest sheet.
+-- `programs::sheet::blank` meets its contract: room for the tiles of the longest sheet.
 -- By a law, since to compute the length of so many zeros takes memory.
 use mathlib.Core.Path.{sym}
 use Prim.Native.Nat.{ℕ}
 use lib.ListN.{length-replicate}
-use Rattle.sheet.proofs.blank.Statement.{statement}
-use Rattle.sheet.proofs.blank.Tie as tie
+use Rattle.programs.proofs.sheet.blank.Statement.{statement}
+use Rattle.programs.proofs.sheet.blank.Tie as tie
 
 returns : tie.Need-returns
 returns c = sym (length-replicate {A = ℕ} 8192 0)

@@ -1,10 +1,10 @@
--- `sheet::room` meets its contract: room for the longest sheet and one byte more: where that is filled, there is too much.
+-- `programs::sheet::room` meets its contract: room for the longest sheet and one byte more: where that is filled, there is too much.
 -- By a law, since to compute the length of so many zeros takes memory.
 use mathlib.Core.Path.{sym}
 use Prim.Native.Nat.{ℕ}
 use lib.ListN.{length-replicate}
-use Rattle.sheet.proofs.room.Statement.{statement}
-use Rattle.sheet.proofs.room.Tie as tie
+use Rattle.programs.proofs.sheet.room.Statement.{statement}
+use Rattle.programs.proofs.sheet.room.Tie as tie
 
 returns : tie.Need-returns
 returns c = sym (length-replicate {A = ℕ} 16385 0)
