@@ -202,6 +202,7 @@ tell "rt finds the crate's line alone, and of those below it only the ones that 
 small=$work/small
 mkdir -p "$small/target"
 cp -R tools "$small/"
+rm "$small/tools/seconds.txt"
 printf '%s\n' base: 'wide: base' 'deep: base' 'deeper: deep' 'deepest: deeper' 'short: base' 'shown: deepest' >"$small/crates.txt"
 for name in base:1 wide:12 deep:1 deeper:1 deepest:1 short:1; do
     mkdir -p "$small/crates/${name%:*}/src"
@@ -213,6 +214,11 @@ for k in $(seq 9); do echo "pub fn f$k() {}"; done >"$small/crates/shown/src/oth
 anew
 RT_JOBS=1 bash "$small/tools/plan.sh" >"$work/said" 2>&1 && [ "$(tr '\n' ' ' <"$work/proved")" = 'base deep deeper deepest wide shown short ' ]
 tell "the longest way above it comes first, by the functions that are there, in all files of a crate" $?
+echo 'short 30' >"$small/tools/seconds.txt"
+rm -rf "$small/target/stamp"
+anew
+RT_JOBS=1 bash "$small/tools/plan.sh" >"$work/said" 2>&1 && [ "$(tr '\n' ' ' <"$work/proved")" = 'base deep short deeper deepest wide shown ' ]
+tell "and by the seconds that a crate has taken, where they are known" $?
 # refused NAME LINE WORDS..: the plan says this line, and calls rt for nothing.
 refused() {
     local name=$1 line=$2 status

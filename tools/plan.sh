@@ -2,8 +2,8 @@
 # plan.sh CRATE..: proves these crates and what they depend on, or every crate: each as soon as those below it are proved, as many at a time as there are
 # processors, or RT_JOBS, and the one with the longest way above it first; rt goes level by level, and waits for the slowest crate of each. CRATE.a is a library
 # that is built for C, by rt staticlib. Where one is not proved, those above it are not tried, and all others are. What rt says of a crate is printed when it
-# has ended, and stays in target/log/CRATE.out. On descriptor 3, where somebody listens, a line says what becomes of a crate: begun; then proved, unchanged,
-# failed, misran (proved, but its run failed), or, with none of these, untried.
+# has ended, and stays in target/log/CRATE.out; how many seconds it took, in CRATE.seconds there. On descriptor 3, where somebody listens, a line says what
+# becomes of a crate: begun; then proved, unchanged, failed, misran (proved, but its run failed), or, with none of these, untried.
 set -u
 cd "$(dirname "$0")/.." || exit 2
 root=$(pwd -P)
@@ -25,9 +25,12 @@ for name in $names; do
 done
 
 # Of each crate a line: the length of its way, its name, the word for rt, the crates below it. In its folder a crates.txt with its own line, and the lines of
-# those below it by which it comes to a library of the kit: rt asks these for the C code to link. A crate weighs as many as it has functions, and five more for
-# all that is read before them.
-plan=$({ grep -rcH --include='*.rt' 'fn ' crates || :; } | WANTED=$* NAMES=$names WORK=$work awk '
+# those below it by which it comes to a library of the kit: rt asks these for the C code to link. A crate weighs the seconds that its check took once
+# (tools/seconds.txt, which tools/weigh.sh writes); one that is not there as many as it has functions, and five more for all that is read before them.
+plan=$({
+    { grep -rcH --include='*.rt' 'fn ' crates || :; } | sed -E 's|^crates/([^/]*)/.*:|functions \1 |'
+    [ ! -e tools/seconds.txt ] || sed 's/^/seconds /' tools/seconds.txt
+} | WANTED=$* NAMES=$names WORK=$work awk '
     function fail(words) { print "plan: crates.txt: " words > "/dev/stderr"; bad = 2; exit 2 }
     # its own weight, and the longest way of those that stand on it
     function way(name, list, k, count, most) {
@@ -36,7 +39,7 @@ plan=$({ grep -rcH --include='*.rt' 'fn ' crates || :; } | WANTED=$* NAMES=$name
         visited[name]
         count = split(above[name], list, " ")
         for (k = 1; k <= count; k++) if (way(list[k]) > most) most = way(list[k])
-        return ways[name] = most + 5 + functions[name]
+        return ways[name] = most + (name in seconds ? seconds[name] : 5 + functions[name])
     }
     # whether it comes to a library of the kit
     function leads(name, list, k, count) {
@@ -54,11 +57,9 @@ plan=$({ grep -rcH --include='*.rt' 'fn ' crates || :; } | WANTED=$* NAMES=$name
         count = split(deps[name], list, " ")
         for (k = 1; k <= count; k++) if (list[k] in deps && leads(list[k])) put(list[k], file)
     }
-    part == 1 {
-        count = split($0, path, /[\/:]/)
-        functions[path[2]] += path[count]
-        next
-    }
+    part == 1 && $1 == "functions" { functions[$2] += $3 }
+    part == 1 && $1 == "seconds" { seconds[$2] = $3 }
+    part == 1 { next }
     { sub(/#.*/, "") }
     /^[ \t]*$/ { next }
     !/^[ \t]*[A-Za-z_][A-Za-z0-9_]*[ \t]*:[^:]*$/ { fail("line " FNR ": expected NAME: DEP DEP ...") }
@@ -101,9 +102,10 @@ say() { { echo "$*" >&3; } 2>/dev/null || :; }
 
 # prove VERB NAME: by a run of rt in the crate's own folder. What it says then names the files where a user finds them.
 prove() {
-    local room=$work/$2 status
+    local room=$work/$2 status began=$SECONDS
     (cd "$room" && RT_CUT=0 rt "$1" "$2") </dev/null >"$room/said" 2>&1 3>&-
     status=$?
+    [ $status -ne 0 ] || grep -q "^rt: $2 proved (unchanged" "$room/said" || echo $((SECONDS - began)) >"target/log/$2.seconds"
     FROM=$room/ TO=$root/ awk '{
         while (at = index($0, ENVIRON["FROM"])) {
             printf "%s%s", substr($0, 1, at - 1), ENVIRON["TO"]
