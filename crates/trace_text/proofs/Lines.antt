@@ -2,7 +2,7 @@
 -- Assumes nothing.
 use mathlib.Core.Path.{_≡_, refl, sym, ap, _∙_}
 use mathlib.Core.List.{List, [], _∷_, _++_, append-assoc}
-use Prim.Native.Nat.{ℕ, _+_, _-_, _/_, _<_, _≤_}
+use Prim.Native.Nat.{ℕ, _+_, _-_, _/_, _%_, _<_, _≤_}
 use native.Mathlib.Omega.{arith}
 use borrow.Author.Tests.{lt-ltb}
 use lib.Dec.{ltb, lit≤}
@@ -12,14 +12,23 @@ use Rattle.laws.proofs.Lists.{written-on, written-nil}
 use Rattle.laws.proofs.Tests.{either}
 use Rattle.refusal.specs.declared.Refusal.{Refusal}
 use Rattle.refusal.specs.Refusals.{refusalNumber}
+use Rattle.points.specs.declared.VdpInt.{VdpInt}
+use Rattle.points.specs.declared.DisplayRefresh.{DisplayRefresh}
+use Rattle.points.specs.Points.{interruptNumber, reportNumber}
 use Rattle.trace_text.specs.declared.Answer.{Answer}
-use Rattle.trace_text.specs.declared.Answer.the-variants.{Wrote, Nothing}
-use Rattle.trace_text.specs.Text.{digitOf, decimal, numbered, lineOf}
+use Rattle.trace_text.specs.declared.Answer.the-variants.{Stepped, Nothing}
+use Rattle.trace_text.specs.Text.{digitOf, decimal, hexDigit, told, lineOf}
 
 -- a number of one digit
 pub one : (n : ℕ) → n < 10 → decimal n ≡ digitOf n ∷ []
 unfolding decimal
 one n h = rw (lt-ltb n 10 h)
+
+-- the same, as the code writes it
+as-digit : {x n : ℕ} → x ≡ n → x < 10 → (48 + x) ∷ [] ≡ decimal n
+as-digit {x} {n} e h =
+    let d : 48 + x ≡ digitOf n = omega arith in
+    ap (λ (k : ℕ). k ∷ []) d ∙ sym (one n (omega arith))
 
 -- a number is as many of its five last digits as it has
 abbrev pub five : ℕ → List ℕ
@@ -51,10 +60,6 @@ pub put-as :
 put-as o at e h = (h .0 ∙ ap (λ (l : List ℕ). at + length l) e, h .1 ∙ ap (written o at) e)
 
 -- the line of an answer, by its cases: what was written is that line
-pub wrote-line : (f : Refusal) {n : ℕ} → n ≡ refusalNumber f → numbered (0x77 ∷ 0x20 ∷ []) n ≡ lineOf (Wrote f)
-unfolding lineOf
-wrote-line f e = ap (numbered (0x77 ∷ 0x20 ∷ [])) e
-
 pub line-done :
     (o : List ℕ) (at : ℕ) {a b : Answer} {x o′ : List ℕ} {r : ℕ} → a ≡ b → x ≡ lineOf b → (r ≡ at + length x) × (o′ ≡ written o at x)
     → (r ≡ at + length (lineOf a)) × (o′ ≡ written o at (lineOf a))
@@ -63,6 +68,16 @@ line-done o at e f h = put-as o at (f ∙ ap lineOf (sym e)) h
 pub no-line : (o : List ℕ) (at : ℕ) {a : Answer} → a ≡ Nothing → (at ≡ at + length (lineOf a)) × (o ≡ written o at (lineOf a))
 unfolding lineOf
 no-line o at e = line-done o at {x = []} e refl (omega arith, sym (written-nil o at))
+
+pub step-line :
+    (f : Refusal) (k : ℕ) (i : VdpInt) (d : DisplayRefresh) {h l x y : ℕ} → h ≡ hexDigit (k / 16) → l ≡ hexDigit (k % 16)
+    → (x ≡ interruptNumber i) × (x < 2) → (y ≡ reportNumber d) × (y < 3)
+    → told 0x73 (refusalNumber f) (0x20 ∷ h ∷ l ∷ 0x20 ∷ (48 + x) ∷ 0x20 ∷ (48 + y) ∷ 0x0A ∷ []) ≡ lineOf (Stepped f k i d)
+unfolding lineOf
+step-line f k i d eh el p q =
+    let ei = as-digit (p .0) (omega (arith, p .1)) in
+    let ed = as-digit (q .0) (omega (arith, q .1)) in
+    λ j. told 0x73 (refusalNumber f) (0x20 ∷ eh j ∷ el j ∷ 0x20 ∷ (ei j ++ (0x20 ∷ (ed j ++ (0x0A ∷ [])))))
 
 -- a text from the start of o on, and one more piece of it
 pub grow :

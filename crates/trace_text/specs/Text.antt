@@ -75,3 +75,7 @@ longLine = line (long ∷ [])
 -- a line of one number, by the bytes that stand before it
 abbrev pub numbered : List ℕ → ℕ → List ℕ
 numbered head n = head ++ (decimal n ++ (0x0A ∷ []))
+
+-- a line that tells a refusal, by its letter, the refusal's number and what stands behind it
+abbrev pub told : ℕ → ℕ → List ℕ → List ℕ
+told letter n rest = letter ∷ 0x20 ∷ (decimal n ++ rest)

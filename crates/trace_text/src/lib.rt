@@ -5,8 +5,7 @@ ghost use Prim.Native.Nat.{_+_, _/_, _≤_, _<_};
 ghost use lib.ListN.{length};
 ghost use Rattle.laws.specs.Lists.{written};
 ghost use Rattle.refusal.specs.Refusals.{refusalNumber};
-ghost use Rattle.points.specs.Points.{interruptNumber, reportNumber};
-ghost use Rattle.trace_text.specs.Text.{digitOf, decimal, hexDigit, numbered, lineOf};
+ghost use Rattle.trace_text.specs.Text.{digitOf, decimal, hexDigit, numbered, told, lineOf};
 use points::DisplayRefresh;
 use points::VdpInt;
 use refusal::Refusal;
@@ -53,16 +52,18 @@ fn unprinted(n: usize) -> usize
     ensures { λ r. ⌜ length (decimal n) + r ≡ 5 ⌝ }
 {
     if n < 10 {
-        4
-    } else if n < 100 {
-        3
-    } else if n < 1000 {
-        2
-    } else if n < 10000 {
-        1
-    } else {
-        0
+        return 4;
     }
+    if n < 100 {
+        return 3;
+    }
+    if n < 1000 {
+        return 2;
+    }
+    if n < 10000 {
+        return 1;
+    }
+    0
 }
 
 // A number of at most five digits.
@@ -76,25 +77,6 @@ fn put_decimal(out: &mut [u8], at: usize, n: usize) -> usize
     put_all(out, at, &digits[from..])
 }
 
-// The number of a refusal, of an interrupt and of a display report, to be printed: the last two have one digit.
-fn number(refusal: Refusal) -> usize
-    ensures { λ n. ⌜ n ≡ refusalNumber refusal ⌝ }
-{
-    refusal::refusal_number(refusal) as usize
-}
-
-fn interrupt_number(interrupt: VdpInt) -> usize
-    ensures { λ n. ⌜ (n ≡ interruptNumber interrupt) × (n < 10) ⌝ }
-{
-    points::interrupt_number(interrupt) as usize
-}
-
-fn report_number(report: DisplayRefresh) -> usize
-    ensures { λ n. ⌜ (n ≡ reportNumber report) × (n < 10) ⌝ }
-{
-    points::report_number(report) as usize
-}
-
 // A word with a space after it, a number, and the end of the line.
 pub fn put_numbered(out: &mut [u8], at: usize, word: &[u8], n: usize) -> usize
     requires { ⌜ at + length (now word) + 6 ≤ length (now out) ⌝ }
@@ -106,20 +88,29 @@ pub fn put_numbered(out: &mut [u8], at: usize, word: &[u8], n: usize) -> usize
     put_all(out, b, b"\n")
 }
 
-// The line of a read.
+// The line of an answer: a letter, the number of the refusal, and the rest.
+fn put_line(out: &mut [u8], at: usize, letter: u8, refusal: Refusal, rest: &[u8]) -> usize
+    requires { ⌜ at + 7 + length (now rest) ≤ length (now out) ⌝ }
+    ensures { λ r. ⌜ r ≡ at + length (told letter (refusalNumber refusal) (now (rest .entry))) ⌝ }
+    ensures { λ _. ⌜ now (out .exit) ≡ written (now (out .entry)) at (told letter (refusalNumber refusal) (now (rest .entry))) ⌝ }
+{
+    let a = put_all(out, at, &[letter, b' ']);
+    let b = put_decimal(out, a, refusal::refusal_number(refusal) as usize);
+    put_all(out, b, rest)
+}
+
+// That of a read.
 fn put_read(out: &mut [u8], at: usize, refusal: Refusal, byte: u8) -> usize
     requires { ⌜ at + 15 ≤ length (now out) ⌝ }
     ensures { λ r. ⌜ r ≡ at + length (lineOf (Answer.Gave refusal byte)) ⌝ }
     ensures { λ _. ⌜ now (out .exit) ≡ written (now (out .entry)) at (lineOf (Answer.Gave refusal byte)) ⌝ }
 {
-    let a = put_all(out, at, b"r ");
-    let b = put_decimal(out, a, number(refusal));
     let high = hex_digit(byte / 16);
     let low = hex_digit(byte % 16);
-    put_all(out, b, &[b' ', high, low, b'\n'])
+    put_line(out, at, b'r', refusal, &[b' ', high, low, b'\n'])
 }
 
-// The line of a step.
+// That of a step; the numbers of an interrupt and of a display report have one digit.
 fn put_step(
     out: &mut [u8],
     at: usize,
@@ -132,13 +123,17 @@ fn put_step(
     ensures { λ r. ⌜ r ≡ at + length (lineOf (Answer.Stepped refusal counter interrupt report)) ⌝ }
     ensures { λ _. ⌜ now (out .exit) ≡ written (now (out .entry)) at (lineOf (Answer.Stepped refusal counter interrupt report)) ⌝ }
 {
-    let a = put_all(out, at, b"s ");
-    let b = put_decimal(out, a, number(refusal));
     let high = hex_digit(counter / 16);
     let low = hex_digit(counter % 16);
-    let i = digit(interrupt_number(interrupt));
-    let d = digit(report_number(report));
-    put_all(out, b, &[b' ', high, low, b' ', i, b' ', d, b'\n'])
+    let i = b'0' + points::interrupt_number(interrupt);
+    let d = b'0' + points::report_number(report);
+    put_line(
+        out,
+        at,
+        b's',
+        refusal,
+        &[b' ', high, low, b' ', i, b' ', d, b'\n'],
+    )
 }
 
 // The line of an answer.
@@ -148,7 +143,7 @@ pub fn put_answer(out: &mut [u8], at: usize, answer: Answer) -> usize
     ensures { λ _. ⌜ now (out .exit) ≡ written (now (out .entry)) at (lineOf answer) ⌝ }
 {
     match answer {
-        Answer::Wrote(refusal) => put_numbered(out, at, b"w ", number(refusal)),
+        Answer::Wrote(refusal) => put_line(out, at, b'w', refusal, b"\n"),
         Answer::Gave(refusal, byte) => put_read(out, at, refusal, byte),
         Answer::Stepped(refusal, counter, interrupt, report) => put_step(
             out,
