@@ -7,9 +7,8 @@ use Prim.Native.Nat.{ℕ, _+_, _-_, _*_, _<_, _≤_}
 use native.Mathlib.Omega.{arith}
 use borrow.Author.Tests.{ltb-false, leb-true, leb-false, lt-ltb, le-ltb, le-leb, lt-leb}
 use lib.Dec.{ltb, leb, eqb}
-use lib.ListN.{length}
+use lib.ListN.{length, take}
 use Rattle.laws.specs.Lists.{at, written}
-use Rattle.laws.proofs.Lists.{written-nil}
 use Rattle.laws.proofs.Tests.{either, split, clash}
 use Rattle.refusal.specs.declared.Refusal.the-variants.{Accepted, RecordRoom}
 use Rattle.trace_record.specs.declared.Record.{Record}
@@ -60,14 +59,18 @@ room-is n k c h =
     (λ t. t ∙ sym (le-leb (k + c) n (omega (arith, leb-true c (n - k) t))))
     (λ t. t ∙ sym (lt-leb (k + c) n (omega (arith, leb-false c (n - k) t))))
 
--- the bytes of a record that has none
-pub stored-none : (s : List ℕ) (k : ℕ) (x : Record) → recordBytes x ≡ [] → s ≡ written s k (recordBytes x)
-stored-none s k x e = sym (ap (written s k) e ∙ written-nil s k)
+-- the bytes of a record, of the four that have them in front
+module _ (x : Record) {c : ℕ} (count : c ≡ size x) (l : List ℕ) (e : take (size x) l ≡ recordBytes x) where
+  bytes-are : take c l ≡ recordBytes x
+  bytes-are = ap (λ (n : ℕ). take n l) count ∙ e
+
+  pub bytes-count : c ≡ length (take c l)
+  bytes-count = count ∙ sym (ap length bytes-are)
 
 -- ---- what the writer leaves, without room and with it
 module _ (s : List ℕ) (k : ℕ) (x : Record) {c : ℕ} {b : Bool} (count : c ≡ size x) (room : b ≡ leb (k + c) (length s)) where
-  pub room-for : b ≡ true → k + size x ≤ length s
-  room-for t = let h = leb-true (k + c) (length s) (sym room ∙ t) in omega arith
+  pub room-for : b ≡ true → (l : List ℕ) → take (size x) l ≡ recordBytes x → k + length (take c l) ≤ length s
+  room-for t l e = let h = leb-true (k + c) (length s) (sym room ∙ t) in omega (arith, bytes-count x count l e)
 
   too-long : b ≡ false → ltb (length s) (k + size x) ≡ true
   too-long t = let h = leb-false (k + c) (length s) (sym room ∙ t) in lt-ltb (length s) (k + size x) (omega arith)
@@ -76,8 +79,11 @@ module _ (s : List ℕ) (k : ℕ) (x : Record) {c : ℕ} {b : Bool} (count : c �
   unfolding recorded
   left-full t = let e = too-long t in record { refusal = simp e; count = simp e; recording = simp e }
 
-  pub left-stored : b ≡ true → {s′ : List ℕ} → s′ ≡ written s k (recordBytes x) → RecordLeaves s k x (record { refusal = Accepted; count = c }) s′
+  pub left-stored :
+      b ≡ true → (l : List ℕ) → take (size x) l ≡ recordBytes x → {s′ : List ℕ} → s′ ≡ written s k (take c l)
+      → RecordLeaves s k x (record { refusal = Accepted; count = c }) s′
   unfolding recorded
-  left-stored t q =
-      let e : ltb (length s) (k + size x) ≡ false = le-ltb (length s) (k + size x) (room-for t) in
-      record { refusal = simp e; count = simp e count; recording = simp e q }
+  left-stored t l f q =
+      let h = leb-true (k + c) (length s) (sym room ∙ t) in
+      let e : ltb (length s) (k + size x) ≡ false = le-ltb (length s) (k + size x) (omega arith) in
+      record { refusal = simp e; count = simp e count; recording = simp e (q ∙ ap (written s k) (bytes-are x count l f)) }

@@ -1,12 +1,9 @@
 // The records of a recording (R7.9): what stands at an offset, a record put behind those that are there, and a reader that goes from one to the next.
 ghost use mathlib.Core.Path.{_≡_};
-ghost use mathlib.Core.Bool.{cond};
-ghost use Prim.Native.Nat.{_+_, _-_, _*_, _<_, _≤_};
-ghost use lib.ListN.{length};
-ghost use lib.Dec.{leb, ltb};
-ghost use Rattle.laws.specs.Lists.{at, written};
-ghost use Rattle.picture.specs.Area.{areaFrom};
-ghost use Rattle.trace_record.specs.declared.Record.the-variants.{Step, Bad};
+ghost use Prim.Native.Nat.{_+_, _≤_};
+ghost use lib.ListN.{length, take};
+ghost use lib.Dec.{leb};
+ghost use Rattle.laws.specs.Lists.{written};
 ghost use Rattle.trace_record.specs.Record.{recordAt, marked};
 ghost use Rattle.trace_record.specs.Machine.{hasArea, recordOn};
 ghost use Rattle.trace_record.specs.Writer.{areaNumber, recordBytes, size, RecordLeaves};
@@ -23,24 +20,6 @@ pub enum Record {
     End,
 }
 
-// The mark at this offset: two bytes, the first one the higher.
-fn mark_at(s: &[u8], k: usize) -> u16
-    requires { ⌜ k + 2 ≤ length (now s) ⌝ }
-    ensures { λ r. ⌜ r ≡ 256 * at (now (s .entry)) k + at (now (s .entry)) (k + 1) ⌝ }
-{
-    small::word(s[k + 1], s[k])
-}
-
-// The record of a step by the number of its area.
-fn step_for(x: u8) -> Record
-    ensures { λ r. ⌜ r ≡ cond (ltb 2 x) Bad (Step (areaFrom x)) ⌝ }
-{
-    if picture::LAST_AREA < x {
-        return Record::Bad;
-    }
-    Record::Step(picture::area_from(x))
-}
-
 // The record with this mark at this offset, where so many bytes are left.
 fn record_marked(s: &[u8], at: usize, left: usize, mark: u16) -> Record
     requires { ⌜ (at + left ≡ length (now s)) × (3 ≤ left) ⌝ }
@@ -55,12 +34,17 @@ fn record_marked(s: &[u8], at: usize, left: usize, mark: u16) -> Record
             Record::Write(x, s[at + 3])
         }
         0x5052 => Record::Read(x),
-        0x4C53 => step_for(x),
+        0x4C53 => {
+            if picture::LAST_AREA < x {
+                return Record::Bad;
+            }
+            Record::Step(picture::area_from(x))
+        }
         _ => Record::Bad,
     }
 }
 
-// The record at this offset.
+// The record at this offset. Its mark is two bytes, the first one the higher.
 pub fn record_at(s: &[u8], at: usize) -> Record
     ensures { λ r. ⌜ r ≡ recordAt (now (s .entry)) at ⌝ }
 {
@@ -71,7 +55,8 @@ pub fn record_at(s: &[u8], at: usize) -> Record
     if left < 3 {
         return Record::Bad;
     }
-    record_marked(s, at, left, mark_at(s, at))
+    let mark = small::word(s[at + 1], s[at]);
+    record_marked(s, at, left, mark)
 }
 
 // ---- a record as a machine takes it
@@ -100,18 +85,14 @@ fn has_area(machine: Machine, area: RenderArea) -> bool
 pub fn record_on(machine: Machine, s: &[u8], at: usize) -> Record
     ensures { λ r. ⌜ r ≡ recordOn machine (now (s .entry)) at ⌝ }
 {
-    match record_at(s, at) {
-        Record::Write(port, value) => Record::Write(port, value),
-        Record::Read(port) => Record::Read(port),
-        Record::Step(area) => {
-            if has_area(machine, area) {
-                return Record::Step(area);
-            }
-            Record::Bad
-        }
-        Record::Bad => Record::Bad,
-        Record::End => Record::End,
+    let record = record_at(s, at);
+    let Record::Step(area) = record else {
+        return record;
+    };
+    if has_area(machine, area) {
+        return record;
     }
+    Record::Bad
 }
 
 // ---- a record behind the others
@@ -147,6 +128,19 @@ fn size_of(call: Record) -> u8
     }
 }
 
+// Its bytes, with zeros behind them up to four.
+fn bytes_of(call: Record) -> [u8; 4]
+    ensures { λ r. ⌜ take (size call) r ≡ recordBytes call ⌝ }
+{
+    match call {
+        Record::Write(port, value) => [b'P', b'W', port, value],
+        Record::Read(port) => [b'P', b'R', port, 0],
+        Record::Step(area) => [b'L', b'S', area_number(area), 0],
+        Record::Bad => [0; 4],
+        Record::End => [0; 4],
+    }
+}
+
 // The bytes of src into out at `at`, and the place behind them.
 pub fn put_all(out: &mut [u8], at: usize, src: &[u8]) -> usize
     requires { ⌜ at + length (now src) ≤ length (now out) ⌝ }
@@ -159,26 +153,6 @@ pub fn put_all(out: &mut [u8], at: usize, src: &[u8]) -> usize
         i += 1;
     }
     at + i
-}
-
-// The bytes of a record into the recording at `used`.
-fn store(recording: &mut [u8], used: usize, call: Record)
-    requires { ⌜ used + size call ≤ length (now recording) ⌝ }
-    ensures { λ _. ⌜ now (recording .exit) ≡ written (now (recording .entry)) used (recordBytes call) ⌝ }
-{
-    match call {
-        Record::Write(port, value) => {
-            put_all(recording, used, &[b'P', b'W', port, value]);
-        }
-        Record::Read(port) => {
-            put_all(recording, used, &[b'P', b'R', port]);
-        }
-        Record::Step(area) => {
-            put_all(recording, used, &[b'L', b'S', area_number(area)]);
-        }
-        Record::Bad => {}
-        Record::End => {}
-    }
 }
 
 // Whether so many bytes have room from offset `used` on in a recording of this length.
@@ -203,7 +177,8 @@ pub fn put_record(recording: &mut [u8], used: usize, call: Record) -> Recorded
             count: 0,
         };
     }
-    store(recording, used, call);
+    let bytes = bytes_of(call);
+    put_all(recording, used, &bytes[..count as usize]);
     Recorded {
         refusal: Refusal::Accepted,
         count: count,

@@ -22,26 +22,32 @@ add-t11 c = omega arith
 shared-slice-read-t13 : tie.Need-shared-slice-read-t13
 shared-slice-read-t13 c = omega arith
 
-step-for-requires : tie.Need-step-for-requires
-step-for-requires c κs = search needs
-
 returns-2 : tie.Need-returns-2
 unfolding marked
-returns-2 c =
-    let at-if1 = c .before in
-    rw (at-if1 .before .match .keys1, le-ltb _ _ (at-if1 .if1 .left))
+returns-2 c = rw (c .before .match .keys3, lt-ltb _ _ (c .if2 .taken))
+
+area-from-requires : tie.Need-area-from-requires
+area-from-requires c κs = search needs
 
 returns-3 : tie.Need-returns-3
 unfolding marked
-returns-3 c = rw (c .match .keys2)
+returns-3 c =
+    let at-match = c .before .before in
+    rw (at-match .match .keys1, le-ltb _ _ (c .before .if1 .left))
 
 returns-4 : tie.Need-returns-4
 unfolding marked
-returns-4 c = rw (c .before .match .keys3) (c .step-for .ensures)
+returns-4 c = rw (c .match .keys2)
 
 returns-5 : tie.Need-returns-5
 unfolding marked
-returns-5 c = rw (ne-eqb _ _ (c .match .rest .0 .0 .1), ne-eqb _ _ (c .match .rest .0 .1), ne-eqb _ _ (c .match .rest .1))
+returns-5 c =
+    let at-match = c .before .before in
+    rw (at-match .match .keys3, le-ltb _ _ (c .before .if2 .left), c .area-from .ensures)
+
+returns-6 : tie.Need-returns-6
+unfolding marked
+returns-6 c = rw (ne-eqb _ _ (c .match .rest .0 .0 .1), ne-eqb _ _ (c .match .rest .0 .1), ne-eqb _ _ (c .match .rest .1))
 
 pub record-marked-spec : {M : Type 1} → statement M
 record-marked-spec =
@@ -52,8 +58,9 @@ record-marked-spec =
     returns
     add-t11
     shared-slice-read-t13
-    step-for-requires
     returns-2
+    area-from-requires
     returns-3
     returns-4
-    returns-5)
+    returns-5
+    returns-6)
