@@ -104,23 +104,16 @@ fn file(name: &[u8], path: &[u8], buf: &mut [u8]) -> Taken
     taken
 }
 
-// The help text is what was asked for: there is no input then.
-fn helped(name: &[u8], help: &[u8]) -> Taken
-    ensures { λ r. ⌜ r .len ≡ 0 ⌝ }
-{
-    output(name, help);
-    Taken {
-        ready: false,
-        len: 0,
-    }
-}
-
 // By what the argument says.
 fn by_word(name: &[u8], help: &[u8], word: &[u8], buf: &mut [u8]) -> Taken
     ensures { λ r. ⌜ Counts (r .len) (now (buf .exit)) ⌝ }
 {
     if same(word, b"--help") {
-        return helped(name, help);
+        output(name, help);
+        return Taken {
+            ready: false,
+            len: 0,
+        };
     }
     if same(word, b"-") {
         return standard_input(name, buf);
