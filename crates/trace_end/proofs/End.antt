@@ -2,12 +2,12 @@
 -- Assumes nothing.
 use mathlib.Core.Path.{_≡_, refl, sym, ap, _∙_}
 use mathlib.Core.List.{List, [], _∷_}
-use Prim.Native.Nat.{ℕ, zero, suc, _+_, _*_, _<_, _≤_}
+use Prim.Native.Nat.{ℕ, zero, suc, _+_, _-_, _*_, _<_, _≤_}
 use native.Mathlib.Numerals.{add-one}
 use native.Mathlib.Omega.{arith}
 use borrow.Author.Tests.{le-leb, lt-leb}
 use lib.Dec.{leb}
-use lib.ListN.{length, length-append}
+use lib.ListN.{length, take, drop, length-append}
 use Rattle.laws.specs.Lists.{at, written}
 use Rattle.picture.specs.declared.Screen.{Screen}
 use Rattle.picture.specs.declared.Screen.the-variants.{VisibleOnly, EffectiveArea, TrueEdges, Home}
@@ -16,6 +16,7 @@ use Rattle.trace_text.specs.Text.{decimal, numbered, endLine, badLine}
 use Rattle.trace_end.specs.End.{lastLine, pixels, pixelCount, header, ppm, pictureRoom, drawn}
 use Rattle.laws.proofs.Lists.{written-nil, written-on}
 use Rattle.laws.proofs.Tests.{either}
+use Rattle.trace_record.proofs.Promises.{cut-3}
 use Rattle.trace_text.proofs.Lines.{decimal-short}
 
 -- ---- the last line
@@ -51,32 +52,7 @@ unfolding pixels
 length-pixels zero frame = refl
 length-pixels (suc n) frame = simp length-append (omega (arith, length-pixels n frame))
 
--- the sizes of each screen's picture
-pub header-visible :
-    {d : Screen} → d ≡ VisibleOnly
-    → 0x50 ∷ 0x36 ∷ 0x0A ∷ 0x31 ∷ 0x36 ∷ 0x30 ∷ 0x20 ∷ 0x31 ∷ 0x34 ∷ 0x34 ∷ 0x0A ∷ 0x32 ∷ 0x35 ∷ 0x35 ∷ 0x0A ∷ [] ≡ header d
-unfolding header decimal
-header-visible e = rw e
-
-pub header-effective :
-    {d : Screen} → d ≡ EffectiveArea
-    → 0x50 ∷ 0x36 ∷ 0x0A ∷ 0x32 ∷ 0x35 ∷ 0x36 ∷ 0x20 ∷ 0x32 ∷ 0x32 ∷ 0x34 ∷ 0x0A ∷ 0x32 ∷ 0x35 ∷ 0x35 ∷ 0x0A ∷ [] ≡ header d
-unfolding header decimal
-header-effective e = rw e
-
-pub header-edges :
-    {d : Screen} → d ≡ TrueEdges
-    → 0x50 ∷ 0x36 ∷ 0x0A ∷ 0x31 ∷ 0x36 ∷ 0x30 ∷ 0x20 ∷ 0x31 ∷ 0x34 ∷ 0x34 ∷ 0x0A ∷ 0x32 ∷ 0x35 ∷ 0x35 ∷ 0x0A ∷ [] ≡ header d
-unfolding header decimal
-header-edges e = rw e
-
-pub header-home :
-    {d : Screen} → d ≡ Home
-    → 0x50 ∷ 0x36 ∷ 0x0A ∷ 0x32 ∷ 0x35 ∷ 0x36 ∷ 0x20 ∷ 0x31 ∷ 0x39 ∷ 0x32 ∷ 0x0A ∷ 0x32 ∷ 0x35 ∷ 0x35 ∷ 0x0A ∷ [] ≡ header d
-unfolding header decimal
-header-home e = rw e
-
-length-header : (d : Screen) → length (header d) ≡ 15
+pub length-header : (d : Screen) → length (header d) ≡ 15
 unfolding header decimal
 length-header VisibleOnly = refl
 length-header EffectiveArea = refl
@@ -113,14 +89,20 @@ pub no-pixel : (o frame : List ℕ) → o ≡ written o 15 (pixels 0 frame)
 unfolding pixels
 no-pixel o frame = sym (written-nil o 15)
 
+three : (f : List ℕ) (k : ℕ) → k + 3 ≤ length f → take (k + 3 - k) (drop k f) ≡ at f k ∷ at f (k + 1) ∷ at f (k + 2) ∷ []
+three f k h =
+    let e : k + 3 - k ≡ 3 = omega arith in
+    rw (e, cut-3 f k (omega arith))
+
 pub pixel-more :
-    (o frame : List ℕ) (n : ℕ) {a : ℕ} {o′ o″ : List ℕ} → 3 * n + 15 ≤ length o → a ≡ 15 + 3 * n → o′ ≡ written o 15 (pixels n frame)
-    → o″ ≡ written o′ a (at frame (4 * n) ∷ at frame (4 * n + 1) ∷ at frame (4 * n + 2) ∷ []) → o″ ≡ written o 15 (pixels (n + 1) frame)
+    (o frame : List ℕ) (n : ℕ) {a : ℕ} {o′ o″ : List ℕ} → 3 * n + 15 ≤ length o → 4 * n + 3 ≤ length frame → a ≡ 15 + 3 * n
+    → o′ ≡ written o 15 (pixels n frame) → o″ ≡ written o′ a (take (4 * n + 3 - 4 * n) (drop (4 * n) frame)) → o″ ≡ written o 15 (pixels (n + 1) frame)
 unfolding pixels
-pixel-more o frame n {a} h ea eo p =
+pixel-more o frame n {a} {o′} h f ea eo p =
     let px : List ℕ = at frame (4 * n) ∷ at frame (4 * n + 1) ∷ at frame (4 * n + 2) ∷ [] in
     let b : a ≡ 15 + length (pixels n frame) = omega (arith, length-pixels n frame) in
     p
+    ∙ ap (written o′ a) (three frame (4 * n) f)
     ∙ ap (λ (y : List ℕ). written y a px) eo
     ∙ written-on o 15 (pixels n frame) px b (omega arith)
     ∙ ap (λ (k : ℕ). written o 15 (pixels k frame)) (sym (add-one n))

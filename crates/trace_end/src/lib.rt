@@ -33,16 +33,14 @@ pub fn pixel_count(screen: Screen) -> usize
 }
 
 // The header of a binary PPM.
-fn put_header(out: &mut [u8], screen: Screen) -> usize
-    requires { ⌜ 15 ≤ length (now out) ⌝ }
-    ensures { λ r. ⌜ r ≡ 15 ⌝ }
-    ensures { λ _. ⌜ now (out .exit) ≡ written (now (out .entry)) 0 (header screen) ⌝ }
+fn header_of(screen: Screen) -> [u8; 15]
+    ensures { λ r. ⌜ r ≡ header screen ⌝ }
 {
     match screen {
-        Screen::VisibleOnly => put_all(out, 0, b"P6\n160 144\n255\n"),
-        Screen::EffectiveArea => put_all(out, 0, b"P6\n256 224\n255\n"),
-        Screen::TrueEdges => put_all(out, 0, b"P6\n160 144\n255\n"),
-        Screen::Home => put_all(out, 0, b"P6\n256 192\n255\n"),
+        Screen::VisibleOnly => *b"P6\n160 144\n255\n",
+        Screen::EffectiveArea => *b"P6\n256 224\n255\n",
+        Screen::TrueEdges => *b"P6\n160 144\n255\n",
+        Screen::Home => *b"P6\n256 192\n255\n",
     }
 }
 
@@ -53,11 +51,13 @@ fn put_ppm(out: &mut [u8], screen: Screen, frame: &[u8]) -> usize
     ensures { λ _. ⌜ now (out .exit) ≡ written (now (out .entry)) 0 (ppm screen (now (frame .entry))) ⌝ }
 {
     let count = pixel_count(screen);
-    let mut at = put_header(out, screen);
+    let header = header_of(screen);
+    let mut at = put_all(out, 0, &header);
     let mut i = 0;
     while i < count {
         let k = 4 * i;
-        at = put_all(out, at, &[frame[k], frame[k + 1], frame[k + 2]]);
+        let end = k + 3;
+        at = put_all(out, at, &frame[k..end]);
         i += 1;
     }
     at

@@ -145,7 +145,7 @@ cut s k h =
     let e : suc k ≡ k + 1 = omega arith in
     drop-cons s k 0 h ∙ ap (λ (n : ℕ). at s k ∷ drop n s) e
 
-cut-3 : (s : List ℕ) (k : ℕ) → 3 ≤ length s - k → drop k s ≡ at s k ∷ at s (k + 1) ∷ at s (k + 2) ∷ drop (k + 3) s
+pub cut-3 : (s : List ℕ) (k : ℕ) → 3 ≤ length s - k → drop k s ≡ at s k ∷ at s (k + 1) ∷ at s (k + 2) ∷ drop (k + 3) s
 cut-3 s k h =
     let e : k + 1 + 1 ≡ k + 2 = omega arith in
     let f : k + 2 + 1 ≡ k + 3 = omega arith in
