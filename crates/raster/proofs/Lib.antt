@@ -1,2 +1,3 @@
--- What is shown of the tables.
+-- What is shown of the tables and the counter.
 pub mod Tables
+pub mod Counter

@@ -91,16 +91,14 @@ impl Raster {
                 table: table,
             };
         }
-        if v_counter == jump_line(table) {
-            if !self.v_counter_jumped {
-                return Raster {
-                    v_counter: 0xD5,
-                    v_counter_jumped: true,
-                    line_interrupt_counter: self.line_interrupt_counter,
-                    vertical_scroll: self.vertical_scroll,
-                    table: table,
-                };
-            }
+        if (v_counter == jump_line(table)) & !self.v_counter_jumped {
+            return Raster {
+                v_counter: 0xD5,
+                v_counter_jumped: true,
+                line_interrupt_counter: self.line_interrupt_counter,
+                vertical_scroll: self.vertical_scroll,
+                table: table,
+            };
         }
         Raster {
             v_counter: v_counter,
@@ -123,11 +121,7 @@ impl Raster {
         ensures { λ r. ⌜ r ≡ counted (at reg) self ⌝ }
     {
         let mut raster = self;
-        if 192 < self.v_counter {
-            raster.line_interrupt_counter = reg[10];
-            return raster;
-        }
-        if self.line_interrupt_counter == 0 {
+        if (192 < self.v_counter) | (self.line_interrupt_counter == 0) {
             raster.line_interrupt_counter = reg[10];
             return raster;
         }
