@@ -1,39 +1,69 @@
--- The view of a frame's row.
+-- The view of a frame's row, and the bytes of a frame and of a row as the code counts them.
 -- Assumes nothing.
-use mathlib.Core.Path.{_≡_}
-use mathlib.Core.Logic.{_≢_}
+use mathlib.Core.Path.{_≡_, sym, _∙_}
+use mathlib.Core.Bool.{true, false, not, _||_}
 use mathlib.Core.List.{List, []}
-use Prim.Native.Nat.{ℕ, _+_, _-_, _*_, _<_, _≤_}
+use Prim.Native.Nat.{ℕ, _+_, _-_, _*_, _/_, _<_, _≤_}
 use native.Mathlib.Nat.{mul-comm}
 use native.Mathlib.Omega.{arith}
-use borrow.Author.Tests.{lt-ltb, le-ltb, ltb-false}
-use lib.Dec.{ltb}
+use borrow.Author.Tests.{not-false, leb-true, leb-false, eqb-true, eqb-false, lt-ltb, le-ltb, ltb-false}
+use lib.Dec.{leb, ltb, eqb}
 use lib.ListN.{length, take, drop}
 use Rattle.laws.specs.Lists.{rowOf}
-use Rattle.laws.proofs.Tests.{split}
+use Rattle.laws.proofs.Tests.{split, clash, neither}
 use Rattle.picture.specs.declared.Screen.{Screen}
-use Rattle.picture.specs.Screen.{rows, rowSize, frameSize}
+use Rattle.picture.specs.declared.Screen.the-variants.{VisibleOnly, EffectiveArea, TrueEdges, Home}
+use Rattle.picture.specs.Screen.{columns, rows, rowSize, frameSize}
 use Rattle.points.specs.View.{screenRow}
+use Rattle.points.proofs.Rows.{row-end, frame-small, frame-rows}
 
-module _ (f : List ℕ) (a : Screen) (y : ℕ) {n : ℕ} (en : n ≡ rows a) where
-  pub no-row : n ≤ y → [] ≡ screenRow f a y
-  unfolding screenRow
-  no-row h = rw (le-ltb y (rows a) (omega arith))
+-- a row has four bytes for each column
+pub quarter : (a : Screen) {w : ℕ} → w ≡ rowSize a → w / 4 ≡ columns a
+quarter VisibleOnly e = omega arith
+quarter EffectiveArea e = omega arith
+quarter TrueEdges e = omega arith
+quarter Home e = omega arith
 
-  module _ {m : ℕ} (h : y < n) (em : m ≡ frameSize a) where
-    pub no-frame : length f ≢ m → [] ≡ screenRow f a y
+module _ (a : Screen) {n w : ℕ} (en : n ≡ rows a) (ew : w ≡ rowSize a) where
+  -- and a frame its rows
+  pub frame-is : n * w ≡ frameSize a
+  frame-is = rw (en, ew) (mul-comm (rows a) (rowSize a) ∙ sym (frame-rows a))
+
+  pub frame-low : n * w ≤ 229376
+  frame-low = omega (arith, frame-is, frame-small a)
+
+  module _ (f : List ℕ) (y : ℕ) where
+    pub none : (leb n y || not (eqb (length f) (n * w))) ≡ true → [] ≡ screenRow f a y
     unfolding screenRow
-    no-frame k =
-        split (ltb (length f) (frameSize a))
-        (λ t. rw (lt-ltb y (rows a) (omega arith), t))
-        (λ t.
-        let long : frameSize a < length f = omega (arith, ltb-false (length f) (frameSize a) t) in
-        rw (lt-ltb y (rows a) (omega arith), t, lt-ltb (frameSize a) (length f) long))
+    none t =
+        split (leb n y) (λ u. rw (le-ltb y (rows a) (omega (arith, leb-true n y u))))
+        (λ u.
+        let h = lt-ltb y (rows a) (omega (arith, leb-false n y u)) in
+        split (eqb (length f) (n * w)) (λ k. clash (sym (rw (u, k) at t)))
+        (λ k.
+        split (ltb (length f) (frameSize a)) (λ l. rw (h, l))
+        (λ l.
+        let long : frameSize a < length f = omega (arith, frame-is, eqb-false (length f) (n * w) k, ltb-false (length f) (frameSize a) l) in
+        rw (h, l, lt-ltb (frameSize a) (length f) long))))
 
-    pub seen : {w : ℕ} → w ≡ rowSize a → length f ≡ m → take (y * w + w - y * w) (drop (y * w) f) ≡ screenRow f a y
-    unfolding screenRow rowOf
-    seen {w} ew k =
-        let z : y * rowSize a + rowSize a - y * rowSize a ≡ rowSize a = omega arith in
-        let low : frameSize a ≤ length f = omega arith in
-        let high : length f ≤ frameSize a = omega arith in
-        rw (ew, lt-ltb y (rows a) (omega arith), le-ltb (length f) (frameSize a) low, le-ltb (frameSize a) (length f) high, z, mul-comm (rowSize a) y)
+    module _ (t : (leb n y || not (eqb (length f) (n * w))) ≡ false) where
+      row-here : y < rows a
+      row-here = omega (arith, leb-false n y (neither (leb n y) (not (eqb (length f) (n * w))) t .0))
+
+      all-here : length f ≡ frameSize a
+      all-here =
+          eqb-true (length f) (n * w) (not-false (eqb (length f) (n * w)) (neither (leb n y) (not (eqb (length f) (n * w))) t .1)) ∙ frame-is
+
+      pub end-here : y * w + w ≤ length f
+      end-here = rw ew (omega (arith, row-end a y row-here, all-here))
+
+      pub end-low : y * w + w ≤ 229376
+      end-low = omega (arith, end-here, all-here, frame-small a)
+
+      pub seen : take (y * w + w - y * w) (drop (y * w) f) ≡ screenRow f a y
+      unfolding screenRow rowOf
+      seen =
+          let z : y * rowSize a + rowSize a - y * rowSize a ≡ rowSize a = omega arith in
+          let low : frameSize a ≤ length f = omega (arith, all-here) in
+          let high : length f ≤ frameSize a = omega (arith, all-here) in
+          rw (ew, lt-ltb y (rows a) row-here, le-ltb (length f) (frameSize a) low, le-ltb (frameSize a) (length f) high, z, mul-comm (rowSize a) y)

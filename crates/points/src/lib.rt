@@ -1,11 +1,10 @@
 // The five points of a step but for the drawing of its row: what the coming step is to do, its row or its refusal; the screen's end, the interrupt, the line count; and the view of a frame's row.
 ghost use mathlib.Core.Path.{_≡_};
-ghost use mathlib.Core.Bool.{cond};
+ghost use mathlib.Core.Bool.{cond, _&&_};
 ghost use mathlib.Core.List.{List};
-ghost use Prim.Native.Nat.{ℕ, _<_};
-ghost use lib.Dec.{ltb};
-ghost use Rattle.picture.specs.declared.Screen.the-variants.{VisibleOnly};
-ghost use Rattle.picture.specs.Screen.{columns, rows, rowSize, frameSize};
+ghost use Prim.Native.Nat.{ℕ, _-_, _<_};
+ghost use lib.Dec.{leb, ltb};
+ghost use Rattle.picture.specs.Screen.{columns, rows, rowSize};
 ghost use Rattle.refusal.specs.Refusals.{Line};
 ghost use Rattle.points.specs.declared.DrawnRow.the-variants.{NoRow, Drawn};
 ghost use Rattle.points.specs.Points.{interruptNumber, reportNumber, rowOn, endedBy, reportBy, interruptBy, rowLines, frameLines};
@@ -79,37 +78,27 @@ pub struct Points {
     pub raster: Raster,
 }
 
-// R4.2, R20.1: the row that a line draws, on a screen of the visible size and on each screen.
-fn visible_row(line: u8) -> DrawnRow
-    ensures { λ r. ⌜ r ≡ rowOn VisibleOnly line ⌝ }
+// R4.2: the row that a line draws, on a screen whose rows are on the lines from `first` up to `end`, and on each screen (R20.1).
+fn row_between(line: u8, first: u8, end: u8) -> DrawnRow
+    ensures { λ r. ⌜ r ≡ cond (leb first line && ltb line end) (Drawn (line - first)) NoRow ⌝ }
 {
-    if line < GG_VISIBLE_AREA_START_Y {
+    if line < first {
         return DrawnRow::NoRow;
     }
-    if GG_VISIBLE_AREA_END_Y <= line {
+    if end <= line {
         return DrawnRow::NoRow;
     }
-    DrawnRow::Drawn(line - GG_VISIBLE_AREA_START_Y)
-}
-
-// The same on a screen of so many rows whose row 0 is on line 0.
-fn top_row(line: u8, rows: u8) -> DrawnRow
-    ensures { λ r. ⌜ r ≡ cond (ltb line rows) (Drawn line) NoRow ⌝ }
-{
-    if rows <= line {
-        return DrawnRow::NoRow;
-    }
-    DrawnRow::Drawn(line)
+    DrawnRow::Drawn(line - first)
 }
 
 fn row_on(screen: Screen, line: u8) -> DrawnRow
     ensures { λ r. ⌜ r ≡ rowOn screen line ⌝ }
 {
     match screen {
-        Screen::VisibleOnly => visible_row(line),
-        Screen::EffectiveArea => top_row(line, SCROLL_PIXEL_HEIGHT),
-        Screen::TrueEdges => visible_row(line),
-        Screen::Home => top_row(line, HOME_PIXEL_HEIGHT),
+        Screen::VisibleOnly => row_between(line, GG_VISIBLE_AREA_START_Y, GG_VISIBLE_AREA_END_Y),
+        Screen::EffectiveArea => row_between(line, 0, SCROLL_PIXEL_HEIGHT),
+        Screen::TrueEdges => row_between(line, GG_VISIBLE_AREA_START_Y, GG_VISIBLE_AREA_END_Y),
+        Screen::Home => row_between(line, 0, HOME_PIXEL_HEIGHT),
     }
 }
 
@@ -147,18 +136,7 @@ fn interrupt_of(reg: [u8; 11], status: u8, raster: Raster) -> VdpInt
     VdpInt::NoInterrupt
 }
 
-// How many columns a row has and how many rows a frame, and the bytes of a row and of a frame.
-fn column_count(screen: Screen) -> usize
-    ensures { λ r. ⌜ r ≡ columns screen ⌝ }
-{
-    match screen {
-        Screen::VisibleOnly => picture::GG_VISIBLE_PIXEL_WIDTH,
-        Screen::EffectiveArea => picture::SCROLL_PIXEL_WIDTH,
-        Screen::TrueEdges => picture::GG_VISIBLE_PIXEL_WIDTH,
-        Screen::Home => picture::HOME_PIXEL_WIDTH,
-    }
-}
-
+// How many rows a frame has, and the bytes of a row; of them each column has four.
 fn row_count(screen: Screen) -> usize
     ensures { λ r. ⌜ r ≡ rows screen ⌝ }
 {
@@ -178,17 +156,6 @@ pub fn row_size(screen: Screen) -> usize
         Screen::EffectiveArea => picture::SCROLL_ROW_SIZE,
         Screen::TrueEdges => picture::GG_VISIBLE_ROW_SIZE,
         Screen::Home => picture::HOME_ROW_SIZE,
-    }
-}
-
-fn frame_size(screen: Screen) -> usize
-    ensures { λ r. ⌜ r ≡ frameSize screen ⌝ }
-{
-    match screen {
-        Screen::VisibleOnly => picture::GG_VISIBLE_FRAME_SIZE,
-        Screen::EffectiveArea => picture::SCROLL_FRAME_SIZE,
-        Screen::TrueEdges => picture::GG_VISIBLE_FRAME_SIZE,
-        Screen::Home => picture::HOME_FRAME_SIZE,
     }
 }
 
@@ -246,7 +213,7 @@ pub fn frame_due(reg: [u8; 11], raster: Raster, vram: &[u8], size: usize, screen
     if vram.len() != VRAM_SIZE {
         return refused(Refusal::VramLength, raster);
     }
-    let need = frame_size(screen);
+    let need = row_count(screen) * row_size(screen);
     if size < need {
         return refused(Refusal::PixelLength, raster);
     }
@@ -264,8 +231,7 @@ pub fn layer_due(due: Due, raster: Raster, size: usize, screen: Screen) -> Due
     if !due.good {
         return due;
     }
-    let least = column_count(screen);
-    if size < least {
+    if size < row_size(screen) / 4 {
         return refused(Refusal::LayerLength, raster);
     }
     due
@@ -304,13 +270,11 @@ pub fn finish(due: Due, reg: [u8; 11], status: u8, bits: u8) -> Points
 pub fn screen_row<'a>(frame: &'a [u8], screen: Screen, row: usize) -> &'a [u8]
     ensures { λ r. ⌜ now r ≡ screenRow (now (frame .entry)) screen row ⌝ }
 {
-    if row_count(screen) <= row {
-        return &frame[0..0];
-    }
-    if frame.len() != frame_size(screen) {
-        return &frame[0..0];
-    }
+    let rows = row_count(screen);
     let size = row_size(screen);
+    if (rows <= row) | (frame.len() != rows * size) {
+        return &frame[0..0];
+    }
     let start = row * size;
     let end = start + size;
     &frame[start..end]

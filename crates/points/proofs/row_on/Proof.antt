@@ -1,67 +1,61 @@
 -- `points::row_on` meets its contract: the row that a line draws on each screen.
 use borrow.Author.Needs.{needs}
-use borrow.Author.Tests.{le-leb}
-use native.Mathlib.Omega.{arith}
-use native.Mathlib.Nat.{sub-zero}
 use Rattle.points.specs.Points.{rowOn}
 use Rattle.points.proofs.row_on.Statement.{statement}
 use Rattle.points.proofs.row_on.Tie as tie
 
 enum-told : tie.Need-enum-told
-enum-told c = search needs
+enum-told c = c .match .keys1
 
-visible-row-requires : tie.Need-visible-row-requires
-visible-row-requires c κs = search needs
+row-between-requires : tie.Need-row-between-requires
+row-between-requires c κs = search needs
 
 enum-told-2 : tie.Need-enum-told-2
-enum-told-2 c = search needs
+enum-told-2 c = c .match .keys2
 
-top-row-requires : tie.Need-top-row-requires
-top-row-requires c κs = search needs
+row-between-requires-2 : tie.Need-row-between-requires-2
+row-between-requires-2 c κs = search needs
 
 enum-told-3 : tie.Need-enum-told-3
-enum-told-3 c = search needs
+enum-told-3 c = c .match .keys3
 
-visible-row-requires-2 : tie.Need-visible-row-requires-2
-visible-row-requires-2 c κs = search needs
+row-between-requires-3 : tie.Need-row-between-requires-3
+row-between-requires-3 c κs = search needs
 
 enum-told-4 : tie.Need-enum-told-4
-enum-told-4 c = search needs
+enum-told-4 c = c .match .keys4
 
-top-row-requires-2 : tie.Need-top-row-requires-2
-top-row-requires-2 c κs = search needs
+row-between-requires-4 : tie.Need-row-between-requires-4
+row-between-requires-4 c κs = search needs
 
 returns : tie.Need-returns
-returns c = rw (c .before .enum-told .given .1) (c .visible-row .ensures)
+unfolding rowOn
+returns c = rw (c .before .enum-told .given .1) (c .row-between .ensures)
 
 returns-2 : tie.Need-returns-2
 unfolding rowOn
-returns-2 c =
-    let at-start = c .before .before .before in
-    rw (c .before .enum-told2 .given .1, le-leb 0 (at-start .args .line) (omega arith), sub-zero) (c .top-row .ensures)
+returns-2 c = rw (c .before .enum-told2 .given .1) (c .row-between2 .ensures)
 
 returns-3 : tie.Need-returns-3
 unfolding rowOn
-returns-3 c = rw (c .before .enum-told3 .given .1) (c .visible-row2 .ensures)
+returns-3 c = rw (c .before .enum-told3 .given .1) (c .row-between3 .ensures)
 
 returns-4 : tie.Need-returns-4
 unfolding rowOn
-returns-4 c =
-    let at-start = c .before .before .before in
-    rw (c .before .enum-told4 .given .1, le-leb 0 (at-start .args .line) (omega arith), sub-zero) (c .top-row2 .ensures)
+returns-4 c = rw (c .before .enum-told4 .given .1) (c .row-between4 .ensures)
 
 pub row-on-spec : {M : Type 1} → statement M
 row-on-spec =
     tie.close
     (tie.spec
     enum-told
-    visible-row-requires
+    row-between-requires
     enum-told-2
-    top-row-requires
+    row-between-requires-2
     enum-told-3
-    visible-row-requires-2
+    row-between-requires-3
     enum-told-4
-    top-row-requires-2
+    row-between-requires-4
     returns
     returns-2
     returns-3
