@@ -4,7 +4,7 @@ ghost use mathlib.Core.Path.{_≡_};
 ghost use Prim.Native.Nat.{_+_, _≤_, _<_};
 ghost use lib.ListN.{length, set};
 ghost use Rattle.laws.specs.Lists.{at};
-ghost use Rattle.fields.specs.Fields.{flagOf, chosenOf, chosenFrom, latchFlag, latchByte, latchFrom};
+ghost use Rattle.fields.specs.Fields.{flagOf, chosenOf, chosenFrom, latchFrom};
 ghost use Rattle.fields.specs.Stored.{frontEnd, addressIn, latchStored, addressStored, colourStored};
 use front::Latch;
 use front::WriteDest;
@@ -67,24 +67,6 @@ pub fn chosen_from(n: u8) -> WriteDest
     }
 }
 
-fn latch_flag(l: Latch) -> u8
-    ensures { λ r. ⌜ r ≡ latchFlag l ⌝ }
-{
-    match l {
-        Latch::Empty => 0,
-        Latch::Held(_) => 1,
-    }
-}
-
-fn latch_byte(l: Latch) -> u8
-    ensures { λ r. ⌜ r ≡ latchByte l ⌝ }
-{
-    match l {
-        Latch::Empty => 0,
-        Latch::Held(b) => b,
-    }
-}
-
 // ---- what stands in a block, read
 
 // The latch whose flag stands at this place, and its byte behind it.
@@ -123,9 +105,10 @@ pub fn store_latch(block: &mut [u8], place: usize, latch: Latch)
     requires { ⌜ place + 2 ≤ length (now block) ⌝ }
     ensures { λ _. ⌜ now (block .exit) ≡ latchStored place latch (now (block .entry)) ⌝ }
 {
-    let flag = latch_flag(latch);
-    let byte = latch_byte(latch);
-    store_two(block, place, flag, byte);
+    match latch {
+        Latch::Empty => store_two(block, place, 0, 0),
+        Latch::Held(byte) => store_two(block, place, 1, byte),
+    }
 }
 
 // An address, low byte first.
