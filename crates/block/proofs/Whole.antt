@@ -1,12 +1,12 @@
 -- The block as its parts are stored one after the other, and the device as its fields are read.
 -- Assumes nothing.
 use mathlib.Core.Path.{_≡_, refl, sym}
-use mathlib.Core.Bool.{true, false}
+use mathlib.Core.Bool.{Bool, true, false, _&&_}
 use mathlib.Core.List.{List, [], _∷_}
 use Prim.Native.Nat.{ℕ, _+_, _≤_, _<_}
 use native.Mathlib.Omega.{arith}
 use borrow.Author.Tests.{eqb-true, eqb-false, eq-eqb, ne-eqb}
-use lib.Dec.{eqb}
+use lib.Dec.{eqb, leb}
 use lib.ListN.{length, List·getD-eq-default}
 use Rattle.laws.specs.Lists.{at}
 use Rattle.laws.proofs.Tests.{both, split}
@@ -14,7 +14,9 @@ use Rattle.raster.specs.declared.LineTable.{LineTable}
 use Rattle.raster.specs.declared.LineTable.the-variants.{Steps261, Steps262}
 use Rattle.raster.specs.Raster.{lineTableNumber, lineTableFrom}
 use Rattle.vdp.specs.declared.VdpState.{VdpState}
-use Rattle.block.specs.Block.{sized, fits, head, small, last, stateOf, wellFormed}
+use Rattle.fields.specs.Fields.{latchFits}
+use Rattle.block_parts.specs.Parts.{fieldsFit}
+use Rattle.block.specs.Block.{sized, markOf, fits, head, small, last, stateOf, wellFormed}
 
 pub length-head : (n : ℕ) (s : VdpState) → length (head n s) ≡ 3
 unfolding head
@@ -67,6 +69,16 @@ too-long n h = rw (ne-eqb n 219 (λ e. omega arith), ne-eqb n 220 (λ e. omega a
 pub fits-sized : (t : LineTable) (n : ℕ) → fits t n ≡ true → sized n ≡ true
 fits-sized Steps261 n h = h
 fits-sized Steps262 n h = rw (eqb-true n 220 h)
+
+-- whether it is well formed, as the code asks
+pub not-formed : (b : List ℕ) → sized (length b) ≡ false → false ≡ wellFormed b
+unfolding wellFormed
+not-formed b e = rw e
+
+pub formed : (b : List ℕ) {m t : ℕ} {f : Bool} → sized (length b) ≡ true → m ≡ markOf (length b) → t ≡ at b 219 → f ≡ fieldsFit b
+    → ((eqb (at b 0) 0x56 && eqb (at b 1) m) && f && (leb (at b 23) 1 && leb (at b 26) 1 && leb t 1) && latchFits (at b 23) (at b 24)) ≡ wellFormed b
+unfolding wellFormed
+formed b e em et ef = rw (e, em, et, ef)
 
 pub length-of : (b : List ℕ) → wellFormed b ≡ true → sized (length b) ≡ true
 unfolding wellFormed

@@ -63,15 +63,17 @@ fn table_byte(block: &[u8]) -> u8
 pub fn well_formed(block: &[u8]) -> bool
     ensures { λ r. ⌜ r ≡ wellFormed (now (block .entry)) ⌝ }
 {
-    if block.len() < OLD_SIZE {
+    let len = block.len();
+    if len < OLD_SIZE {
         return false;
     }
-    if BLOCK_SIZE < block.len() {
+    if BLOCK_SIZE < len {
         return false;
     }
-    let marked = (block[MARK] == MARK_FIRST) & (block[MARK_SECOND] == mark_of(block.len()));
-    let flags = (block[PALETTE_LATCHED] <= 1) & (block[DIRTY] <= 1) & (table_byte(block) <= 1);
-    let palette = (block[PALETTE_LATCHED] != 0) | (block[PALETTE_BYTE] == 0);
+    let marked = (block[MARK] == MARK_FIRST) & (block[MARK_SECOND] == mark_of(len));
+    let latched = block[PALETTE_LATCHED];
+    let flags = (latched <= 1) & (block[DIRTY] <= 1) & (table_byte(block) <= 1);
+    let palette = (latched != 0) | (block[PALETTE_BYTE] == 0);
     marked & block_parts::fields_fit(block) & flags & palette
 }
 

@@ -1,13 +1,12 @@
 -- `block::has_room` meets its contract: whether a block of this length has room for a device of this table.
-use borrow.Author.Needs.{needs}
 use Rattle.block.proofs.has_room.Statement.{statement}
 use Rattle.block.proofs.has_room.Tie as tie
 
 enum-told : tie.Need-enum-told
-enum-told c = search needs
+enum-told c = c .match .keys1
 
 enum-told-2 : tie.Need-enum-told-2
-enum-told-2 c = search needs
+enum-told-2 c = c .match .keys2
 
 returns : tie.Need-returns
 returns c = rw (c .enum-told .given .1)
