@@ -24,7 +24,7 @@ shared-slice-read-t13 c = omega arith
 
 returns-2 : tie.Need-returns-2
 unfolding marked
-returns-2 c = rw (c .before .match .keys3, lt-ltb _ _ (c .if2 .taken))
+returns-2 c = rw (c .before .match .keys3, lt-ltb 2 _ (c .if2 .taken))
 
 area-from-requires : tie.Need-area-from-requires
 area-from-requires c κs = search needs
@@ -43,7 +43,7 @@ returns-5 : tie.Need-returns-5
 unfolding marked
 returns-5 c =
     let at-match = c .before .before in
-    rw (at-match .match .keys3, le-ltb _ _ (c .before .if2 .left), c .area-from .ensures)
+    rw (at-match .match .keys3, le-ltb 2 _ (c .before .if2 .left), c .area-from .ensures)
 
 returns-6 : tie.Need-returns-6
 unfolding marked
