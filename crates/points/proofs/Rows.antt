@@ -4,7 +4,7 @@ use mathlib.Core.Path.{_≡_, refl, sym, _∙_}
 use mathlib.Core.Bool.{Bool, true, false, cond, _&&_}
 use Prim.Native.Nat.{ℕ, _+_, _-_, _*_, _<_, _≤_}
 use native.Mathlib.Omega.{arith}
-use borrow.Author.Tests.{lt-ltb, le-ltb, le-leb, lt-leb, ltb-true, leb-true}
+use borrow.Author.Tests.{lt-ltb, le-leb, ltb-true, leb-true}
 use lib.Dec.{ltb, leb}
 use Rattle.laws.proofs.Tests.{both}
 use Rattle.picture.specs.declared.Screen.{Screen}
@@ -34,22 +34,10 @@ module _ (a : Screen) (l y : ℕ) (e : rowOn a l ≡ Drawn y) where
   unfolding rowOn
   row-line = told a l y (leb (firstLine a) l && ltb l (firstLine a + rows a)) refl e .1
 
--- each row below the area's number is drawn at its line, and no other line draws
+-- each row below the area's number is drawn at its line
 pub row-at : (a : Screen) (l : ℕ) → firstLine a ≤ l → l < firstLine a + rows a → rowOn a l ≡ Drawn (l - firstLine a)
 unfolding rowOn
 row-at a l low high = rw (le-leb (firstLine a) l low, lt-ltb l (firstLine a + rows a) high)
-
-pub none-before : (a : Screen) (l : ℕ) → l < firstLine a → rowOn a l ≡ NoRow
-unfolding rowOn
-none-before a l h = rw (lt-leb (firstLine a) l h)
-
-none-by : (t : Bool) (r : DrawnRow) → cond (t && false) r NoRow ≡ NoRow
-none-by true r = refl
-none-by false r = refl
-
-pub none-after : (a : Screen) (l : ℕ) → firstLine a + rows a ≤ l → rowOn a l ≡ NoRow
-unfolding rowOn
-none-after a l h = rw (le-ltb l (firstLine a + rows a) h) (none-by (leb (firstLine a) l) (Drawn (l - firstLine a)))
 
 pub row-in : (a : Screen) (l : ℕ) {r : DrawnRow} → r ≡ rowOn a l → RowIn a r
 row-in a l e = λ y q. row-low a l y (sym e ∙ q)
