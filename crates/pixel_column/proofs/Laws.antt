@@ -3,7 +3,7 @@
 use mathlib.Core.Path.{_≡_, refl, sym, ap, _∙_, subst}
 use mathlib.Core.Logic.{_⊎_, inl, inr, ⊎-elim}
 use mathlib.Core.List.{List}
-use mathlib.Core.Bool.{Bool, true, false, cond, _&&_, not}
+use mathlib.Core.Bool.{Bool, true, false, cond, _&&_, _||_, not}
 use Prim.Native.Nat.{ℕ, zero, suc, _+_, _-_, _%_, _<_, _≤_, min}
 use native.Mathlib.Decide.{decLt}
 use native.Mathlib.Nat.{zero-add, add-zero}
@@ -11,7 +11,7 @@ use native.Mathlib.Omega.{arith}
 use lib.Bits.{bitOr, or-zero-r}
 use lib.Dec.{ltb, leb}
 use lib.ListN.{take}
-use borrow.Author.Tests.{lt-ltb, le-ltb, le-leb, lt-leb, ltb-true, leb-true, ne-eqb}
+use borrow.Author.Tests.{lt-ltb, le-ltb, le-leb, lt-leb, ltb-true, ltb-false, leb-true, ne-eqb}
 use Rattle.laws.specs.Bits.{bit}
 use Rattle.laws.specs.Circle.{past}
 use Rattle.laws.specs.Lists.{at}
@@ -121,6 +121,33 @@ past-place i mark k h e = omega arith
 -- so far to the right of a sprite's mark none of the places to the left that are needed is one of its columns
 far-place : (i j mark c : ℕ) → mark < 256 → c ≤ 7 → j < 8 - c → 15 - c ≤ (i + 256 - mark) % 256 → 8 ≤ past (leftOf i j) mark
 far-place i j mark c ml cl l d = omega arith
+
+-- the sprite's column that stands j to the left of the column's place
+pub left-past : (col off j mark : ℕ) → j < 8 → mark < 512 → (col + off + 768 - j - mark) % 256 ≡ past (leftOf (col + off) j) mark
+left-past col off j mark h l = omega arith
+
+-- ---- two tests at once, as the code makes them: the sprite is not seen or stands to the right; the place is not marked or is taken
+pub not-here : (seen : Bool) (x col : ℕ) (rest : Bool) → (not seen || ltb col x) ≡ true → (seen && (leb x col && rest)) ≡ false
+not-here true x col rest h = rw (lt-leb x col (ltb-true col x h))
+not-here false x col rest h = refl
+
+pub here-left : (seen : Bool) (x col : ℕ) → (not seen || ltb col x) ≡ false → x ≤ col
+here-left true x col h = ltb-false col x h
+here-left false x col h = let z : _≡_ {A = ℕ} 0 1 = cc in absurd (omega arith)
+
+pub here : (seen : Bool) (x col : ℕ) (rest : Bool) → (not seen || ltb col x) ≡ false → (seen && (leb x col && rest)) ≡ rest
+here true x col rest h = rw (le-leb x col (ltb-false col x h))
+here false x col rest h = cc
+
+pub not-drawn : (marked taken : Bool) → (not marked || taken) ≡ true → (marked && not taken) ≡ false
+not-drawn true true h = refl
+not-drawn true false h = sym h
+not-drawn false taken h = refl
+
+pub is-drawn : (marked taken : Bool) → (not marked || taken) ≡ false → (marked && not taken) ≡ true
+is-drawn true true h = sym h
+is-drawn true false h = refl
+is-drawn false taken h = sym h
 
 -- ---- a test that counts only where another holds
 when : (t : Bool) {x y : Bool} → (t ≡ true → x ≡ y) → (t && x) ≡ (t && y)

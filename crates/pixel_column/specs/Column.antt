@@ -4,9 +4,9 @@ use mathlib.Core.Path.{_≡_}
 use mathlib.Core.Logic.{_⊎_, _≢_}
 use mathlib.Core.List.{List}
 use mathlib.Core.Bool.{Bool, true, cond, _&&_, not}
-use Prim.Native.Nat.{ℕ, _+_, _-_, _%_, _<_, _≤_, min}
+use Prim.Native.Nat.{ℕ, _+_, _-_, _*_, _%_, _<_, _≤_, min}
 use lib.Dec.{ltb, leb}
-use Rattle.laws.specs.Bits.{bit}
+use Rattle.laws.specs.Bits.{bit, digit}
 use Rattle.laws.specs.Circle.{past}
 use Rattle.laws.specs.Lists.{at}
 use Rattle.picture.specs.declared.Stand.{Stand}
@@ -17,6 +17,7 @@ use Rattle.picture.specs.Picture.{Canvas, solid}
 use Rattle.background.specs.Background.{Room, prioTo}
 use Rattle.pixel_column.specs.declared.Scene.{Scene}
 use Rattle.pixel_column.specs.declared.Column.{Column}
+use Rattle.pixel_column.specs.declared.Shift.{Shift}
 
 -- what is asked of a scene
 pub record Set (vram : List ℕ) (b : Scene) : Type 0 where
@@ -62,6 +63,14 @@ backOf VisibleOnly start = start
 backOf EffectiveArea start = start
 backOf TrueEdges start = 0
 backOf Home start = 0
+
+-- what the code has of these three for a screen
+pub record Shifts (s : Screen) (e : ℕ) (r : Shift) : Type 0 where
+  pub off : r .off ≡ offOf s e
+  pub ahead : r .ahead ≡ aheadOf s e
+  pub back : (start : ℕ) → start * digit (r .back) ≡ backOf s start
+  pub off-low : r .off < 256
+  pub ahead-low : r .ahead < 256
 
 -- how many places are needed, the column's own and those to the left of it: a sprite that the left edge cuts is tested `start` places to the left, and
 -- has no pixel as far right as 8 - start

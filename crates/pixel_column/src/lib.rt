@@ -8,10 +8,10 @@ ghost use Rattle.laws.specs.Lists.{at};
 ghost use Rattle.laws.specs.Sizes.{vramSize};
 ghost use Rattle.picture.specs.Tile.{codeAt, mapColour, mapFront};
 ghost use Rattle.picture.specs.View.{early};
-ghost use Rattle.picture.specs.Picture.{Canvas, spriteLine, laid, listed, withSprites, bare};
+ghost use Rattle.picture.specs.Picture.{Canvas, spriteLine, laid, tableAt, listed, withSprites, bare};
 ghost use Rattle.background.specs.Background.{Room, backFront};
 ghost use Rattle.stand.specs.Stand.{standOf, Fits};
-ghost use Rattle.pixel_column.specs.Column.{Set, Clear, lineAt, frontAt, offOf, aheadOf, backOf, reachOf, marksLeft, colourWith, Tied, Shows};
+ghost use Rattle.pixel_column.specs.Column.{Set, Clear, lineAt, frontAt, Shifts, reachOf, marksLeft, colourWith, Shows};
 use picture::GG_VISIBLE_AREA_START_X;
 use picture::HOME_LOCKED_X;
 use picture::Screen;
@@ -41,9 +41,8 @@ fn map_pixel(vram: &[u8], names: usize, x: usize, y: usize) -> Ground
     ensures { λ r. ⌜ (r .colour ≡ mapColour (at (now (vram .entry))) names x y) × (r .front ≡ mapFront (at (now (vram .entry))) names x y) ⌝ }
 {
     let e = names + 2 * (32 * (y / 8) + x / 8);
-    let lo = vram[e];
     let hi = vram[e + 1];
-    let addr = background::line_at(lo, hi, y);
+    let addr = background::line_at(vram[e], hi, y);
     let code = tile::pixel_code(vram, addr, small::is_set(hi, 1), x % 8);
     Ground {
         colour: small::weight(small::is_set(hi, 3), 16) + code,
@@ -118,17 +117,14 @@ fn marks_left(
     requires { ⌜ (addr + 4 ≤ length (now vram)) × (col < 256) × (off < 256) × (j < 8) ⌝ }
     ensures { λ r. ⌜ r ≡ marksLeft (now (vram .entry)) b s addr col off j ⌝ }
 {
-    let seen = s.seen;
-    let place = (col + off + 256 - j) % 256;
-    let k = (place + (256 - s.mark % 256)) % 256;
-    let p = s.start + k;
+    let p = s.start + (col + off + 768 - j - s.mark) % 256;
     if s.end <= p {
         return false;
     }
     if tile::pixel_code(vram, addr, false, p) == 0 {
         return false;
     }
-    if !seen {
+    if !s.seen {
         return true;
     }
     !in_front(vram, b, (col + 256 - j) % 256)
@@ -167,93 +163,57 @@ fn colour_with(
     requires { ⌜ (addr + 4 ≤ length (now vram)) × (col < 256) × (back ≤ s .start) ⌝ }
     ensures { λ r. ⌜ r ≡ colourWith (now (vram .entry)) s addr col back bits taken old ⌝ }
 {
-    let seen = s.seen;
     let x = s.x;
-    let start = s.start;
-    let end = s.end;
-    if !seen {
+    if !s.seen | (col < x) {
         return old;
     }
-    if col < x {
+    let p = s.start + (col - x);
+    if s.end <= p {
         return old;
     }
-    let p = start + (col - x);
-    if end <= p {
-        return old;
-    }
-    if !small::is_set(bits, back) {
-        return old;
-    }
-    if small::is_set(taken, back) {
+    if !small::is_set(bits, back) | small::is_set(taken, back) {
         return old;
     }
     16 + tile::pixel_code(vram, addr, false, p)
 }
 
-// The column with a sprite that stands at s and whose tile line is at addr.
-fn with_sprite(
-    vram: &[u8],
-    b: Scene,
-    s: Stand,
-    addr: usize,
-    col: usize,
-    off: usize,
-    back: usize,
-    under: Column,
-) -> Column
-    requires { ⌜ Set (now vram) b ⌝ }
-    requires { ⌜ Fits s ⌝ }
-    requires { ⌜ (addr + 4 ≤ length (now vram)) × (col < 256) × (off < 256) × (back ≤ s .start) ⌝ }
-    ensures { λ r. ⌜ (Tied off back s → (f : ℕ → Bool) (c : Canvas) → ((i : ℕ) → i < 256 → frontAt (now (vram .entry)) b i ≡ f i) → Shows col off c under → Shows col off (laid s (codeAt (at (now (vram .entry))) addr) f c) r) ⌝ }
-{
-    let taken = under.taken;
-    let bits = marks_near(vram, b, s, addr, col, off);
-    Column {
-        colour: colour_with(vram, s, addr, col, back, bits, taken, under.colour),
-        taken: taken | bits,
-    }
-}
-
 // ---- the line
 
-// How far the mark of a sprite that is seen stands to the right of its column.
-fn off_of(screen: Screen, e: u8) -> usize
-    requires { ⌜ e ≤ 8 ⌝ }
-    ensures { λ r. ⌜ r ≡ offOf screen e ⌝ }
-    ensures { λ r. ⌜ r < 256 ⌝ }
-{
-    match screen {
-        Screen::VisibleOnly => GG_VISIBLE_AREA_START_X + small::wide(e),
-        Screen::EffectiveArea => small::wide(e),
-        Screen::TrueEdges => 0,
-        Screen::Home => 0,
-    }
+// How a screen's sprites that are seen stand to their columns: how far to the right of them their mark and their X byte are, and whether one that the
+// left edge cuts is tested and marked to the left of its column's own place, by as much as is cut.
+struct Shift {
+    off: usize,
+    ahead: usize,
+    back: bool,
 }
 
-// How far the X byte of a sprite that is seen stands to the right of its column.
-fn ahead_of(screen: Screen, e: u8) -> usize
+fn shift_of(screen: Screen, e: u8) -> Shift
     requires { ⌜ e ≤ 8 ⌝ }
-    ensures { λ r. ⌜ r ≡ aheadOf screen e ⌝ }
-    ensures { λ r. ⌜ r < 256 ⌝ }
+    ensures { λ r. ⌜ Shifts screen e r ⌝ }
 {
+    let early = small::wide(e);
+    let edge = GG_VISIBLE_AREA_START_X + early;
     match screen {
-        Screen::VisibleOnly => GG_VISIBLE_AREA_START_X + small::wide(e),
-        Screen::EffectiveArea => small::wide(e),
-        Screen::TrueEdges => GG_VISIBLE_AREA_START_X + small::wide(e),
-        Screen::Home => small::wide(e),
-    }
-}
-
-// How far to the left of its own place a column of a sprite that starts with pixel `start` is tested and marked.
-fn back_of(screen: Screen, start: usize) -> usize
-    ensures { λ r. ⌜ r ≡ backOf screen start ⌝ }
-    ensures { λ r. ⌜ r ≤ start ⌝ }
-{
-    match screen {
-        Screen::VisibleOnly => start,
-        Screen::EffectiveArea => start,
-        Screen::TrueEdges => 0,
-        Screen::Home => 0,
+        Screen::VisibleOnly => Shift {
+            off: edge,
+            ahead: edge,
+            back: true,
+        },
+        Screen::EffectiveArea => Shift {
+            off: early,
+            ahead: early,
+            back: true,
+        },
+        Screen::TrueEdges => Shift {
+            off: 0,
+            ahead: edge,
+            back: false,
+        },
+        Screen::Home => Shift {
+            off: 0,
+            ahead: early,
+            back: false,
+        },
     }
 }
 
@@ -288,11 +248,10 @@ fn none_of(vram: &[u8], k: usize, line: u8, lines: u8) -> bool
 }
 
 // Where the search of the list may begin: behind the sixteens at its start that have no sprite on the line.
-fn first_group(vram: &[u8], reg: [u8; 11], line: usize) -> usize
-    requires { ⌜ (length (now vram) ≡ vramSize) × (line < 256) ⌝ }
+fn first_group(vram: &[u8], reg: [u8; 11], table: usize, line: usize) -> usize
+    requires { ⌜ (length (now vram) ≡ vramSize) × (table ≡ tableAt (at reg)) × (table ≤ 16128) × (line < 256) ⌝ }
     ensures { λ r. ⌜ (r ≤ 64) × (listed (at (now (vram .entry))) (at reg) line 64 0 ≡ listed (at (now (vram .entry))) (at reg) line (64 - r) r) ⌝ }
 {
-    let table = sprites::table_at(reg);
     let lines = sprites::height(small::is_set(reg[1], 1)) as u8;
     let l = line as u8;
     let mut n: usize = 0;
@@ -313,25 +272,30 @@ fn sprite_at(
     reg: [u8; 11],
     b: Scene,
     e: u8,
+    shift: Shift,
     k: usize,
     d: usize,
     col: usize,
-    off: usize,
     under: Column,
 ) -> Column
     requires { ⌜ Set (now vram) b ⌝ }
-    requires { ⌜ (k + 2 ≤ vramSize) × (e ≤ 8) × (d < 16) × (col < 256) × (off ≡ offOf screen e) × (off < 256) ⌝ }
-    ensures { λ r. ⌜ ((f : ℕ → Bool) (c : Canvas) → ((i : ℕ) → i < 256 → frontAt (now (vram .entry)) b i ≡ f i) → Shows col off c under → Shows col off (laid (standOf screen e (at (now (vram .entry)) k)) (codeAt (at (now (vram .entry))) (spriteLine (at reg) (at (now (vram .entry)) (k + 1)) d)) f c) r) ⌝ }
+    requires { ⌜ (k + 2 ≤ vramSize) × (e ≤ 8) × (d < 16) × (col < 256) ⌝ }
+    requires { ⌜ Shifts screen e shift ⌝ }
+    ensures { λ r. ⌜ ((f : ℕ → Bool) (c : Canvas) → ((i : ℕ) → i < 256 → frontAt (now (vram .entry)) b i ≡ f i) → Shows col (shift .off) c under → Shows col (shift .off) (laid (standOf screen e (at (now (vram .entry)) k)) (codeAt (at (now (vram .entry))) (spriteLine (at reg) (at (now (vram .entry)) (k + 1)) d)) f c) r) ⌝ }
 {
     let h = vram[k];
     let far = 15 - small::smaller(col, 7);
-    if far <= (col + ahead_of(screen, e) + 256 - small::wide(h)) % 256 {
+    if far <= (col + shift.ahead + 256 - small::wide(h)) % 256 {
         return under;
     }
     let s = stand::settings(screen, e, h);
     let addr = sprites::line_at(reg, vram[k + 1], d);
-    let back = back_of(screen, s.start);
-    with_sprite(vram, b, s, addr, col, off, back, under)
+    let bits = marks_near(vram, b, s, addr, col, shift.off);
+    let back = small::weight(shift.back, s.start);
+    Column {
+        colour: colour_with(vram, s, addr, col, back, bits, under.taken, under.colour),
+        taken: under.taken | bits,
+    }
 }
 
 // The colour number of a column of a row: the map's, and over it the first eight sprites of the line in turn.
@@ -349,13 +313,13 @@ pub fn column_at(
 {
     let table = sprites::table_at(reg);
     let e = sprites::early_of(reg);
-    let off = off_of(screen, e);
+    let shift = shift_of(screen, e);
     let under = map_pixel(vram, b.names, (b.sx + col) % 256, line_of(b, col));
     let mut column = Column {
         colour: under.colour,
         taken: 0,
     };
-    let mut from = first_group(vram, reg, line);
+    let mut from = first_group(vram, reg, table, line);
     let mut count: usize = 0;
     while count < 8 {
         let next = sprites::next_sprite(vram, reg, from, line);
@@ -369,10 +333,10 @@ pub fn column_at(
             reg,
             b,
             e,
+            shift,
             table + 128 + 2 * n,
             next.d,
             col,
-            off,
             column,
         );
         from = n + 1;

@@ -16,15 +16,15 @@ use Rattle.pixel_column.proofs.column_at.Statement.{statement}
 use Rattle.pixel_column.proofs.column_at.Tie as tie
 
 abbrev Inv-loop : tie.InvT-loop
-Inv-loop vram screen reg b line col table e off column₀ from₀ count₀ column from count =
+Inv-loop vram screen reg b line col table e shift column₀ from₀ count₀ column from count =
     (from ≤ 64)
     × (count ≤ 8)
     × ((f : ℕ → Bool) (colour : ℕ → ℕ) → ((i : ℕ) → i < 256 → frontAt vram b i ≡ f i) → mapColour (at vram) (b .names) ((b .sx + col) % 256)
     (lineAt b col) ≡ colour col →
-    Going (at vram) (at reg) (standOf screen (early (at reg))) line f colour from count (λ q L. Shows col off q column))
+    Going (at vram) (at reg) (standOf screen (early (at reg))) line f colour from count (λ q L. Shows col (shift .off) q column))
 
 abbrev μ-loop : tie.MeasureT-loop
-μ-loop vram screen reg b line col table e off column₀ from₀ count₀ column from count = 8 - count
+μ-loop vram screen reg b line col table e shift column₀ from₀ count₀ column from count = 8 - count
 
 table-at-requires : tie.Need-table-at-requires Inv-loop μ-loop
 table-at-requires c κs = search needs
@@ -32,8 +32,8 @@ table-at-requires c κs = search needs
 early-of-requires : tie.Need-early-of-requires Inv-loop μ-loop
 early-of-requires c κs = search needs
 
-off-of-requires : tie.Need-off-of-requires Inv-loop μ-loop
-off-of-requires c κs = search needs
+shift-of-requires : tie.Need-shift-of-requires Inv-loop μ-loop
+shift-of-requires c κs = search needs
 
 add-map-pixel : tie.Need-add-map-pixel Inv-loop μ-loop
 add-map-pixel c = search needs
@@ -56,7 +56,8 @@ map-pixel-requires c κs =
 first-group-requires : tie.Need-first-group-requires Inv-loop μ-loop
 first-group-requires c κs =
     let at-start = c .before .before .before .before .before .before .before in
-    (at-start .pre .0 .room .memory, at-start .pre .1 .1)
+    let at-table-at = c .before .before .before .before .before in
+    (at-start .pre .0 .room .memory, at-table-at .table-at .ensures .0, at-table-at .table-at .ensures .1, at-start .pre .1 .1)
 
 loop-holds : tie.Need-loop-holds Inv-loop μ-loop
 loop-holds c =
@@ -80,13 +81,13 @@ next-sprite-requires c κs =
 returns : tie.Need-returns Inv-loop μ-loop
 returns c =
     let at-loop = c .before .before .before in
-    let at-off-of = at-loop .before .before .before .before .before in
-    let at-start = at-off-of .before .before .before .before in
+    let at-shift-of = at-loop .before .before .before .before .before in
+    let at-start = at-shift-of .before .before .before .before in
     let a = at-start .args in
     λ f colour pe ue.
     let o : Follows (at (a .vram .now)) (at (a .reg)) (a .line) (at-loop .loop .from) (c .before .next-sprite .result .n)
     (c .before .next-sprite .result .d) = c .before .next-sprite .ensures .0 in
-    going-ends _ _ _ _ _ _ (λ q L. Shows (a .col) (at-off-of .off-of .result) q (at-loop .loop .column)) (o .none (c .if1 .taken))
+    going-ends _ _ _ _ _ _ (λ q L. Shows (a .col) (at-shift-of .shift-of .result .off) q (at-loop .loop .column)) (o .none (c .if1 .taken))
     (at-loop .loop .inv .2 f colour pe ue) .shows .colour
 
 add-sprite-at : tie.Need-add-sprite-at Inv-loop μ-loop
@@ -100,18 +101,19 @@ add-sprite-at-2 c = search needs
 
 sprite-at-requires : tie.Need-sprite-at-requires Inv-loop μ-loop
 sprite-at-requires c κs =
-    let at-off-of = c .before .before .before .before .before .before .before .before in
-    let at-early-of = at-off-of .before in
+    let at-shift-of = c .before .before .before .before .before .before .before .before in
+    let at-early-of = at-shift-of .before in
     let at-table-at = at-early-of .before in
     let at-start = at-table-at .before .before in (
       at-start .pre .0,
       (
-        omega (arith, at-table-at .table-at .ensures .1, c .if1 .left),
-        at-early-of .early-of .ensures .1,
-        omega (arith, c .before .next-sprite .ensures .1 .2),
-        at-start .pre .1 .0,
-        at-off-of .off-of .ensures .0,
-        at-off-of .off-of .ensures .1,
+        (
+          omega (arith, at-table-at .table-at .ensures .1, c .if1 .left),
+          at-early-of .early-of .ensures .1,
+          omega (arith, c .before .next-sprite .ensures .1 .2),
+          at-start .pre .1 .0,
+        ),
+        at-shift-of .shift-of .ensures,
       ),
     )
 
@@ -151,11 +153,11 @@ loop-again c =
 
 returns-2 : tie.Need-returns-2 Inv-loop μ-loop
 returns-2 c =
-    let at-off-of = c .before .before .before .before .before .before in
-    let at-start = at-off-of .before .before .before .before in
+    let at-shift-of = c .before .before .before .before .before .before in
+    let at-start = at-shift-of .before .before .before .before in
     let a = at-start .args in
     let e : c .before .loop .count ≡ 8 = omega arith in
-    λ f colour pe ue. going-eight _ _ _ _ _ _ (λ q. Shows (a .col) (at-off-of .off-of .result) q (c .before .loop .column)) e
+    λ f colour pe ue. going-eight _ _ _ _ _ _ (λ q. Shows (a .col) (at-shift-of .shift-of .result .off) q (c .before .loop .column)) e
     (c .before .loop .inv .2 f colour pe ue) .colour
 
 pub column-at-spec : {M : Type 1} → statement M
@@ -166,7 +168,7 @@ column-at-spec =
     μ-loop
     table-at-requires
     early-of-requires
-    off-of-requires
+    shift-of-requires
     add-map-pixel
     line-of-requires
     map-pixel-requires

@@ -12,15 +12,12 @@ use Rattle.pixel_column.proofs.first_group.Statement.{statement}
 use Rattle.pixel_column.proofs.first_group.Tie as tie
 
 abbrev Inv-loop : tie.InvT-loop
-Inv-loop vram line table lines l n₀ n =
+Inv-loop vram table line lines l n₀ n =
     (n ≤ 64) × (n % 16 ≡ 0) × (l ≡ line) × ((g : ℕ → ℕ) → table ≡ tableAt g → lines ≡ cond (tall g) 16 8 → listed (at vram) g line 64 0 ≡ listed
     (at vram) g line (64 - n) n)
 
 abbrev μ-loop : tie.MeasureT-loop
-μ-loop vram line table lines l n₀ n = 64 - n
-
-table-at-requires : tie.Need-table-at-requires Inv-loop μ-loop
-table-at-requires c κs = search needs
+μ-loop vram table line lines l n₀ n = 64 - n
 
 array-read-is-set : tie.Need-array-read-is-set Inv-loop μ-loop
 array-read-is-set c = search needs
@@ -46,19 +43,17 @@ add-none-of c = search needs
 none-of-requires : tie.Need-none-of-requires Inv-loop μ-loop
 none-of-requires c κs =
     let at-height = c .before .before in
-    let at-table-at = at-height .before .before in
-    let at-start = at-table-at .before .before in
-    (omega (arith, at-start .pre .0, at-table-at .table-at .ensures .1, c .loop-test .taken, c .before .loop .inv .1), at-height .height .ensures .1 .1)
+    let at-start = at-height .before .before .before in
+    (omega (arith, at-start .pre .0, at-start .pre .2, c .loop-test .taken, c .before .loop .inv .1), at-height .height .ensures .1 .1)
 
 returns : tie.Need-returns Inv-loop μ-loop
 returns c =
     let at-loop = c .before .before .before in
     let at-height = at-loop .before in
     let at-is-set = at-height .before in
-    let at-table-at = at-is-set .before in
-    let at-start = at-table-at .before .before in (
+    let at-start = at-is-set .before .before in (
       at-loop .loop .inv .0,
-      at-loop .loop .inv .3 (at (at-start .args .t2)) (at-table-at .table-at .ensures .0)
+      at-loop .loop .inv .3 (at (at-start .args .t2)) (at-start .pre .1)
           (at-height .height .ensures .0 ∙ rw (at-is-set .is-set .ensures)),
     )
 
@@ -72,8 +67,7 @@ loop-again : tie.Need-loop-again Inv-loop μ-loop
 loop-again c =
     let at-loop-test = c .before .before in
     let at-loop = at-loop-test .before in
-    let at-table-at = at-loop .before .before .before in
-    let at-start = at-table-at .before .before in
+    let at-start = at-loop .before .before .before .before in
     let a = at-start .args in
     let n = at-loop .loop .n in
     let t : c .before .none-of .result ≡ _ = not-false (c .before .none-of .result) (c .if1 .left) in
@@ -82,9 +76,9 @@ loop-again c =
       omega (arith, at-loop .loop .inv .1),
       at-loop .loop .inv .2,
       λ g te le.
-          at-loop .loop .inv .3 g te le ∙ clear-all (at (a .vram .now)) g (a .line) n 16 (at-start .pre .1) h
+          at-loop .loop .inv .3 g te le ∙ clear-all (at (a .vram .now)) g (a .line) n 16 (at-start .pre .3) h
           (λ i j.
-          let e : at-table-at .table-at .result + n + i ≡ tableAt g + (n + i) = omega (arith, te) in
+          let e : a .table + n + i ≡ tableAt g + (n + i) = omega (arith, te) in
           clear-is (at-loop .loop .inv .2) le (ap (at (a .vram .now)) e) (c .before .none-of .ensures t i j)),
     )
 
@@ -92,10 +86,9 @@ returns-2 : tie.Need-returns-2 Inv-loop μ-loop
 returns-2 c =
     let at-height = c .before .before in
     let at-is-set = at-height .before in
-    let at-table-at = at-is-set .before in
-    let at-start = at-table-at .before .before in (
+    let at-start = at-is-set .before .before in (
       c .before .loop .inv .0,
-      c .before .loop .inv .3 (at (at-start .args .t2)) (at-table-at .table-at .ensures .0)
+      c .before .loop .inv .3 (at (at-start .args .t2)) (at-start .pre .1)
           (at-height .height .ensures .0 ∙ rw (at-is-set .is-set .ensures)),
     )
 
@@ -105,7 +98,6 @@ first-group-spec =
     (tie.spec
     Inv-loop
     μ-loop
-    table-at-requires
     array-read-is-set
     is-set-requires
     height-requires

@@ -17,14 +17,14 @@ mul-e-2 c = search needs
 add-e-2 : tie.Need-add-e-2
 add-e-2 c = search needs
 
-shared-slice-read-lo : tie.Need-shared-slice-read-lo
-shared-slice-read-lo c = search needs
-
 add-hi : tie.Need-add-hi
 add-hi c = search needs
 
 shared-slice-read-hi : tie.Need-shared-slice-read-hi
 shared-slice-read-hi c = search needs
+
+shared-slice-read-line-at : tie.Need-shared-slice-read-line-at
+shared-slice-read-line-at c = search needs
 
 line-at-requires : tie.Need-line-at-requires
 line-at-requires c κs = search needs
@@ -41,8 +41,8 @@ is-set-requires-2 c κs = search needs
 weight-requires : tie.Need-weight-requires
 weight-requires c κs = search needs
 
-add-t14 : tie.Need-add-t14
-add-t14 c = search needs
+add-t13 : tie.Need-add-t13
+add-t13 c = search needs
 
 is-set-requires-3 : tie.Need-is-set-requires-3
 is-set-requires-3 c κs = search needs
@@ -81,15 +81,15 @@ map-pixel-spec =
     add-e
     mul-e-2
     add-e-2
-    shared-slice-read-lo
     add-hi
     shared-slice-read-hi
+    shared-slice-read-line-at
     line-at-requires
     is-set-requires
     pixel-code-requires
     is-set-requires-2
     weight-requires
-    add-t14
+    add-t13
     is-set-requires-3
     both-requires
     returns)

@@ -4,30 +4,32 @@ use mathlib.Core.Path.{sym, _∙_}
 use borrow.Author.Tests.{lt-ltb, le-ltb, eq-eqb, ne-eqb, not-true, not-false}
 use Rattle.picture.specs.Picture.{solid}
 use Rattle.pixel_column.specs.Column.{marksLeft}
+use Rattle.pixel_column.proofs.Laws.{left-past}
 use Rattle.pixel_column.proofs.marks_left.Statement.{statement}
 use Rattle.pixel_column.proofs.marks_left.Tie as tie
-
-add-place : tie.Need-add-place
-add-place c = search needs
-
-add-place-2 : tie.Need-add-place-2
-add-place-2 c = search needs
-
-sub-place : tie.Need-sub-place
-sub-place c = search needs
-
-sub-k : tie.Need-sub-k
-sub-k c = search needs
-
-add-k : tie.Need-add-k
-add-k c = search needs
 
 add-p : tie.Need-add-p
 add-p c = search needs
 
+add-p-2 : tie.Need-add-p-2
+add-p-2 c = search needs
+
+sub-p : tie.Need-sub-p
+sub-p c = search needs
+
+sub-p-2 : tie.Need-sub-p-2
+sub-p-2 c = search needs
+
+add-p-3 : tie.Need-add-p-3
+add-p-3 c = search needs
+
 returns : tie.Need-returns
 unfolding marksLeft solid
-returns c = rw (le-ltb _ _ (c .if1 .taken))
+returns c =
+    let at-start = c .before .before .before .before .before in
+    let a = at-start .args in
+    let e = left-past (a .col) (a .off) (a .j) (a .s .mark) (at-start .pre .1 .1 .3) (at-start .pre .1 .0 .mark-low) in
+    rw (← e, le-ltb _ _ (c .if1 .taken))
 
 pixel-code-requires : tie.Need-pixel-code-requires
 pixel-code-requires c κs = search needs
@@ -36,19 +38,26 @@ returns-2 : tie.Need-returns-2
 unfolding marksLeft solid
 returns-2 c =
     let at-if1 = c .before .before in
-    rw (lt-ltb _ _ (at-if1 .if1 .left), eq-eqb _ 0 (sym (c .before .pixel-code .ensures .0) ∙ c .if2 .taken))
+    let at-start = at-if1 .before .before .before .before .before in
+    let a = at-start .args in
+    let e = left-past (a .col) (a .off) (a .j) (a .s .mark) (at-start .pre .1 .1 .3) (at-start .pre .1 .0 .mark-low) in
+    rw (← e, lt-ltb _ _ (at-if1 .if1 .left), eq-eqb _ 0 (sym (c .before .pixel-code .ensures .0) ∙ c .if2 .taken))
 
 returns-3 : tie.Need-returns-3
 unfolding marksLeft solid
 returns-3 c =
-    let at-pixel-code = c .before .before in
+    let at-if2 = c .before .before in
+    let at-pixel-code = at-if2 .before in
     let at-if1 = at-pixel-code .before in
     let at-start = at-if1 .before .before .before .before .before in
+    let a = at-start .args in
+    let e = left-past (a .col) (a .off) (a .j) (a .s .mark) (at-start .pre .1 .1 .3) (at-start .pre .1 .0 .mark-low) in
     rw (
+      ← e,
       lt-ltb _ _ (at-if1 .if1 .left),
-      ne-eqb _ 0 (λ z. c .before .if2 .left (at-pixel-code .pixel-code .ensures .0 ∙ z)),
+      ne-eqb _ 0 (λ z. at-if2 .if2 .left (at-pixel-code .pixel-code .ensures .0 ∙ z)),
       not-true
-          (at-start .args .s .seen) (c .if3 .taken),
+          (a .s .seen) (c .if3 .taken),
     )
 
 add-in-front : tie.Need-add-in-front
@@ -63,15 +72,18 @@ in-front-requires c κs = search needs
 returns-4 : tie.Need-returns-4
 unfolding marksLeft solid
 returns-4 c =
-    let at-if2 = c .before .before in
+    let at-if2 = c .before .before .before in
     let at-pixel-code = at-if2 .before in
     let at-if1 = at-pixel-code .before in
     let at-start = at-if1 .before .before .before .before .before in
+    let a = at-start .args in
+    let e = left-past (a .col) (a .off) (a .j) (a .s .mark) (at-start .pre .1 .1 .3) (at-start .pre .1 .0 .mark-low) in
     rw (
+      ← e,
       lt-ltb _ _ (at-if1 .if1 .left),
       ne-eqb _ 0 (λ z. at-if2 .if2 .left (at-pixel-code .pixel-code .ensures .0 ∙ z)),
       not-false
-          (at-start .args .s .seen) (c .before .if3 .left),
+          (a .s .seen) (c .before .if3 .left),
       c .in-front .ensures,
     )
 
@@ -79,12 +91,11 @@ pub marks-left-spec : {M : Type 1} → statement M
 marks-left-spec =
     tie.close
     (tie.spec
-    add-place
-    add-place-2
-    sub-place
-    sub-k
-    add-k
     add-p
+    add-p-2
+    sub-p
+    sub-p-2
+    add-p-3
     returns
     pixel-code-requires
     returns-2
