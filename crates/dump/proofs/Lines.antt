@@ -71,10 +71,10 @@ pub weighed : (b : Bool) (w : ℕ) → w * digit b ≡ cond b w 0
 weighed true w = omega arith
 weighed false w = omega arith
 
--- ---- the pixels of line l of the tile at column i of row j are those from (8j + l) 128 + 8i on
+-- ---- the pixels of line l of the tile at column i of row j are those from 1024j + 8i + 128l on
 module _ (i j l p : ℕ) (hi : i < 16) (hl : l < 8) where
   abbrev from : ℕ
-  from = (j * 8 + l) * 128 + i * 8
+  from = 1024 * j + 8 * i + 128 * l
 
   in-column : from ≤ p → p < from + 8 → p % 128 / 8 ≡ i
   in-column a b = omega arith
@@ -94,7 +94,7 @@ module _ (i j l p : ℕ) (hi : i < 16) (hl : l < 8) where
 -- ---- one tile line more
 module _ (vram : List ℕ) (tall high : Bool) (colours pixels₀ : List ℕ) (c l : ℕ) (hc : c < 512) (hl : l < 8) where
   abbrev pub place : ℕ
-  place = (tileRow tall c * 8 + l) * 128 + tileColumn tall c * 8
+  place = 1024 * tileRow tall c + 8 * tileColumn tall c + 128 * l
 
   column-lt : tileColumn tall c < 16
   unfolding tileColumn

@@ -8,7 +8,7 @@ ghost use lib.ListN.{length};
 ghost use Rattle.laws.specs.Lists.{at};
 ghost use Rattle.laws.specs.Sizes.{vramSize};
 ghost use Rattle.picture.specs.Tile.{codeAt};
-ghost use Rattle.dump.specs.Dump.{tileColumn, tileRow, lineAt, pixelByte, dumpSize, dumped};
+ghost use Rattle.dump.specs.Dump.{tileColumn, tileRow, pixelByte, dumpSize, dumped};
 ghost use Rattle.dump.specs.Lines.{Dumping};
 ghost use Rattle.dump.specs.Sheet.{SheetLeaves};
 use refusal::Refusal;
@@ -16,38 +16,17 @@ use small::VRAM_SIZE;
 
 const DUMP_SIZE: usize = 131072;
 
-// R5.14: the column of tiles in which tile chr stands.
-fn column_of(tall: bool, chr: usize) -> usize
-    ensures { λ r. ⌜ r ≡ tileColumn tall chr ⌝ }
-    ensures { λ r. ⌜ r < 16 ⌝ }
-{
-    if small::both(tall, 256 <= chr) {
-        chr % 32 / 2
-    } else {
-        chr % 16
-    }
-}
-
-// The row of tiles in which it stands.
-fn row_of(tall: bool, chr: usize) -> usize
+// R5.14: the sheet's pixel at which tile chr starts.
+fn place_of(tall: bool, chr: usize) -> usize
     requires { ⌜ chr < 512 ⌝ }
-    ensures { λ r. ⌜ r ≡ tileRow tall chr ⌝ }
-    ensures { λ r. ⌜ r < 32 ⌝ }
+    ensures { λ r. ⌜ r ≡ 1024 * tileRow tall chr + 8 * tileColumn tall chr ⌝ }
+    ensures { λ r. ⌜ r + 904 ≤ 32768 ⌝ }
 {
     if small::both(tall, 256 <= chr) {
-        2 * (chr / 32) + chr % 2
+        1024 * (2 * (chr / 32) + chr % 2) + 8 * (chr % 32 / 2)
     } else {
-        chr / 16
+        1024 * (chr / 16) + 8 * (chr % 16)
     }
-}
-
-// The address of its line `line`: the sprites' pattern base counts for sprites alone.
-fn line_at(high: bool, chr: usize, line: usize) -> usize
-    requires { ⌜ line < 8 ⌝ }
-    ensures { λ r. ⌜ r ≡ lineAt high chr line ⌝ }
-    ensures { λ r. ⌜ r + 4 ≤ vramSize ⌝ }
-{
-    small::weight(small::both(256 <= chr, high), 8192) + 32 * (chr % 256) + 4 * line
 }
 
 // The tile line at addr, drawn at pixel x of the whole picture.
@@ -69,7 +48,7 @@ fn dump_line(
     }
 }
 
-// The eight lines of tile chr, at its place.
+// The eight lines of tile chr, at its place. The sprites' pattern base counts for sprites alone.
 fn dump_tile(
     pixels: &mut [u8],
     vram: &[u8],
@@ -81,18 +60,18 @@ fn dump_tile(
     requires { ⌜ (length (now pixels) ≡ dumpSize) × (length (now vram) ≡ vramSize) × (chr < 512) ⌝ }
     ensures { λ r. ⌜ ((pixels₀ : List ℕ) → Dumping (now (vram .entry)) tall high (now (colours .entry)) pixels₀ (8 * chr) (now (pixels .entry)) → Dumping (now (vram .entry)) tall high (now (colours .entry)) pixels₀ (8 * (chr + 1)) (now (pixels .exit))) ⌝ }
 {
-    let x = column_of(tall, chr) * 8;
-    let y = row_of(tall, chr) * 8;
+    let place = place_of(tall, chr);
+    let sprite = 256 <= chr;
+    let addr = small::weight(small::both(sprite, high), 8192) + 32 * (chr % 256);
     let mut line: usize = 0;
     while line < 8 {
-        let addr = line_at(high, chr, line);
         dump_line(
             pixels,
             vram,
             colours,
-            256 <= chr,
-            addr,
-            (y + line) * 128 + x,
+            sprite,
+            addr + 4 * line,
+            place + 128 * line,
         );
         line += 1;
     }

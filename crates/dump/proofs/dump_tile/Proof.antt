@@ -6,43 +6,47 @@ use Prim.Native.Nat.{ℕ, _+_, _*_, _-_, _<_, _≤_}
 use native.Mathlib.Nat.{add-zero}
 use native.Mathlib.Omega.{arith}
 use lib.ListN.{length}
+use Rattle.dump.specs.Dump.{lineAt}
 use Rattle.dump.specs.Lines.{Dumping}
-use Rattle.dump.proofs.Lines.{line-step}
+use Rattle.dump.proofs.Lines.{weighed, line-step}
 use Rattle.dump.proofs.dump_tile.Statement.{statement}
 use Rattle.dump.proofs.dump_tile.Tie as tie
 
 abbrev Inv-loop : tie.InvT-loop
-Inv-loop pixels₀ vram colours tall high chr x y line₀ pixels line =
+Inv-loop pixels₀ vram colours tall high chr place sprite addr line₀ pixels line =
     (line ≤ 8)
     × (length pixels ≡ length pixels₀)
     × ((base : List ℕ) → Dumping vram tall high colours base (8 * chr) pixels₀ → Dumping vram tall high colours base (8 * chr + line) pixels)
 
 abbrev μ-loop : tie.MeasureT-loop
-μ-loop pixels₀ vram colours tall high chr x y line₀ pixels line = 8 - line
+μ-loop pixels₀ vram colours tall high chr place sprite addr line₀ pixels line = 8 - line
 
-column-of-requires : tie.Need-column-of-requires Inv-loop μ-loop
-column-of-requires c κs = search needs
+place-of-requires : tie.Need-place-of-requires Inv-loop μ-loop
+place-of-requires c κs = search needs
 
-mul-x : tie.Need-mul-x Inv-loop μ-loop
-mul-x c = search needs
+both-requires : tie.Need-both-requires Inv-loop μ-loop
+both-requires c κs = search needs
 
-row-of-requires : tie.Need-row-of-requires Inv-loop μ-loop
-row-of-requires c κs = search needs
+weight-requires : tie.Need-weight-requires Inv-loop μ-loop
+weight-requires c κs = search needs
 
-mul-y : tie.Need-mul-y Inv-loop μ-loop
-mul-y c = search needs
+mul-addr : tie.Need-mul-addr Inv-loop μ-loop
+mul-addr c = search needs
+
+add-addr : tie.Need-add-addr Inv-loop μ-loop
+add-addr c = search needs
 
 loop-holds : tie.Need-loop-holds Inv-loop μ-loop
 loop-holds c = (omega arith, refl, λ base d. rw add-zero d)
 
-line-at-requires : tie.Need-line-at-requires Inv-loop μ-loop
-line-at-requires c κs = search needs
+mul-dump-line : tie.Need-mul-dump-line Inv-loop μ-loop
+mul-dump-line c = search needs
 
 add-dump-line : tie.Need-add-dump-line Inv-loop μ-loop
 add-dump-line c = search needs
 
-mul-dump-line : tie.Need-mul-dump-line Inv-loop μ-loop
-mul-dump-line c = search needs
+mul-dump-line-2 : tie.Need-mul-dump-line-2 Inv-loop μ-loop
+mul-dump-line-2 c = search needs
 
 add-dump-line-2 : tie.Need-add-dump-line-2 Inv-loop μ-loop
 add-dump-line-2 c = search needs
@@ -57,13 +61,14 @@ loop-less : tie.Need-loop-less Inv-loop μ-loop
 loop-less c = search needs
 
 loop-again : tie.Need-loop-again Inv-loop μ-loop
+unfolding lineAt
 loop-again c =
     let at-dump-line = c .before .before in
-    let at-line-at = at-dump-line .before .before in
-    let at-loop = at-line-at .before .before in
-    let at-row-of = at-loop .before in
-    let at-column-of = at-row-of .before in
-    let at-start = at-column-of .before .before .before in
+    let at-loop = at-dump-line .before .before .before in
+    let at-weight = at-loop .before in
+    let at-both = at-weight .before in
+    let at-place-of = at-both .before in
+    let at-start = at-place-of .before .before .before in
     let a = at-start .args in
     let l = at-loop .loop .line in
     let hc : a .chr < 512 = omega arith in
@@ -73,9 +78,10 @@ loop-again c =
       λ base d.
           line-step (a .vram .now) (a .tall) (a .high) (a .colours .now) base (a .chr) l hc hl (at-loop .loop .inv .2 base d)
           (λ k. at-dump-line .dump-line .ensures k ∙ rw (
-            at-line-at .line-at .ensures .0,
-            at-row-of .row-of .ensures .0,
-            at-column-of .column-of .ensures .0,
+            at-weight .weight .ensures .0,
+            weighed (at-both .both .result) 8192,
+            at-both .both .ensures,
+            at-place-of .place-of .ensures .0,
           )),
     )
 
@@ -84,7 +90,7 @@ same-length c = search needs
 
 returns : tie.Need-returns Inv-loop μ-loop
 returns c =
-    let at-start = c .before .before .before .before .before .before in
+    let at-start = c .before .before .before .before .before .before .before in
     λ base d.
     let e : 8 * at-start .args .chr + c .before .loop .line ≡ 8 * (at-start .args .chr + 1) = omega arith in
     rw e at (c .before .loop .inv .2 base d)
@@ -95,14 +101,15 @@ dump-tile-spec =
     (tie.spec
     Inv-loop
     μ-loop
-    column-of-requires
-    mul-x
-    row-of-requires
-    mul-y
+    place-of-requires
+    both-requires
+    weight-requires
+    mul-addr
+    add-addr
     loop-holds
-    line-at-requires
-    add-dump-line
     mul-dump-line
+    add-dump-line
+    mul-dump-line-2
     add-dump-line-2
     dump-line-requires
     add-line
