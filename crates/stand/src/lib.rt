@@ -1,8 +1,7 @@
 // Where a sprite stands on each screen (R5.9, R5.10, R18.2, R20.7): the columns of it that are shown, and where the masks have them.
 ghost use mathlib.Core.Path.{_≡_};
-ghost use mathlib.Core.Bool.{cond};
 ghost use Prim.Native.Nat.{_+_, _-_, _<_, _≤_, min};
-ghost use Rattle.picture.specs.View.{visibleEnd, visibleSeen, visibleStand, effectiveStand, edgeStand};
+ghost use Rattle.picture.specs.View.{visibleEnd, visibleStand, effectiveStand, edgeStand};
 ghost use Rattle.stand.specs.Stand.{standOf, Fits};
 use picture::Screen;
 use picture::Stand;
@@ -34,43 +33,23 @@ fn visible_end(x: u8) -> usize
     small::smaller(small::wide(WIDTH - x), 8)
 }
 
-// Whether a sprite with X byte h is seen in the visible area.
-fn visible_seen(h: u8) -> bool
-    ensures { λ r. ⌜ r ≡ visibleSeen h ⌝ }
-{
-    if BEFORE_X < h { h < END_X } else { false }
-}
-
-// Where its column 0 is marked: at X, and of an unseen one at X + start.
-fn mark_place(seen: bool, h: u8, start: u8) -> usize
-    ensures { λ r. ⌜ r ≡ cond seen h (h + start) ⌝ }
-    ensures { λ r. ⌜ r < 512 ⌝ }
-{
-    if seen {
-        small::wide(h)
-    } else {
-        small::wide(h) + small::wide(start)
-    }
-}
-
-// Where a sprite with X byte h stands in the visible area, the early clock taking e off.
+// Where a sprite with X byte h stands in the visible area, the early clock taking e off. One that is seen is marked at X, an unseen one at X + start.
 fn sprite_line_settings_visible(e: u8, h: u8) -> Stand
     requires { ⌜ e ≤ 8 ⌝ }
     ensures { λ r. ⌜ r ≡ visibleStand e h ⌝ }
     ensures { λ r. ⌜ Fits r ⌝ }
 {
-    let seen = visible_seen(h);
+    let seen = (BEFORE_X < h) & (h < END_X);
     let x = minus(minus(h, START_X), e);
     let start = minus(START_X + e, h);
-    let end = visible_end(x);
-    let mark = mark_place(seen, h, start);
-    let prio = std::num::wrapping_sub_u8(x, start);
+    let first = small::wide(start);
+    let mark = small::wide(h) + small::weight(!seen, first);
     Stand {
         seen: seen,
         x: small::wide(x),
-        start: small::wide(start),
-        end: end,
-        prio: small::wide(prio),
+        start: first,
+        end: visible_end(x),
+        prio: small::wide(std::num::wrapping_sub_u8(x, start)),
         mark: mark,
     }
 }
@@ -113,14 +92,13 @@ fn sprite_line_settings_true(left: u8, width: usize, e: u8, h: u8) -> Stand
     let x = minus(minus(h, left), e);
     let start = minus(left + e, h);
     let place = small::wide(x);
-    let mark = small::wide(x);
     Stand {
         seen: true,
         x: place,
         start: small::wide(start),
         end: edge_end(width, place),
         prio: place,
-        mark: mark,
+        mark: place,
     }
 }
 

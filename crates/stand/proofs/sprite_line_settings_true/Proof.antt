@@ -25,23 +25,18 @@ wide-requires c κs = search needs
 wide-requires-2 : tie.Need-wide-requires-2
 wide-requires-2 c κs = search needs
 
-wide-requires-3 : tie.Need-wide-requires-3
-wide-requires-3 c κs = search needs
-
 edge-end-requires : tie.Need-edge-end-requires
 edge-end-requires c κs = search needs
 
 returns : tie.Need-returns
 unfolding edgeStand
 returns c =
-    let at-wide2 = c .before .before in
-    let at-wide = at-wide2 .before in
+    let at-wide = c .before .before in
     let at-start = at-wide .before .before .before .before in
     let a = at-start .args in
     let x : at-wide .wide .result ≡ a .h - a .left - a .e = omega arith in
-    let mark : at-wide2 .wide2 .result ≡ a .h - a .left - a .e = omega arith in
-    let start : c .before .wide3 .result ≡ a .left + a .e - a .h = omega arith in (
-      rw (c .edge-end .ensures .0, mark, start, x),
+    let start : c .before .wide2 .result ≡ a .left + a .e - a .h = omega arith in (
+      rw (c .edge-end .ensures .0, start, x),
       record
           { end-low = omega arith; start-low = omega arith; x-low = omega arith; prio-low = omega arith; mark-low = omega arith },
     )
@@ -56,6 +51,5 @@ sprite-line-settings-true-spec =
     minus-requires-3
     wide-requires
     wide-requires-2
-    wide-requires-3
     edge-end-requires
     returns)
