@@ -5,7 +5,7 @@ ghost use lib.ListN.{length};
 ghost use Rattle.laws.specs.Sizes.{vramSize};
 ghost use Rattle.picture.specs.declared.Screen.the-variants.{VisibleOnly, EffectiveArea, Home};
 ghost use Rattle.picture.specs.Screen.{columns, rows, pictureOf};
-ghost use Rattle.pixel.specs.Pixel.{onScreen, noSpot, spotOf};
+ghost use Rattle.pixel.specs.Pixel.{onScreen, spotOf};
 use picture::GG_VISIBLE_AREA_START_Y;
 use picture::GG_VISIBLE_MAP_X;
 use picture::GG_VISIBLE_PIXEL_HEIGHT;
@@ -94,22 +94,12 @@ fn colour_number(
     requires { ⌜ (length (now vram) ≡ vramSize) × (row < rows screen) × (col < columns screen) ⌝ }
     ensures { λ r. ⌜ r ≡ pictureOf screen reg scroll (now (vram .entry)) row .colour col ⌝ }
 {
+    let scroll = small::wide(scroll);
     match screen {
-        Screen::VisibleOnly => {
-            visible_number(
-                vram,
-                Screen::VisibleOnly,
-                reg,
-                small::wide(scroll),
-                row,
-                col,
-            )
-        }
+        Screen::VisibleOnly => { visible_number(vram, Screen::VisibleOnly, reg, scroll, row, col) }
         Screen::EffectiveArea => effective_number(vram, reg, row, col),
-        Screen::TrueEdges => {
-            visible_number(vram, Screen::TrueEdges, reg, small::wide(scroll), row, col)
-        }
-        Screen::Home => home_number(vram, reg, small::wide(scroll), row, col),
+        Screen::TrueEdges => visible_number(vram, Screen::TrueEdges, reg, scroll, row, col),
+        Screen::Home => home_number(vram, reg, scroll, row, col),
     }
 }
 
@@ -120,38 +110,15 @@ pub struct Spot {
     pub colour: usize,
 }
 
-fn no_spot(refusal: Refusal) -> Spot
-    ensures { λ r. ⌜ r ≡ noSpot refusal ⌝ }
-{
-    Spot {
-        refusal: refusal,
-        there: false,
-        colour: 0,
-    }
-}
-
-// A number of 32 bits as one of 64.
-fn long(x: u32) -> usize
-    ensures { λ r. ⌜ r ≡ x ⌝ }
-{
-    x as usize
-}
-
 // Whether row and column lie on the screen.
 fn on_screen(screen: Screen, row: usize, col: usize) -> bool
     ensures { λ r. ⌜ r ≡ onScreen screen row col ⌝ }
 {
     match screen {
-        Screen::VisibleOnly => {
-            small::both(row < GG_VISIBLE_PIXEL_HEIGHT, col < GG_VISIBLE_PIXEL_WIDTH)
-        }
-        Screen::EffectiveArea => {
-            small::both(row < SCROLL_PIXEL_HEIGHT, col < SCROLL_PIXEL_WIDTH)
-        }
-        Screen::TrueEdges => {
-            small::both(row < GG_VISIBLE_PIXEL_HEIGHT, col < GG_VISIBLE_PIXEL_WIDTH)
-        }
-        Screen::Home => small::both(row < HOME_PIXEL_HEIGHT, col < HOME_PIXEL_WIDTH),
+        Screen::VisibleOnly => (row < GG_VISIBLE_PIXEL_HEIGHT) & (col < GG_VISIBLE_PIXEL_WIDTH),
+        Screen::EffectiveArea => (row < SCROLL_PIXEL_HEIGHT) & (col < SCROLL_PIXEL_WIDTH),
+        Screen::TrueEdges => (row < GG_VISIBLE_PIXEL_HEIGHT) & (col < GG_VISIBLE_PIXEL_WIDTH),
+        Screen::Home => (row < HOME_PIXEL_HEIGHT) & (col < HOME_PIXEL_WIDTH),
     }
 }
 
@@ -168,12 +135,20 @@ pub fn spot_at(
     ensures { λ r. ⌜ r .colour < 32 ⌝ }
 {
     if vram.len() != VRAM_SIZE {
-        return no_spot(Refusal::VramLength);
+        return Spot {
+            refusal: Refusal::VramLength,
+            there: false,
+            colour: 0,
+        };
     }
-    let y = long(row);
-    let x = long(column);
+    let y = row as usize;
+    let x = column as usize;
     if !on_screen(screen, y, x) {
-        return no_spot(Refusal::Accepted);
+        return Spot {
+            refusal: Refusal::Accepted,
+            there: false,
+            colour: 0,
+        };
     }
     Spot {
         refusal: Refusal::Accepted,
