@@ -46,7 +46,7 @@ fn map_pixel(vram: &[u8], names: usize, x: usize, y: usize) -> Ground
     let code = tile::pixel_code(vram, addr, small::is_set(hi, 1), x % 8);
     Ground {
         colour: small::weight(small::is_set(hi, 3), 16) + code,
-        front: small::both(small::is_set(hi, 4), code != 0),
+        front: small::is_set(hi, 4) & (code != 0),
     }
 }
 
@@ -84,13 +84,7 @@ fn in_front(vram: &[u8], b: Scene, place: usize) -> bool
     if column_front(vram, b, y, x < first, x) {
         return true;
     }
-    column_front(
-        vram,
-        b,
-        y,
-        small::both(first <= place, place < b.width),
-        place,
-    )
+    column_front(vram, b, y, (first <= place) & (place < b.width), place)
 }
 
 // ---- one sprite
@@ -217,34 +211,21 @@ fn shift_of(screen: Screen, e: u8) -> Shift
     }
 }
 
-// How far the line is below the top of a sprite with this Y byte, around a circle of 256 lines; 0 where the byte ends the list.
-fn below_top(y: u8, line: u8) -> u8
-    ensures { λ r. ⌜ ((n : ℕ) → 0 < n → n ≤ r → Clear line n y) ⌝ }
-{
-    let d = std::num::wrapping_sub_u8(line, std::num::wrapping_add_u8(y, 1));
-    if y == 0xD0 { 0 } else { d }
-}
-
-// The smaller of two bytes.
-fn least(a: u8, b: u8) -> u8
-    ensures { λ r. ⌜ (r ≤ a) × (r ≤ b) ⌝ }
-{
-    if a <= b { a } else { b }
-}
-
-// Whether none of the 16 Y bytes from k on is that of a sprite on the line, or ends the list. There is no branch in the loop, so that the compiler
-// takes them all at once.
+// Whether none of the 16 Y bytes from k on is that of a sprite on the line, or ends the list: around a circle of 256 lines the line is below each
+// sprite's last. There is no branch in the loop, so that the compiler takes them all at once.
 fn none_of(vram: &[u8], k: usize, line: u8, lines: u8) -> bool
-    requires { ⌜ (k + 16 ≤ length (now vram)) × (0 < lines) ⌝ }
+    requires { ⌜ k + 16 ≤ length (now vram) ⌝ }
     ensures { λ r. ⌜ (r ≡ true → (i : ℕ) → i < 16 → Clear line lines (at (now (vram .entry)) (k + i))) ⌝ }
 {
-    let mut nearest: u8 = 255;
+    let mut none = true;
     let mut i: usize = 0;
     while i < 16 {
-        nearest = least(nearest, below_top(vram[k + i], line));
+        let y = vram[k + i];
+        let below = std::num::wrapping_sub_u8(line, std::num::wrapping_add_u8(y, 1));
+        none = (y != 0xD0) & (lines <= below) & none;
         i += 1;
     }
-    lines <= nearest
+    none
 }
 
 // Where the search of the list may begin: behind the sixteens at its start that have no sprite on the line.

@@ -44,7 +44,7 @@ none-of-requires : tie.Need-none-of-requires Inv-loop μ-loop
 none-of-requires c κs =
     let at-height = c .before .before in
     let at-start = at-height .before .before .before in
-    (omega (arith, at-start .pre .0, at-start .pre .2, c .loop-test .taken, c .before .loop .inv .1), at-height .height .ensures .1 .1)
+    omega (arith, at-start .pre .0, at-start .pre .2, c .loop-test .taken, c .before .loop .inv .1)
 
 returns : tie.Need-returns Inv-loop μ-loop
 returns c =

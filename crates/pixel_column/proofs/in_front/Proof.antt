@@ -29,21 +29,18 @@ returns c =
     (at-start .pre .1) (backFront (a .vram .now) (a .b .names) (a .b .sx) (lineAt (a .b) (a .place)))
     ∙ rw (← at-line-of .line-of .ensures .0, sym (c .before .column-front .ensures) ∙ c .if1 .taken))
 
-both-requires : tie.Need-both-requires
-both-requires c κs = search needs
-
 column-front-requires-2 : tie.Need-column-front-requires-2
 column-front-requires-2 c κs = search needs
 
 returns-2 : tie.Need-returns-2
 unfolding prioTo
 returns-2 c =
-    let at-if1 = c .before .before .before in
+    let at-if1 = c .before .before in
     let at-column-front = at-if1 .before in
     let at-line-of = at-column-front .before .before .before in
     let at-start = at-line-of .before .before in
     let a = at-start .args in
-    c .column-front2 .ensures ∙ rw (c .before .both .ensures, at-line-of .line-of .ensures .0)
+    c .column-front2 .ensures ∙ rw (at-line-of .line-of .ensures .0)
     (sym (front-two (a .b .cut) (a .b .width) (a .place) (at-start .pre .0 .cut-low) (at-start .pre .0 .wide) (at-start .pre .0 .narrow)
     (at-start .pre .1) (backFront (a .vram .now) (a .b .names) (a .b .sx) (lineAt (a .b) (a .place)))
     ∙ rw (← at-line-of .line-of .ensures .0, sym (at-column-front .column-front .ensures) ∙ at-if1 .if1 .left)))
@@ -57,6 +54,5 @@ in-front-spec =
     add-x
     column-front-requires
     returns
-    both-requires
     column-front-requires-2
     returns-2)

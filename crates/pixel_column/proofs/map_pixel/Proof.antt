@@ -1,6 +1,5 @@
 -- `pixel_column::map_pixel` meets its contract: the map's pixel, by the tile that stands there.
 use borrow.Author.Needs.{needs}
-use mathlib.Core.Path.{_∙_}
 use Rattle.picture.specs.Tile.{mapColour, mapFront, entryColour, entryFront, entryCode, entryAt}
 use Rattle.pixel_column.proofs.map_pixel.Statement.{statement}
 use Rattle.pixel_column.proofs.map_pixel.Tie as tie
@@ -47,13 +46,10 @@ add-t13 c = search needs
 is-set-requires-3 : tie.Need-is-set-requires-3
 is-set-requires-3 c κs = search needs
 
-both-requires : tie.Need-both-requires
-both-requires c κs = search needs
-
 returns : tie.Need-returns
 unfolding mapColour mapFront entryColour entryFront entryCode entryAt
 returns c =
-    let at-weight = c .before .before in
+    let at-weight = c .before in
     let at-is-set2 = at-weight .before in
     let at-pixel-code = at-is-set2 .before in
     let at-is-set = at-pixel-code .before in
@@ -65,8 +61,8 @@ returns c =
         at-line-at .line-at .ensures .0,
         at-is-set .is-set .ensures,
       ),
-      c .both .ensures ∙ rw (
-        c .before .is-set3 .ensures,
+      rw (
+        c .is-set3 .ensures,
         at-pixel-code .pixel-code .ensures .0,
         at-line-at .line-at .ensures .0,
         at-is-set .is-set .ensures,
@@ -91,5 +87,4 @@ map-pixel-spec =
     weight-requires
     add-t13
     is-set-requires-3
-    both-requires
     returns)
