@@ -22,7 +22,7 @@ fn place_of(tall: bool, chr: usize) -> usize
     ensures { λ r. ⌜ r ≡ 1024 * tileRow tall chr + 8 * tileColumn tall chr ⌝ }
     ensures { λ r. ⌜ r + 904 ≤ 32768 ⌝ }
 {
-    if small::both(tall, 256 <= chr) {
+    if tall & (256 <= chr) {
         1024 * (2 * (chr / 32) + chr % 2) + 8 * (chr % 32 / 2)
     } else {
         1024 * (chr / 16) + 8 * (chr % 16)
@@ -62,7 +62,7 @@ fn dump_tile(
 {
     let place = place_of(tall, chr);
     let sprite = 256 <= chr;
-    let addr = small::weight(small::both(sprite, high), 8192) + 32 * (chr % 256);
+    let addr = small::weight(sprite & high, 8192) + 32 * (chr % 256);
     let mut line: usize = 0;
     while line < 8 {
         dump_line(

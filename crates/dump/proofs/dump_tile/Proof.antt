@@ -24,9 +24,6 @@ abbrev μ-loop : tie.MeasureT-loop
 place-of-requires : tie.Need-place-of-requires Inv-loop μ-loop
 place-of-requires c κs = search needs
 
-both-requires : tie.Need-both-requires Inv-loop μ-loop
-both-requires c κs = search needs
-
 weight-requires : tie.Need-weight-requires Inv-loop μ-loop
 weight-requires c κs = search needs
 
@@ -66,8 +63,7 @@ loop-again c =
     let at-dump-line = c .before .before in
     let at-loop = at-dump-line .before .before .before in
     let at-weight = at-loop .before in
-    let at-both = at-weight .before in
-    let at-place-of = at-both .before in
+    let at-place-of = at-weight .before in
     let at-start = at-place-of .before .before .before in
     let a = at-start .args in
     let l = at-loop .loop .line in
@@ -79,8 +75,7 @@ loop-again c =
           line-step (a .vram .now) (a .tall) (a .high) (a .colours .now) base (a .chr) l hc hl (at-loop .loop .inv .2 base d)
           (λ k. at-dump-line .dump-line .ensures k ∙ rw (
             at-weight .weight .ensures .0,
-            weighed (at-both .both .result) 8192,
-            at-both .both .ensures,
+            weighed _ 8192,
             at-place-of .place-of .ensures .0,
           )),
     )
@@ -90,7 +85,7 @@ same-length c = search needs
 
 returns : tie.Need-returns Inv-loop μ-loop
 returns c =
-    let at-start = c .before .before .before .before .before .before .before in
+    let at-start = c .before .before .before .before .before .before in
     λ base d.
     let e : 8 * at-start .args .chr + c .before .loop .line ≡ 8 * (at-start .args .chr + 1) = omega arith in
     rw e at (c .before .loop .inv .2 base d)
@@ -102,7 +97,6 @@ dump-tile-spec =
     Inv-loop
     μ-loop
     place-of-requires
-    both-requires
     weight-requires
     mul-addr
     add-addr

@@ -1,13 +1,9 @@
 -- `dump::place_of` meets its contract: the sheet's pixel at which tile chr starts.
 use borrow.Author.Needs.{needs}
-use mathlib.Core.Path.{sym, _∙_}
 use native.Mathlib.Omega.{arith}
 use Rattle.dump.specs.Dump.{tileColumn, tileRow}
 use Rattle.dump.proofs.place_of.Statement.{statement}
 use Rattle.dump.proofs.place_of.Tie as tie
-
-both-requires : tie.Need-both-requires
-both-requires c κs = search needs
 
 mul-result : tie.Need-mul-result
 mul-result c = search needs
@@ -35,17 +31,16 @@ add-result-3 c = search needs
 
 returns : tie.Need-returns
 unfolding tileColumn tileRow
-returns c = (rw (sym (c .before .both .ensures) ∙ c .if1 .taken), omega arith)
+returns c = (rw (c .if1 .taken), omega arith)
 
 returns-2 : tie.Need-returns-2
 unfolding tileColumn tileRow
-returns-2 c = (rw (sym (c .before .both .ensures) ∙ c .if1 .left), omega arith)
+returns-2 c = (rw (c .if1 .left), omega arith)
 
 pub place-of-spec : {M : Type 1} → statement M
 place-of-spec =
     tie.close
     (tie.spec
-    both-requires
     mul-result
     add-result
     mul-result-2
