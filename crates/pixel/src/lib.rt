@@ -67,7 +67,7 @@ fn home_number(vram: &[u8], reg: [u8; 11], scroll: usize, row: usize, col: usize
     requires { ⌜ (length (now vram) ≡ vramSize) × (scroll < 256) × (row < rows Home) × (col < columns Home) ⌝ }
     ensures { λ r. ⌜ r ≡ pictureOf Home reg scroll (now (vram .entry)) row .colour col ⌝ }
 {
-    if small::both(small::is_set(reg[0], 5), col < 8) {
+    if small::is_set(reg[0], 5) & (col < 8) {
         return 16 + small::wide(reg[7]) % 16;
     }
     let y = (row + scroll) % SCROLL_PIXEL_HEIGHT;

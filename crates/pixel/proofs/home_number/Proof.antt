@@ -22,9 +22,6 @@ array-read-is-set c = search needs
 is-set-requires : tie.Need-is-set-requires
 is-set-requires c κs = search needs
 
-both-requires : tie.Need-both-requires
-both-requires c κs = search needs
-
 array-read-wide : tie.Need-array-read-wide
 array-read-wide c = search needs
 
@@ -36,12 +33,11 @@ add-result c = search needs
 
 returns : tie.Need-returns
 returns c =
-    let at-both = c .before .before in
-    let at-is-set = at-both .before in
+    let at-is-set = c .before .before in
     let at-start = at-is-set .before .before in
     let a = at-start .args in
-    let e : fills (at (a .t2)) (a .col) ≡ true = ap (λ (t : Bool). t && ltb (a .col) 8) (sym (at-is-set .is-set .ensures)) ∙ sym
-    (at-both .both .ensures) ∙ c .before .if1 .taken in
+    let e : fills (at (a .t2)) (a .col) ≡ true = ap (λ (t : Bool). t && ltb (a .col) 8) (sym (at-is-set .is-set .ensures)) ∙
+    c .before .if1 .taken in
     ap (λ (k : ℕ). 16 + k % 16) (c .wide .ensures .0) ∙ home-filled (a .vram .now) (a .t2) (a .scroll) (a .row) (a .col) e
 
 add-y : tie.Need-add-y
@@ -58,7 +54,7 @@ home-line-requires c κs = search needs
 
 column-at-requires : tie.Need-column-at-requires
 column-at-requires c κs =
-    let at-start = c .before .before .before .before .before .before .before in (
+    let at-start = c .before .before .before .before .before .before in (
       record {
         room = search needs;
         last-low =
@@ -76,14 +72,13 @@ returns-2 c =
     let at-home-column = c .before .before in
     let at-names-at = at-home-column .before in
     let at-if1 = at-names-at .before in
-    let at-both = at-if1 .before in
-    let at-is-set = at-both .before in
+    let at-is-set = at-if1 .before in
     let at-start = at-is-set .before .before in
     let a = at-start .args in
     let p = at-start .pre in
     let fit : Fits w8 (getD (a .t2) 8 0) = search needs in
-    let e : fills (at (a .t2)) (a .col) ≡ false = ap (λ (t : Bool). t && ltb (a .col) 8) (sym (at-is-set .is-set .ensures)) ∙ sym
-    (at-both .both .ensures) ∙ at-if1 .if1 .left in
+    let e : fills (at (a .t2)) (a .col) ≡ false = ap (λ (t : Bool). t && ltb (a .col) 8) (sym (at-is-set .is-set .ensures)) ∙
+    at-if1 .if1 .left in
     home-number (a .vram .now) (a .t2) (a .scroll) (a .row) (a .col) _ _ _ _ e (fit .fits) (at-names-at .names-at .ensures .0)
     (at-home-column .home-column .ensures .0) refl
     (c .before .home-line .ensures) (p .3) (c .column-at .ensures)
@@ -94,7 +89,6 @@ home-number-spec =
     (tie.spec
     array-read-is-set
     is-set-requires
-    both-requires
     array-read-wide
     wide-requires
     add-result
