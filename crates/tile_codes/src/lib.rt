@@ -2,7 +2,7 @@
 ghost use mathlib.Core.Path.{_≡_};
 ghost use Prim.Native.Nat.{_+_, _-_, _*_, _<_, _≤_};
 ghost use lib.ListN.{length, take};
-ghost use Rattle.laws.specs.Bits.{bit, digit, number, byteOf};
+ghost use Rattle.laws.specs.Bits.{bit, digit, byteOf};
 ghost use Rattle.laws.specs.Lists.{at, written};
 ghost use Rattle.picture.specs.Tile.{codeOf};
 ghost use Rattle.tile_codes.specs.Tiles.{codesAt, tileBytes};
@@ -19,28 +19,14 @@ fn weighed(byte: u8, i: usize, weight: usize) -> usize
     small::weight(small::is_set(byte, i), weight)
 }
 
-// The code that bit i of four bytes has, the first byte's the lowest.
-fn code_of(b0: u8, b1: u8, b2: u8, b3: u8, i: usize) -> u8
-    requires { ⌜ i < 8 ⌝ }
-    ensures { λ r. ⌜ (r ≡ codeOf b0 b1 b2 b3 i) × (r < 16) ⌝ }
+// The code that bit i of the bytes at k0, k1, k2 and k3 has, the first one's the lowest.
+fn code_at(bytes: &[u8], k0: usize, k1: usize, k2: usize, k3: usize, i: usize) -> u8
+    requires { ⌜ (k0 < length (now bytes)) × (k1 < length (now bytes)) × (k2 < length (now bytes)) × (k3 < length (now bytes)) × (i < 8) ⌝ }
+    ensures { λ r. ⌜ (r ≡ codeOf (at (now (bytes .entry)) k0) (at (now (bytes .entry)) k1) (at (now (bytes .entry)) k2) (at (now (bytes .entry)) k3) i) × (r < 16) ⌝ }
 {
-    let low = weighed(b0, i, 1) + weighed(b1, i, 2);
-    let high = weighed(b2, i, 4) + weighed(b3, i, 8);
+    let low = weighed(bytes[k0], i, 1) + weighed(bytes[k1], i, 2);
+    let high = weighed(bytes[k2], i, 4) + weighed(bytes[k3], i, 8);
     (low + high) as u8
-}
-
-// Half a byte of one plane of a tile's line: a bit of each of four codes, which start at `from`; the leftmost is the highest.
-fn plane_half(codes: &[u8], from: usize, plane: usize) -> u8
-    requires { ⌜ (from + 4 ≤ length (now codes)) × (plane < 8) ⌝ }
-    ensures { λ r. ⌜ (r ≡ number 4 (λ b. bit (at (now (codes .entry)) (from + (3 - b))) plane)) × (r < 16) ⌝ }
-{
-    code_of(
-        codes[from + 3],
-        codes[from + 2],
-        codes[from + 1],
-        codes[from],
-        plane,
-    )
 }
 
 // The byte of one plane of a tile's line: a bit of each of its eight codes, which start at `from`; the leftmost is the highest.
@@ -48,7 +34,9 @@ fn plane_byte(codes: &[u8], from: usize, plane: usize) -> u8
     requires { ⌜ (from + 8 ≤ length (now codes)) × (plane < 8) ⌝ }
     ensures { λ r. ⌜ r ≡ byteOf (λ b. bit (at (now (codes .entry)) (from + (7 - b))) plane) ⌝ }
 {
-    16 * plane_half(codes, from, plane) + plane_half(codes, from + 4, plane)
+    let half = from + 4;
+    16 * code_at(codes, from + 3, from + 2, from + 1, from, plane)
+        + code_at(codes, half + 3, half + 2, half + 1, half, plane)
 }
 
 // The 32 bytes of the tile whose codes start at `from`, into dst at `to`.
@@ -63,14 +51,6 @@ fn put_tile(dst: &mut [u8], to: usize, codes: &[u8], from: usize)
     }
 }
 
-// The code of a pixel: bit i of the four bytes at `from`, byte 0 lowest.
-fn code_at(src: &[u8], from: usize, i: usize) -> u8
-    requires { ⌜ (from + 4 ≤ length (now src)) × (i < 8) ⌝ }
-    ensures { λ r. ⌜ r ≡ codeOf (at (now (src .entry)) from) (at (now (src .entry)) (from + 1)) (at (now (src .entry)) (from + 2)) (at (now (src .entry)) (from + 3)) i ⌝ }
-{
-    code_of(src[from], src[from + 1], src[from + 2], src[from + 3], i)
-}
-
 // The 64 codes of the tile whose bytes start at `from`, into a buffer of that length.
 fn get_tile(src: &[u8], from: usize, codes: &mut [u8])
     requires { ⌜ (from + 32 ≤ length (now src)) × (length (now codes) ≡ 64) ⌝ }
@@ -78,7 +58,8 @@ fn get_tile(src: &[u8], from: usize, codes: &mut [u8])
 {
     let mut k = 0;
     while k < 64 {
-        codes[k] = code_at(src, from + 4 * (k / 8), 7 - k % 8);
+        let line = from + 4 * (k / 8);
+        codes[k] = code_at(src, line, line + 1, line + 2, line + 3, 7 - k % 8);
         k += 1;
     }
 }

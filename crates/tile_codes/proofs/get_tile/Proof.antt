@@ -23,11 +23,20 @@ loop-holds c =
     let at-start = c .before .before in
     (omega arith, paste-zero (at-start .args .codes .now) 0 (codesAt (at (at-start .args .src .now)) (at-start .args .from)), omega arith)
 
-mul-code-at : tie.Need-mul-code-at Inv-loop μ-loop
-mul-code-at c = search needs
+mul-line : tie.Need-mul-line Inv-loop μ-loop
+mul-line c = search needs
+
+add-line : tie.Need-add-line Inv-loop μ-loop
+add-line c = search needs
 
 add-code-at : tie.Need-add-code-at Inv-loop μ-loop
 add-code-at c = search needs
+
+add-code-at-2 : tie.Need-add-code-at-2 Inv-loop μ-loop
+add-code-at-2 c = search needs
+
+add-code-at-3 : tie.Need-add-code-at-3 Inv-loop μ-loop
+add-code-at-3 c = search needs
 
 sub-code-at : tie.Need-sub-code-at Inv-loop μ-loop
 sub-code-at c = search needs
@@ -54,7 +63,7 @@ loop-again c =
     let h : l .k < length s = omega (arith, codes-long (at (a .src .now)) (a .from)) in (
       omega arith,
       fill-step (a .codes .now) 0 s (l .k) (omega arith) h (omega arith)
-          (code-is (at (a .src .now)) (a .from) (l .k) (omega arith) (c .code-at .ensures)) (l .inv .1),
+          (code-is (at (a .src .now)) (a .from) (l .k) (omega arith) (c .code-at .ensures .0)) (l .inv .1),
       simp length-set (l .inv .2),
     )
 
@@ -77,8 +86,11 @@ get-tile-spec =
     Inv-loop
     μ-loop
     loop-holds
-    mul-code-at
+    mul-line
+    add-line
     add-code-at
+    add-code-at-2
+    add-code-at-3
     sub-code-at
     code-at-requires
     slice-write-codes
