@@ -1,29 +1,38 @@
 -- The list of sprites on a line, one at a time.
 -- Assumes nothing.
 use mathlib.Core.Path.{_≡_, refl, sym, ap, _∙_, subst}
+use mathlib.Core.Logic.{_≢_}
 use mathlib.Core.List.{List, [], _∷_}
 use mathlib.Core.Bool.{Bool, true, false, cond, _&&_}
-use Prim.Native.Nat.{ℕ, suc, _+_, _-_, _*_, _%_, _^_, _<_, _≤_}
+use Prim.Native.Nat.{ℕ, suc, _+_, _-_, _*_, _/_, _%_, _^_, _<_, _≤_}
 use native.Mathlib.Decide.{decLt}
 use native.Mathlib.Numerals.{add-one}
 use native.Mathlib.Omega.{arith}
 use lib.Dec.{eqb, ltb, leb, leb·suc-suc}
-use lib.ListN.{length, take}
-use lib.Seq.{take-nil}
-use borrow.Author.Tests.{lt-ltb, le-ltb, le-leb, lt-leb}
+use lib.Bits.{bitOr}
+use lib.ListN.{length, take, set}
+use lib.Seq.{take-nil, getD-set-other}
+use borrow.Author.Tests.{lt-ltb, le-ltb, le-leb, lt-leb, ltb-true, ltb-false}
+use Rattle.laws.specs.Bits.{byteOf}
 use Rattle.laws.specs.Lists.{at}
 use Rattle.laws.specs.Paint.{painted}
-use Rattle.bitmap.specs.Mask.{cleared}
+use Rattle.laws.proofs.Bits.{number-lt}
+use Rattle.laws.proofs.Tests.{both}
+use Rattle.bitmap.specs.Mask.{bytesOf, byteAt, withByte, cleared}
+use Rattle.bitmap.proofs.Circle.{read-is, mark-is}
 use Rattle.picture.specs.declared.Stand.{Stand}
 use Rattle.picture.specs.declared.Screen.{Screen}
 use Rattle.picture.specs.Tile.{codeAt}
 use Rattle.picture.specs.View.{early}
 use Rattle.picture.specs.Layers.{owned, ownedBy, layersWith, layersIn}
-use Rattle.picture.specs.Picture.{Canvas, laid, tableAt, topOf, tall, onLine, listed, spriteLine, spriteCode, withSprite, withSprites, bare}
-use Rattle.sprites.specs.declared.Marks.{Marks}
+use Rattle.picture.specs.Picture.{Canvas, solid, laid, tableAt, topOf, tall, onLine, listed, spriteLine, spriteCode, withSprite, withSprites, bare}
+use Rattle.tile.specs.Line.{lineMarked}
 use Rattle.stand.specs.Stand.{standOf}
-use Rattle.sprites.specs.Sprites.{Follows, Laid}
-use Rattle.sprites.proofs.Laws.{Shows}
+use Rattle.sprites.specs.declared.Marks.{Marks}
+use Rattle.sprites.specs.declared.Next.{Next}
+use Rattle.sprites.specs.declared.Turn.{Turn}
+use Rattle.sprites.specs.Sprites.{Follows, Laid, Turned, bitsOf, lineOf, eightOf}
+use Rattle.sprites.proofs.Laws.{Shows, shows-laid, owns-laid}
 
 -- the sprite that the code lays is sprite n
 pub with-sprite-is : (vram reg : List ℕ) (screen : Screen) (line n d : ℕ) (f : ℕ → Bool) (c : Canvas) {s : Stand} {e table addr : ℕ} → table ≡
@@ -34,7 +43,7 @@ pub with-sprite-is : (vram reg : List ℕ) (screen : Screen) (line n d : ℕ) (f
 unfolding withSprite spriteCode
 with-sprite-is vram reg screen line n d f c te ee se de ae = rw (se, ae, de, ee, te)
 
-pub owned-is : (vram reg : List ℕ) (screen : Screen) (line n d : ℕ) (f : ℕ → Bool) (c : Canvas) (own : ℕ → ℕ) {s : Stand} {e table addr : ℕ} → table
+owned-is : (vram reg : List ℕ) (screen : Screen) (line n d : ℕ) (f : ℕ → Bool) (c : Canvas) (own : ℕ → ℕ) {s : Stand} {e table addr : ℕ} → table
     ≡ tableAt (at reg)
     → e ≡ early (at reg) → s ≡ standOf screen e (at vram (table + 128 + 2 * n)) → d ≡ line - topOf (at vram) (at reg) n
     → addr ≡ spriteLine (at reg) (at vram (table + 128 + 2 * n + 1)) d
@@ -135,36 +144,29 @@ module _ (m g : ℕ → ℕ) (stand : ℕ → Stand) (l : ℕ) (f : ℕ → Bool
         many = sym (lt-ltb 0 (suc (length (listed m g l (64 - (p + 1)) (p + 1)))) z) ∙ (rw (e, k) at (o .many));
       }
 
--- ---- the same, where the code has found the next sprite on the line already: sprite n, of which line d is shown
-pub record Facing (m g : ℕ → ℕ) (stand : ℕ → Stand) (l : ℕ) (f : ℕ → Bool) (colour : ℕ → ℕ) (n d count : ℕ) (S : Canvas → (ℕ → ℕ) → Type 0) : Type 0
-  where
-    pub from : ℕ
-    pub going : Going m g stand l f colour from count S
-    pub follows : Follows m g l from n d
-
-module _ (m g : ℕ → ℕ) (stand : ℕ → Stand) (l : ℕ) (f : ℕ → Bool) (colour : ℕ → ℕ) where
-  pub facing-on : {n d n′ d′ count count′ : ℕ} {S : Canvas → (ℕ → ℕ) → Type 0} (S′ : Canvas → (ℕ → ℕ) → Type 0) → n < 64 → count < 8 → count′ ≡ count
-      + 1
-      → (o : Facing m g stand l f colour n d count S)
-      → S′ (withSprite m g stand l f n (o .going .canvas)) (ownedBy m g stand l f n (o .going .canvas) (o .going .layer))
-      → Follows m g l (n + 1) n′ d′ → Facing m g stand l f colour n′ d′ count′ S′
-  facing-on {n} S′ low h q o s e = record {
-    from = n + 1;
-    going = going-on m g stand l f colour S′ (o .follows .next low) h q (o .going) s;
-    follows = e;
-  }
-
-  pub facing-ends : {n d count : ℕ} (S : Canvas → (ℕ → ℕ) → Type 0) → 64 ≤ n → Facing m g stand l f colour n d count S → Done m g stand l f colour
-      false S
-  facing-ends S h o = going-ends m g stand l f colour S (o .follows .none h) (o .going)
-
-  pub facing-full : {n d count : ℕ} (S : Canvas → (ℕ → ℕ) → Type 0) → n < 64 → count ≡ 8 → Facing m g stand l f colour n d count S → Done m g stand l
-      f colour true S
-  facing-full S low h o = going-full m g stand l f colour S (o .follows .next low) h (o .going)
-
 pub list-done : (m g : ℕ → ℕ) (l n : ℕ) → 64 ≤ n → listed m g l (64 - n) n ≡ []
 unfolding listed
 list-done m g l n e = let z : 64 - n ≡ 0 = omega arith in rw z
+
+-- ---- the code's test of the next sprite, n, of which line d is shown: it has its turn, or the list is laid, with a ninth where n is one
+pub has-turn : (n count : ℕ) {b : Bool} → b ≡ (ltb n 64 && ltb count 8) → b ≡ true → (n < 64) × (count < 8)
+has-turn n count e q =
+    let t = both (ltb n 64) (ltb count 8) (sym e ∙ q) in
+    (ltb-true n 64 (t .0), ltb-true count 8 (t .1))
+
+pub going-stops : (m g : ℕ → ℕ) (stand : ℕ → Stand) (l : ℕ) (f : ℕ → Bool) (colour : ℕ → ℕ) (S : Canvas → (ℕ → ℕ) → Type 0) {from n d count : ℕ} {b : Bool}
+    → count ≤ 8 → b ≡ (ltb n 64 && ltb count 8) → b ≡ false → Follows m g l from n d → Going m g stand l f colour from count S
+    → Done m g stand l f colour (ltb n 64) S
+going-stops m g stand l f colour S {n} {count} h e q w o =
+    elim (decLt n 64) [
+      | yes k ↦
+          let t : ltb count 8 ≡ false = rw (lt-ltb n 64 k) at (sym e ∙ q) in
+          let full : count ≡ 8 = omega (arith, ltb-false count 8 t) in
+          rw (lt-ltb n 64 k) (going-full m g stand l f colour S (w .next k) full o)
+      | no k ↦
+          let past : 64 ≤ n = omega arith in
+          rw (le-ltb n 64 past) (going-ends m g stand l f colour S (w .none past) o)
+    ]
 
 -- ---- what the code's tests say of sprite n, whose Y byte is y
 module _ (m g : ℕ → ℕ) (l n : ℕ) {table y : ℕ} (te : table ≡ tableAt g) (ye : y ≡ m (table + n)) where
@@ -223,3 +225,55 @@ module _ (m g : ℕ → ℕ) (stand : ℕ → Stand) (l : ℕ) (f : ℕ → Bool
         line = record { bytes = d .shows .canvas .bytes; struck = d .shows .canvas .hit; many = d .many; owners = d .shows .owners };
         marks = d .shows .canvas .mask;
       }
+
+-- ---- a turn
+bits-small : (vram : List ℕ) (addr : ℕ) (s : Stand) (held : ℕ) → bitsOf vram addr s held < 256
+unfolding byteOf
+bits-small vram addr s held = by-seen (s .seen)
+  where
+    by-seen : (b : Bool) → cond b (byteOf (lineMarked vram addr (s .start) (s .end) held)) (byteOf (solid (s .start) (s .end) (codeAt (at vram) addr))) < 256
+    by-seen true = number-lt 8 _
+    by-seen false = number-lt 8 _
+
+-- eight bits of a mask, and a mask with eight marked, by the two bytes that they are in
+module _ {m : List ℕ} (f : ℕ → Bool) (place : ℕ) (e : m ≡ bytesOf f) where
+  eight-are : eightOf (at m (place % 256 / 8)) (at m ((place % 256 / 8 + 1) % 32)) place ≡ byteAt m place
+  eight-are = let q : place % 8 ≡ place % 256 % 8 = omega arith in rw q (read-is f place e)
+
+  eight-laid : {low high : ℕ} (v : ℕ) → v < 256 → low ≡ bitOr (at m (place % 256 / 8)) (v * 2 ^ (place % 8) % 256)
+      → high ≡ bitOr (at m ((place % 256 / 8 + 1) % 32)) (v / 2 / 2 ^ (8 - place % 8 - 1))
+      → set (set m (place % 256 / 8) low) ((place % 256 / 8 + 1) % 32) high ≡ withByte m place v
+  eight-laid {low} {high} v small le he =
+      let q : place % 8 ≡ place % 256 % 8 = omega arith in
+      let o : (place % 256 / 8 + 1) % 32 ≢ place % 256 / 8 = λ z. omega arith in
+      let h : high ≡ bitOr (at (set m (place % 256 / 8) low) ((place % 256 / 8 + 1) % 32)) (v / 2 / 2 ^ (8 - place % 8 - 1)) = he ∙ sym
+      (rw (getD-set-other m (place % 256 / 8) ((place % 256 / 8 + 1) % 32) low 0 o)) in
+      rw (h, le, q) (mark-is f place v e small)
+
+-- the row, its layers and the marks with sprite `next` show it laid on what they showed
+pub told-on :
+    (vram reg : List ℕ) (screen : Screen) (line : ℕ) (f : ℕ → Bool) (next : Next) (count : ℕ) {row₀ layers₀ colours prio row marks layers row′ layers′ : List ℕ}
+    {width e table : ℕ} {met : Bool} {c : Canvas} {own : ℕ → ℕ} {s : Stand} {r : Turn} → table ≡ tableAt (at reg) → e ≡ early (at reg)
+    → s ≡ standOf screen e (at vram (table + 128 + 2 * next .n)) → s .end ≤ 8 → next .d ≡ line - topOf (at vram) (at reg) (next .n)
+    → width * 4 ≤ length row → prio ≡ bytesOf f → Told row₀ layers₀ colours width row marks layers met c own
+    → Turned row layers vram colours (lineOf vram (at reg) table next)
+    (eightOf (at prio (s .prio % 256 / 8)) (at prio ((s .prio % 256 / 8 + 1) % 32)) (s .prio))
+    (eightOf (at marks (s .mark % 256 / 8)) (at marks ((s .mark % 256 / 8 + 1) % 32)) (s .mark)) width (next .n) s (at marks (s .mark % 256 / 8))
+    (at marks ((s .mark % 256 / 8 + 1) % 32)) met count r row′ layers′
+    → Told row₀ layers₀ colours width row′ (set (set marks (s .mark % 256 / 8) (r .low)) ((s .mark % 256 / 8 + 1) % 32) (r .high)) layers′
+    (r .hit) (withSprite (at vram) (at reg) (standOf screen (early (at reg))) line f (next .n) c)
+    (ownedBy (at vram) (at reg) (standOf screen (early (at reg))) line f (next .n) c own)
+told-on vram reg screen line f next count {row₀} {layers₀} {colours} {width} {table} {c} {own} {s} te ee se low de room pe t r =
+    let addr = lineOf vram (at reg) table next in
+    let held = eight-are f (s .prio) pe in
+    let taken = eight-are (c .mask) (s .mark) (t .canvas .mask) in
+    let small = bits-small vram addr s _ in
+    record {
+      canvas =
+          rw (← with-sprite-is vram reg screen line (next .n) (next .d) f c te ee se de refl)
+          (shows-laid s vram addr f c low width colours row₀ room pe (t .canvas) held taken small (r .bytes) refl
+          (r .met) (eight-laid (c .mask) (s .mark) (t .canvas .mask) _ small (r .lower) (r .upper)));
+      owners =
+          rw (← owned-is vram reg screen line (next .n) (next .d) f c own te ee se de refl)
+          (owns-laid s vram addr f c low width (next .n) layers₀ own pe (t .canvas) (t .owners) held taken (r .owners));
+    }

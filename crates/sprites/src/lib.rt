@@ -2,22 +2,20 @@
 ghost use mathlib.Core.Path.{_≡_};
 ghost use mathlib.Core.Bool.{Bool, cond, not, _||_};
 ghost use mathlib.Core.List.{List};
-ghost use Prim.Native.Nat.{ℕ, _+_, _*_, _/_, _%_, _<_, _≤_};
+ghost use Prim.Native.Nat.{ℕ, _+_, _-_, _*_, _/_, _%_, _^_, _<_, _≤_};
 ghost use lib.ListN.{length};
-ghost use lib.Bits.{bitAnd};
+ghost use lib.Bits.{bitAnd, bitOr};
 ghost use lib.Dec.{eqb};
-ghost use Rattle.laws.specs.Bits.{byteOf};
 ghost use Rattle.laws.specs.Lists.{at};
-ghost use Rattle.laws.specs.Paint.{painted, overlaid};
+ghost use Rattle.laws.specs.Paint.{painted};
 ghost use Rattle.laws.specs.Sizes.{vramSize};
 ghost use Rattle.bitmap.specs.Mask.{bytesOf, cleared};
-ghost use Rattle.picture.specs.Tile.{codeAt};
 ghost use Rattle.picture.specs.View.{early};
-ghost use Rattle.picture.specs.Picture.{solid, tableAt, tall, spriteLine};
+ghost use Rattle.picture.specs.Picture.{tableAt, tall, spriteLine};
 ghost use Rattle.picture.specs.Layers.{layersIn};
-ghost use Rattle.tile.specs.Line.{coloursIn, lineMarked, lineDrawn, lineHeld, spriteColour};
+ghost use Rattle.tile.specs.Line.{coloursIn};
 ghost use Rattle.stand.specs.Stand.{standOf, Fits};
-ghost use Rattle.sprites.specs.Sprites.{Follows, Finished, Laid, Room, stampedIf};
+ghost use Rattle.sprites.specs.Sprites.{Follows, Finished, Laid, Room, Tabled, Turned, stampedIf, lineOf, eightOf};
 use bitmap::Bitmap;
 use column::Columns;
 use picture::Screen;
@@ -29,9 +27,18 @@ pub struct Next {
     pub d: usize,
 }
 
-// What one sprite leaves: the pixels that it marks, and how many sprites the line has with it.
-struct Marked {
-    bits: u8,
+// What the registers say of the sprites: where their table starts, the lines of each, and what the early clock takes off X.
+struct Table {
+    start: usize,
+    lines: usize,
+    early: u8,
+}
+
+// What a sprite's turn leaves: the two bytes of the mask with its marks, whether two pixels have met, and how many sprites the line has with it.
+struct Turn {
+    low: u8,
+    high: u8,
+    hit: bool,
     count: usize,
 }
 
@@ -83,6 +90,17 @@ pub fn height(tall: bool) -> usize
     if tall { 16 } else { 8 }
 }
 
+// The three together.
+fn table_of(reg: [u8; 11]) -> Table
+    ensures { λ r. ⌜ Tabled (at reg) r ⌝ }
+{
+    Table {
+        start: table_at(reg),
+        lines: height(small::is_set(reg[1], 1)),
+        early: early_of(reg),
+    }
+}
+
 // The first address of the sprites' tiles.
 fn pattern_base(high: bool) -> usize
     ensures { λ r. ⌜ r ≡ cond high 8192 0 ⌝ }
@@ -118,27 +136,11 @@ pub fn line_at(reg: [u8; 11], num: u8, d: usize) -> usize
 
 // ---- one sprite
 
-// Either of two.
-fn or(a: bool, b: bool) -> bool
-    ensures { λ r. ⌜ r ≡ (a || b) ⌝ }
+// Whether two pixels have met: before, or one of the pixels `bits` one of those that are `taken`.
+fn collision_calc(hit: bool, taken: u8, bits: u8) -> bool
+    ensures { λ r. ⌜ r ≡ (hit || not (eqb (bitAnd taken bits) 0)) ⌝ }
 {
-    if a { true } else { b }
-}
-
-// Whether one of the pixels `bits` is among those that are `taken`.
-fn collision_calc(taken: u8, bits: u8) -> bool
-    ensures { λ r. ⌜ r ≡ not (eqb (bitAnd taken bits) 0) ⌝ }
-{
-    taken & bits != 0
-}
-
-fn leaves(bits: u8, count: usize) -> Marked
-    ensures { λ r. ⌜ (r .bits ≡ bits) × (r .count ≡ count) ⌝ }
-{
-    Marked {
-        bits: bits,
-        count: count,
-    }
+    if hit { true } else { taken & bits != 0 }
 }
 
 // What became of the columns of sprite n, from column x on, into the layers; a layer buffer with fewer bytes than the row has columns asks for none.
@@ -146,42 +148,66 @@ fn own(layers: &mut [u8], width: usize, x: usize, n: usize, columns: Columns)
     requires { ⌜ (x < 65536) × (n < 64) ⌝ }
     ensures { λ r. ⌜ now (layers .exit) ≡ stampedIf (now (layers .entry)) width x n (columns .drawn) (columns .held) ⌝ }
 {
-    let drawn = columns.drawn;
-    let held = columns.held;
     if width <= layers.len() {
-        tile::own_columns(layers, width, x, n, drawn, held);
+        tile::own_columns(layers, width, x, n, columns.drawn, columns.held);
     }
 }
 
-// Sprite n, which stands at s and whose tile line is at addr, where `held` is what priority holds back, `taken` what others have marked and
-// `count` how many they are. An unseen one counts and marks too, and draws nothing; it owns no pixel.
+// What the turn of a sprite leaves that marks the pixels `bits` from `place` up, where others have marked those that are `taken`.
+fn marked(low: u8, high: u8, place: usize, hit: bool, taken: u8, bits: u8, count: usize) -> Turn
+    ensures { λ r. ⌜ r .low ≡ bitOr low (bits * 2 ^ (place % 8) % 256) ⌝ }
+    ensures { λ r. ⌜ r .high ≡ bitOr high (bits / 2 / 2 ^ (8 - place % 8 - 1)) ⌝ }
+    ensures { λ r. ⌜ r .hit ≡ (hit || not (eqb (bitAnd taken bits) 0)) ⌝ }
+    ensures { λ r. ⌜ r .count ≡ count ⌝ }
+{
+    let shift = place % 8;
+    Turn {
+        low: low | bitmap::lower(bits, shift),
+        high: high | bitmap::upper(bits, shift),
+        hit: collision_calc(hit, taken, bits),
+        count: count,
+    }
+}
+
+// Where sprite n stands, by its X byte.
+fn stand_of(vram: &[u8], screen: Screen, e: u8, table: usize, n: usize) -> Stand
+    requires { ⌜ (length (now vram) ≡ vramSize) × (table ≤ 16128) × (n < 64) × (e ≤ 8) ⌝ }
+    ensures { λ r. ⌜ r ≡ standOf screen e (at (now (vram .entry)) (table + 128 + 2 * n)) ⌝ }
+    ensures { λ r. ⌜ Fits r ⌝ }
+{
+    stand::settings(screen, e, vram[table + 128 + 2 * n])
+}
+
+// The turn of the next sprite, which stands at s: `front` and `behind` are the two bytes of the priority mask that it is tested against, `low` and `high` those
+// of the sprites' mask that it marks, `count` how many were before it. An unseen one counts and marks too, and draws nothing; it owns no pixel.
 fn render_sprite(
     row: &mut [u8],
     layers: &mut [u8],
     vram: &[u8],
     colours: &[u32; 32],
     bytes: &[u8; 128],
+    reg: [u8; 11],
     width: usize,
-    held: u8,
-    taken: u8,
-    n: usize,
+    table: usize,
+    next: Next,
     s: Stand,
-    addr: usize,
+    front: u8,
+    behind: u8,
+    low: u8,
+    high: u8,
+    hit: bool,
     count: usize,
-) -> Marked
+) -> Turn
+    requires { ⌜ Room (now vram) (now row) width ⌝ }
     requires { ⌜ Fits s ⌝ }
-    requires { ⌜ (addr + 4 ≤ length (now vram)) × (width * 4 ≤ length (now row)) × (count < 8) × (n < 64) × (coloursIn (now bytes) ≡ now colours) ⌝ }
-    ensures { λ r. ⌜ now (row .exit) ≡ cond (s .seen) (overlaid (now (row .entry)) (s .x) 8 (lineDrawn (now (vram .entry)) addr (s .start) (s .end) held taken width (s .x)) (spriteColour (now (colours .entry)) (now (vram .entry)) addr (s .start))) (now (row .entry)) ⌝ }
-    ensures { λ r. ⌜ r .bits ≡ cond (s .seen) (byteOf (lineMarked (now (vram .entry)) addr (s .start) (s .end) held)) (byteOf (solid (s .start) (s .end) (codeAt (at (now (vram .entry))) addr))) ⌝ }
-    ensures { λ r. ⌜ r .count ≡ count + 1 ⌝ }
-    ensures { λ r. ⌜ now (layers .exit) ≡ cond (s .seen) (stampedIf (now (layers .entry)) width (s .x) n (byteOf (lineDrawn (now (vram .entry)) addr (s .start) (s .end) held taken width (s .x))) (byteOf (lineHeld (now (vram .entry)) addr (s .start) (s .end) held))) (now (layers .entry)) ⌝ }
+    requires { ⌜ (table ≤ 16128) × (next .n < 64) × (next .d < 16) × (count < 8) × (coloursIn (now bytes) ≡ now colours) ⌝ }
+    ensures { λ r. ⌜ Turned (now (row .entry)) (now (layers .entry)) (now (vram .entry)) (now (colours .entry)) (lineOf (now (vram .entry)) (at reg) table next) (eightOf front behind (s .prio)) (eightOf low high (s .mark)) width (next .n) s low high hit count r (now (row .exit)) (now (layers .exit)) ⌝ }
 {
-    let seen = s.seen;
-    let x = s.x;
-    let start = s.start;
-    let end = s.end;
+    let addr = line_at(reg, vram[table + 128 + 2 * next.n + 1], next.d);
+    let held = bitmap::window(front, behind, s.prio % 8);
+    let taken = bitmap::window(low, high, s.mark % 8);
     let more = count + 1;
-    if seen {
+    if s.seen {
         let columns = tile::character_line_sprite(
             row,
             vram,
@@ -191,15 +217,15 @@ fn render_sprite(
             held,
             taken,
             width,
-            x,
-            start,
-            end,
+            s.x,
+            s.start,
+            s.end,
         );
-        own(layers, width, x, n, columns);
-        return leaves(columns.marks, more);
+        own(layers, width, s.x, next.n, columns);
+        return marked(low, high, s.mark, hit, taken, columns.marks, more);
     }
-    let bits = tile::character_line_sprite_bitmap(vram, addr, start, end);
-    leaves(bits, more)
+    let bits = tile::character_line_sprite_bitmap(vram, addr, s.start, s.end);
+    marked(low, high, s.mark, hit, taken, bits, more)
 }
 
 // ---- the line
@@ -231,13 +257,8 @@ pub fn next_sprite(vram: &[u8], reg: [u8; 11], from: usize, line: usize) -> Next
     ensures { λ r. ⌜ Follows (at (now (vram .entry))) (at reg) line from (r .n) (r .d) ⌝ }
     ensures { λ r. ⌜ (from ≤ r .n) × (r .n ≤ 64) × (r .d < 16) × (64 ≤ r .n → r .d ≡ 0) ⌝ }
 {
-    next_on(
-        vram,
-        table_at(reg),
-        from,
-        line,
-        height(small::is_set(reg[1], 1)),
-    )
+    let table = table_of(reg);
+    next_on(vram, table.start, from, line, table.lines)
 }
 
 // The sprites of a line, over its background, under the priority mask `prio`, with what they mark joined to `mask`, and the layers that they own. Both
@@ -259,57 +280,47 @@ fn sprites_line(
     requires { ⌜ coloursIn (now bytes) ≡ now colours ⌝ }
     ensures { λ r. ⌜ ((row₀ layers₀ : List ℕ) (f : ℕ → Bool) (colour : ℕ → ℕ) → prio .bits ≡ bytesOf f → mask .bits ≡ cleared → now (row .entry) ≡ painted row₀ 0 width (λ x. at (now (colours .entry)) (colour x)) → now (layers .entry) ≡ layersIn layers₀ width (λ x. 0) → Laid (at (now (vram .entry))) (at reg) (standOf screen (early (at reg))) line f row₀ (now (colours .entry)) width colour (now (row .exit)) r layers₀ (now (layers .exit))) ⌝ }
 {
-    let table = table_at(reg);
-    let lines = height(small::is_set(reg[1], 1));
-    let e = early_of(reg);
+    let table = table_of(reg);
     let mut hit = false;
     let mut count: usize = 0;
-    let mut next = next_on(vram, table, 0, line, lines);
-    while next.n < 64 {
-        if count >= 8 {
+    let mut from: usize = 0;
+    loop {
+        let next = next_on(vram, table.start, from, line, table.lines);
+        if small::both(next.n < 64, count < 8) {
+            let s = stand_of(vram, screen, table.early, table.start, next.n);
+            let p = s.prio % 256 / 8;
+            let low = s.mark % 256 / 8;
+            let high = (low + 1) % 32;
+            let one = render_sprite(
+                row,
+                layers,
+                vram,
+                colours,
+                bytes,
+                reg,
+                width,
+                table.start,
+                next,
+                s,
+                prio.bits[p],
+                prio.bits[(p + 1) % 32],
+                mask.bits[low],
+                mask.bits[high],
+                hit,
+                count,
+            );
+            mask.bits[low] = one.low;
+            mask.bits[high] = one.high;
+            hit = one.hit;
+            count = one.count;
+            from = next.n + 1;
+        } else {
             return Marks {
                 mask: mask,
                 hit: hit,
-                ninth: true,
+                ninth: next.n < 64,
             };
         }
-        let k = table + 128 + 2 * next.n;
-        let s = stand::settings(screen, e, vram[k]);
-        let addr = line_at(reg, vram[k + 1], next.d);
-        let front = s.prio % 256;
-        let p = front / 8;
-        let held = bitmap::window(prio.bits[p], prio.bits[(p + 1) % 32], front % 8);
-        let place = s.mark % 256;
-        let low = place / 8;
-        let high = (low + 1) % 32;
-        let taken = bitmap::window(mask.bits[low], mask.bits[high], place % 8);
-        let n = next.n;
-        let one = render_sprite(
-            row,
-            layers,
-            vram,
-            colours,
-            bytes,
-            width,
-            held,
-            taken,
-            n,
-            s,
-            addr,
-            count,
-        );
-        let bits = one.bits;
-        hit = or(hit, collision_calc(taken, bits));
-        mask.bits[low] |= bitmap::lower(bits, place % 8);
-        mask.bits[high] |= bitmap::upper(bits, place % 8);
-        count = one.count;
-        let after = next.n + 1;
-        next = next_on(vram, table, after, line, lines);
-    }
-    Marks {
-        mask: mask,
-        hit: hit,
-        ninth: false,
     }
 }
 
