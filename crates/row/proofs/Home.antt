@@ -1,4 +1,4 @@
--- The home machine's row: two runs of background side by side, their masks joined, and the fill over the finished row.
+-- The home machine's background, two runs side by side with their masks joined, the fill over a finished row, and the row of each screen.
 -- Assumes nothing.
 use mathlib.Core.Path.{_≡_, refl, sym, ap, _∙_}
 use mathlib.Core.List.{List, _++_}
@@ -20,17 +20,19 @@ use Rattle.laws.proofs.Parts.{set-past}
 use Rattle.laws.proofs.Tests.{cond-in}
 use Rattle.bitmap.specs.Mask.{bytesOf, joined}
 use Rattle.bitmap.proofs.Circle.{bytesOf-ext, joined-bytesOf}
-use Rattle.picture.specs.declared.Screen.the-variants.{Home}
+use Rattle.picture.specs.declared.Screen.{Screen}
+use Rattle.picture.specs.declared.Screen.the-variants.{VisibleOnly, EffectiveArea, TrueEdges, Home}
 use Rattle.picture.specs.Tile.{namesAt}
-use Rattle.picture.specs.View.{View, early, home}
+use Rattle.picture.specs.View.{View, early, visible, effective, trueEdges, home}
 use Rattle.picture.specs.Picture.{back, front, picture, fills, filled}
 use Rattle.picture.specs.Layers.{layers, layersOf, layersIn}
-use Rattle.picture.proofs.Layers.{cover-layers}
-use Rattle.picture.specs.Screen.{columns, pictureOf}
+use Rattle.picture.proofs.Layers.{cover-layers, cover-off}
+use Rattle.picture.specs.Screen.{columns, rowSize, viewOf, pictureOf}
 use Rattle.background.specs.Background.{backColour, backFront, shade, prioTo, homeColumn, homeLast}
 use Rattle.background.proofs.Home.{prio-own, home-back-at, home-front-at}
 use Rattle.stand.specs.Stand.{standOf}
-use Rattle.row.specs.Row.{Drawn}
+use Rattle.row.specs.declared.Back.{Back}
+use Rattle.row.specs.Row.{Drawn, Backed, fillOn}
 use Rattle.row.proofs.Laws.{as-bytes, row-is, Sprites}
 
 -- ---- what is painted into a part of a row is painted into the row
@@ -173,36 +175,54 @@ shown-row t row₀ colours f n h re fe =
     ∙ ap (λ (z : List ℕ). cond t (painted z 0 8 (λ i. at colours n)) z) re
     ∙ over-colours t row₀ colours f n h
 
--- ---- the row
-pub home-row : (vram reg : List ℕ) (names sx y last scroll line : ℕ) (row₀ layers₀ colours : List ℕ)
-    {row₁ row₂ row₃ layers₁ layers₂ layers′ prio : List ℕ}
-    {hit ninth : Bool} {bits : ℕ}
-    → at reg 8 < 256 → names ≡ namesAt (at reg) → sx ≡ homeColumn reg line → y ≡ (line + scroll) % 224 → last ≡ homeLast reg line y
-    → 1024 ≤ length row₀
-    → row₁ ≡ painted (painted row₀ 0 192 (shade colours (backColour vram names sx y))) 192 64
-    (shade colours (backColour vram names ((sx + 192) % 256) last))
-    → prio ≡ joined (bytesOf (prioTo vram names sx y 0 192)) (bytesOf (prioTo vram names ((sx + 192) % 256) last 0 64)) → layers₁ ≡ layersIn layers₀
-    256 (λ x. 0)
-    → Sprites (at vram) (at reg) (standOf Home (early (at reg))) line colours 256 prio row₁ row₂ layers₁ layers₂ hit ninth → bits ≡ cond hit 32 0 +
-    cond ninth 64 0
-    → row₃ ≡ cond (bit (at reg 0) 5) (painted row₂ 0 8 (λ i. at colours (16 + at reg 7 % 16))) row₂ → layers′ ≡ layersIn layers₂ 256
-    (λ x. cond (fills (at reg) x) 2 (at layers₂ x))
-    → Drawn Home colours (pictureOf Home reg scroll vram line) row₀ row₃ bits ×
-    (layers′ ≡ layersIn layers₀ (columns Home) (layersOf Home reg scroll vram line))
-unfolding pictureOf layersOf home filled picture
-home-row vram reg names sx y last scroll line row₀ layers₀ colours low ne se ye te room re pe le drawn be fe ue =
-    let v : View = home (at reg) scroll line in
-    let f =
-    drawn row₀ layers₀ (front (at vram) (at reg) v) (back (at vram) (at reg) v)
-    (pe ∙ home-front vram reg names sx y last scroll line low ne se ye te)
-    (re ∙ home-back vram reg names sx y last scroll line low ne se ye te row₀ colours)
-    le in
-    let d = row-is (at vram) (at reg) v row₀ layers₀ colours room f be in
-    let p = picture (at vram) (at reg) v in (
-      record {
-        bytes = as-bytes row₀ colours 256 (filled (at reg) p)
-            (shown-row (bit (at reg 0) 5) row₀ colours (λ x. p .colour x) (16 + at reg 7 % 16) room (f .bytes) fe) room;
-        status = d .1;
-      },
-      cover-layers layers₀ 256 2 (fills (at reg)) (layers (at vram) (at reg) v) (d .2) ue,
-    )
+-- ---- the row of a screen: its background, its sprites over that, and the fill over all
+module _
+    (vram reg : List ℕ) (scroll line : ℕ) (row₀ layers₀ colours : List ℕ) {row₁ row₂ row₃ layers₁ layers₂ layers₃ : List ℕ} {hit ninth : Bool} {bits : ℕ}
+  where
+    by-screen : (s : Screen) (prio : List ℕ) → rowSize s ≤ length row₀
+        → row₁ ≡ painted row₀ 0 (columns s) (λ x. at colours (back (at vram) (at reg) (viewOf s (at reg) scroll line) x))
+        → prio ≡ bytesOf (front (at vram) (at reg) (viewOf s (at reg) scroll line)) → layers₁ ≡ layersIn layers₀ (columns s) (λ x. 0)
+        → Sprites (at vram) (at reg) (standOf s (early (at reg))) (viewOf s (at reg) scroll line .line) colours (columns s) prio row₁ row₂ layers₁
+        layers₂ hit ninth
+        → bits ≡ cond hit 32 0 + cond ninth 64 0
+        → row₃ ≡ cond (fillOn s (at reg)) (painted row₂ 0 8 (λ i. at colours (16 + at reg 7 % 16))) row₂
+        → layers₃ ≡ layersIn layers₂ 256 (λ x. cond (fillOn s (at reg) && ltb x 8) 2 (at layers₂ x))
+        → Drawn s colours (pictureOf s reg scroll vram line) row₀ row₃ bits × (layers₃ ≡ layersIn layers₀ (columns s) (layersOf s reg scroll vram line))
+    unfolding pictureOf layersOf visible effective trueEdges home filled picture
+    by-screen VisibleOnly prio room re pe le drawn be fe ue =
+        let v = visible (at reg) scroll line in
+        let d = row-is (at vram) (at reg) v row₀ layers₀ colours room (drawn row₀ layers₀ (front (at vram) (at reg) v) (back (at vram) (at reg) v) pe re le)
+        be in
+        (record { bytes = fe ∙ d .0; status = d .1 }, ue ∙ sym (cover-off layers₂ 256) ∙ d .2)
+    by-screen EffectiveArea prio room re pe le drawn be fe ue =
+        let v = effective (at reg) line in
+        let d = row-is (at vram) (at reg) v row₀ layers₀ colours room (drawn row₀ layers₀ (front (at vram) (at reg) v) (back (at vram) (at reg) v) pe re le)
+        be in
+        (record { bytes = fe ∙ d .0; status = d .1 }, ue ∙ sym (cover-off layers₂ 256) ∙ d .2)
+    by-screen TrueEdges prio room re pe le drawn be fe ue =
+        let v = trueEdges (at reg) scroll line in
+        let d = row-is (at vram) (at reg) v row₀ layers₀ colours room (drawn row₀ layers₀ (front (at vram) (at reg) v) (back (at vram) (at reg) v) pe re le)
+        be in
+        (record { bytes = fe ∙ d .0; status = d .1 }, ue ∙ sym (cover-off layers₂ 256) ∙ d .2)
+    by-screen Home prio room re pe le drawn be fe ue =
+        let v = home (at reg) scroll line in
+        let p = picture (at vram) (at reg) v in
+        let f = drawn row₀ layers₀ (front (at vram) (at reg) v) (back (at vram) (at reg) v) pe re le in
+        let d = row-is (at vram) (at reg) v row₀ layers₀ colours room f be in (
+          record {
+            bytes = as-bytes row₀ colours 256 (filled (at reg) p)
+                (shown-row (bit (at reg 0) 5) row₀ colours (λ x. p .colour x) (16 + at reg 7 % 16) room (f .bytes) fe) room;
+            status = d .1;
+          },
+          cover-layers layers₀ 256 2 (fills (at reg)) (layers (at vram) (at reg) v) (d .2) ue,
+        )
+
+    pub drawn-is : (s : Screen) (r : Back) → rowSize s ≤ length row₀ → Backed s reg scroll vram colours line row₀ row₁ r
+        → layers₁ ≡ layersIn layers₀ (r .width) (λ x. 0)
+        → Sprites (at vram) (at reg) (standOf s (early (at reg))) (r .line) colours (r .width) (r .prio .bits) row₁ row₂ layers₁ layers₂ hit ninth
+        → bits ≡ cond hit 32 0 + cond ninth 64 0 → row₃ ≡ cond (r .fill) (painted row₂ 0 8 (λ i. at colours (16 + at reg 7 % 16))) row₂
+        → layers₃ ≡ layersIn layers₂ 256 (λ x. cond (r .fill && ltb x 8) 2 (at layers₂ x))
+        → Drawn s colours (pictureOf s reg scroll vram line) row₀ row₃ bits × (layers₃ ≡ layersIn layers₀ (columns s) (layersOf s reg scroll vram line))
+    drawn-is s r room b le drawn be fe ue =
+        by-screen s (r .prio .bits) room (b .bytes) (b .mask) (rw (b .wide) at le) (rw (b .wide, b .below) at drawn) be (rw (b .fill) at fe)
+        (rw (b .fill) at ue)

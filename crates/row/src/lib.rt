@@ -1,20 +1,18 @@
 // One row of a screen, drawn into a lent row buffer by the picture of sections 5, 18 and 20, and the layers of its columns (section 15).
 ghost use mathlib.Core.Path.{_≡_};
 ghost use mathlib.Core.Bool.{cond, _&&_};
-ghost use Prim.Native.Nat.{ℕ, _+_, _-_, _%_, _<_, _≤_};
+ghost use Prim.Native.Nat.{ℕ, _+_, _%_, _<_, _≤_};
 ghost use lib.ListN.{length};
 ghost use lib.Dec.{ltb};
-ghost use Rattle.laws.specs.Bits.{bit};
 ghost use Rattle.laws.specs.Lists.{at};
 ghost use Rattle.laws.specs.Paint.{painted};
 ghost use Rattle.laws.specs.Sizes.{vramSize};
 ghost use Rattle.bitmap.specs.Mask.{bytesOf, joined};
 ghost use Rattle.picture.specs.declared.Screen.the-variants.{VisibleOnly, EffectiveArea, Home};
-ghost use Rattle.picture.specs.Picture.{fills};
 ghost use Rattle.picture.specs.Screen.{columns, rows, rowSize, pictureOf};
 ghost use Rattle.picture.specs.Layers.{layersOf, layersIn};
 ghost use Rattle.background.specs.Background.{Room, backColour, shade, prioTo};
-ghost use Rattle.row.specs.Row.{Drawn};
+ghost use Rattle.row.specs.Row.{Drawn, Backed};
 use bitmap::Bitmap;
 use picture::GG_VISIBLE_AREA_START_Y;
 use picture::GG_VISIBLE_MAP_X;
@@ -27,6 +25,14 @@ use sprites::Line;
 
 // R15.1: the layer of a column that the fill covers.
 const LAYER_FILLED: u8 = 2;
+
+// What the background of a row leaves: its priority mask, the row's columns, the line that its sprites go by, and whether the fill comes over all.
+struct Back {
+    prio: Bitmap,
+    width: usize,
+    line: usize,
+    fill: bool,
+}
 
 // The status bits that a line of sprites sets: 5 where two pixels met, 6 where there was a ninth.
 fn status_bits(line: Line) -> u8
@@ -55,24 +61,21 @@ fn clear(layers: &mut [u8], width: usize)
     }
 }
 
-// Row `line` of a screen of the visible size: scrolled both ways, its sprites by the line that is 24 further down.
-fn render_line_visible(
+// The background of row `line` of a screen of the visible size: scrolled both ways, its sprites by the line that is 24 further down.
+fn background_visible(
     row: &mut [u8],
-    layers: &mut [u8],
     vram: &[u8],
     colours: &[u32; 32],
     screen: Screen,
     reg: [u8; 11],
     scroll: usize,
     line: usize,
-) -> u8
+) -> Back
     requires { ⌜ (length (now vram) ≡ vramSize) × (rowSize VisibleOnly ≤ length (now row)) × (scroll < 256) × (line < rows VisibleOnly) × (columns screen ≡ columns VisibleOnly) ⌝ }
-    ensures { λ r. ⌜ Drawn screen (now (colours .entry)) (pictureOf screen reg scroll (now (vram .entry)) line) (now (row .entry)) (now (row .exit)) r ⌝ }
-    ensures { λ r. ⌜ now (layers .exit) ≡ layersIn (now (layers .entry)) (columns screen) (layersOf screen reg scroll (now (vram .entry)) line) ⌝ }
+    ensures { λ r. ⌜ Backed screen reg scroll (now (vram .entry)) (now (colours .entry)) line (now (row .entry)) (now (row .exit)) r ⌝ }
 {
-    clear(layers, GG_VISIBLE_PIXEL_WIDTH);
     let sx = (GG_VISIBLE_MAP_X - small::wide(reg[8])) % SCROLL_PIXEL_WIDTH;
-    let y = (line + GG_VISIBLE_AREA_START_Y + scroll) % SCROLL_PIXEL_HEIGHT;
+    let below = line + GG_VISIBLE_AREA_START_Y;
     let cut = background::cut_of(screen, (sx % 8) as u8);
     let prio = background::render_background_line(
         row,
@@ -80,37 +83,29 @@ fn render_line_visible(
         colours,
         background::names_at(reg),
         sx,
-        y,
+        (below + scroll) % SCROLL_PIXEL_HEIGHT,
         GG_VISIBLE_PIXEL_WIDTH,
         cut,
     );
-    status_bits(sprites::render_sprites_line(
-        row,
-        layers,
-        vram,
-        colours,
-        screen,
-        reg,
-        line + GG_VISIBLE_AREA_START_Y,
-        GG_VISIBLE_PIXEL_WIDTH,
-        prio,
-    ))
+    Back {
+        prio: prio,
+        width: GG_VISIBLE_PIXEL_WIDTH,
+        line: below,
+        fill: false,
+    }
 }
 
-// Row `line` of the effective area: the map is the screen, whatever the scroll.
-fn render_line_effective(
+// That of the effective area: the map is the screen, whatever the scroll.
+fn background_effective(
     row: &mut [u8],
-    layers: &mut [u8],
     vram: &[u8],
     colours: &[u32; 32],
     reg: [u8; 11],
     line: usize,
-) -> u8
+) -> Back
     requires { ⌜ (length (now vram) ≡ vramSize) × (rowSize EffectiveArea ≤ length (now row)) × (line < rows EffectiveArea) ⌝ }
-    ensures { λ r. ⌜ ((scroll : ℕ) → Drawn EffectiveArea (now (colours .entry)) (pictureOf EffectiveArea reg scroll (now (vram .entry)) line) (now (row .entry)) (now (row .exit)) r) ⌝ }
-    ensures { λ r. ⌜ ((scroll : ℕ) → now (layers .exit) ≡ layersIn (now (layers .entry)) (columns EffectiveArea) (layersOf EffectiveArea reg scroll (now (vram .entry)) line)) ⌝ }
+    ensures { λ r. ⌜ ((scroll : ℕ) → Backed EffectiveArea reg scroll (now (vram .entry)) (now (colours .entry)) line (now (row .entry)) (now (row .exit)) r) ⌝ }
 {
-    clear(layers, SCROLL_PIXEL_WIDTH);
     let prio = background::render_background_line(
         row,
         vram,
@@ -121,17 +116,12 @@ fn render_line_effective(
         SCROLL_PIXEL_WIDTH,
         0,
     );
-    status_bits(sprites::render_sprites_line(
-        row,
-        layers,
-        vram,
-        colours,
-        Screen::EffectiveArea,
-        reg,
-        line,
-        SCROLL_PIXEL_WIDTH,
-        prio,
-    ))
+    Back {
+        prio: prio,
+        width: SCROLL_PIXEL_WIDTH,
+        line: line,
+        fill: false,
+    }
 }
 
 // The background of a home row whose column 0 shows the map's pixel (sx, y), in two runs: the columns from 192 on show the map's line `last`. Answers
@@ -207,49 +197,63 @@ fn cover(layers: &mut [u8], on: bool)
     }
 }
 
-// The fill over a finished row and its layers.
-fn fill_over(row: &mut [u8], layers: &mut [u8], colours: &[u32; 32], reg: [u8; 11])
+// The fill over a finished row and its layers, where `on`.
+fn fill_over(row: &mut [u8], layers: &mut [u8], colours: &[u32; 32], reg: [u8; 11], on: bool)
     requires { ⌜ 32 ≤ length (now row) ⌝ }
-    ensures { λ r. ⌜ now (row .exit) ≡ cond (bit (at reg 0) 5) (painted (now (row .entry)) 0 8 (λ i. at (now (colours .entry)) (16 + at reg 7 % 16))) (now (row .entry)) ⌝ }
-    ensures { λ r. ⌜ now (layers .exit) ≡ layersIn (now (layers .entry)) (columns Home) (λ x. cond (fills (at reg) x) 2 (at (now (layers .entry)) x)) ⌝ }
+    ensures { λ r. ⌜ now (row .exit) ≡ cond on (painted (now (row .entry)) 0 8 (λ i. at (now (colours .entry)) (16 + at reg 7 % 16))) (now (row .entry)) ⌝ }
+    ensures { λ r. ⌜ now (layers .exit) ≡ layersIn (now (layers .entry)) (columns Home) (λ x. cond (on && ltb x 8) 2 (at (now (layers .entry)) x)) ⌝ }
 {
-    let on = small::is_set(reg[0], 5);
     fill(row, on, colours[16 + small::wide(reg[7]) % 16]);
     cover(layers, on);
 }
 
-// Row `line` of the home machine: scrolled both ways but where a lock holds, its sprites by its own line, and the fill over all.
-fn render_line_home(
+// The background of row `line` of the home machine: scrolled both ways but where a lock holds, its sprites by its own line, and the fill over all.
+fn background_home(
     row: &mut [u8],
-    layers: &mut [u8],
     vram: &[u8],
     colours: &[u32; 32],
     reg: [u8; 11],
     scroll: usize,
     line: usize,
-) -> u8
+) -> Back
     requires { ⌜ (length (now vram) ≡ vramSize) × (rowSize Home ≤ length (now row)) × (scroll < 256) × (line < rows Home) ⌝ }
-    ensures { λ r. ⌜ Drawn Home (now (colours .entry)) (pictureOf Home reg scroll (now (vram .entry)) line) (now (row .entry)) (now (row .exit)) r ⌝ }
-    ensures { λ r. ⌜ now (layers .exit) ≡ layersIn (now (layers .entry)) (columns Home) (layersOf Home reg scroll (now (vram .entry)) line) ⌝ }
+    ensures { λ r. ⌜ Backed Home reg scroll (now (vram .entry)) (now (colours .entry)) line (now (row .entry)) (now (row .exit)) r ⌝ }
 {
-    clear(layers, SCROLL_PIXEL_WIDTH);
     let sx = background::home_column(reg, line);
     let y = (line + scroll) % SCROLL_PIXEL_HEIGHT;
     let last = background::home_line(reg, line, y);
     let prio = home_background(row, vram, colours, background::names_at(reg), sx, y, last);
-    let bits = status_bits(sprites::render_sprites_line(
-        row,
-        layers,
-        vram,
-        colours,
-        Screen::Home,
-        reg,
-        line,
-        SCROLL_PIXEL_WIDTH,
-        prio,
-    ));
-    fill_over(row, layers, colours, reg);
-    bits
+    Back {
+        prio: prio,
+        width: SCROLL_PIXEL_WIDTH,
+        line: line,
+        fill: small::is_set(reg[0], 5),
+    }
+}
+
+// The same on each screen.
+fn background_of(
+    row: &mut [u8],
+    vram: &[u8],
+    colours: &[u32; 32],
+    screen: Screen,
+    reg: [u8; 11],
+    scroll: usize,
+    line: usize,
+) -> Back
+    requires { ⌜ (length (now vram) ≡ vramSize) × (rowSize screen ≤ length (now row)) × (scroll < 256) × (line < rows screen) ⌝ }
+    ensures { λ r. ⌜ Backed screen reg scroll (now (vram .entry)) (now (colours .entry)) line (now (row .entry)) (now (row .exit)) r ⌝ }
+{
+    match screen {
+        Screen::VisibleOnly => {
+            background_visible(row, vram, colours, Screen::VisibleOnly, reg, scroll, line)
+        }
+        Screen::EffectiveArea => background_effective(row, vram, colours, reg, line),
+        Screen::TrueEdges => {
+            background_visible(row, vram, colours, Screen::TrueEdges, reg, scroll, line)
+        }
+        Screen::Home => background_home(row, vram, colours, reg, scroll, line),
+    }
 }
 
 // Row `line` of a screen, by the registers, the latched scroll, the cached colours and video memory; answers the status bits
@@ -268,16 +272,28 @@ pub fn render_line(
     ensures { λ r. ⌜ Drawn screen (now (colours .entry)) (pictureOf screen reg scroll (now (vram .entry)) line) (now (row .entry)) (now (row .exit)) r ⌝ }
     ensures { λ r. ⌜ now (layers .exit) ≡ layersIn (now (layers .entry)) (columns screen) (layersOf screen reg scroll (now (vram .entry)) line) ⌝ }
 {
-    let s = small::wide(scroll);
-    let l = small::wide(line);
-    match screen {
-        Screen::VisibleOnly => {
-            render_line_visible(row, layers, vram, colours, Screen::VisibleOnly, reg, s, l)
-        }
-        Screen::EffectiveArea => render_line_effective(row, layers, vram, colours, reg, l),
-        Screen::TrueEdges => {
-            render_line_visible(row, layers, vram, colours, Screen::TrueEdges, reg, s, l)
-        }
-        Screen::Home => render_line_home(row, layers, vram, colours, reg, s, l),
-    }
+    let back = background_of(
+        row,
+        vram,
+        colours,
+        screen,
+        reg,
+        small::wide(scroll),
+        small::wide(line),
+    );
+    let prio = back.prio;
+    clear(layers, back.width);
+    let bits = status_bits(sprites::render_sprites_line(
+        row,
+        layers,
+        vram,
+        colours,
+        screen,
+        reg,
+        back.line,
+        back.width,
+        prio,
+    ));
+    fill_over(row, layers, colours, reg, back.fill);
+    bits
 }

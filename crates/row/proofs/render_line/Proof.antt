@@ -1,7 +1,9 @@
 -- `row::render_line` meets its contract: row `line` of a screen, by the registers, the latched scroll, the cached colours and video memory.
 use borrow.Author.Needs.{needs}
-use mathlib.Core.Path.{refl}
 use native.Mathlib.Omega.{arith}
+use Rattle.picture.proofs.Laws.{row-size}
+use Rattle.row.proofs.Laws.{row-long}
+use Rattle.row.proofs.Home.{drawn-is}
 use Rattle.row.proofs.render_line.Statement.{statement}
 use Rattle.row.proofs.render_line.Tie as tie
 
@@ -11,41 +13,31 @@ wide-requires c κs = search needs
 wide-requires-2 : tie.Need-wide-requires-2
 wide-requires-2 c κs = search needs
 
-enum-told : tie.Need-enum-told
-enum-told c = search needs
+background-of-requires : tie.Need-background-of-requires
+background-of-requires c κs = search needs
 
-render-line-visible-requires : tie.Need-render-line-visible-requires
-render-line-visible-requires c κs =
-    let at-enum-told = c .before .before in
-    let at-start = at-enum-told .before .before .before .before .before .before .before in
-    let p = rw (at-enum-told .enum-told .given .1) at (at-start .pre) in (p .0, p .1, omega arith, omega arith, refl)
+clear-requires : tie.Need-clear-requires
+clear-requires c κs = search needs
 
-enum-told-2 : tie.Need-enum-told-2
-enum-told-2 c = search needs
+render-sprites-line-requires : tie.Need-render-sprites-line-requires
+render-sprites-line-requires c κs =
+    let at-row = c .before .before .before .before .before .before .before .before in
+    let at-background-of = at-row .before in
+    let at-start = at-background-of .before .before .before .before .before .before .before in
+    record {
+      memory = at-start .pre .0;
+      bytes = rw (at-background-of .background-of .ensures .wide) (omega (arith, row-size (at-start .args .screen), at-row .row .given, at-start .pre .1));
+    }
 
-render-line-effective-requires : tie.Need-render-line-effective-requires
-render-line-effective-requires c κs =
-    let at-enum-told2 = c .before .before in
-    let at-start = at-enum-told2 .before .before .before .before .before .before .before in
-    let p = rw (at-enum-told2 .enum-told2 .given .1) at (at-start .pre) in (p .0, p .1, omega arith)
+status-bits-requires : tie.Need-status-bits-requires
+status-bits-requires c κs = search needs
 
-enum-told-3 : tie.Need-enum-told-3
-enum-told-3 c = search needs
-
-render-line-visible-requires-2 : tie.Need-render-line-visible-requires-2
-render-line-visible-requires-2 c κs =
-    let at-enum-told3 = c .before .before in
-    let at-start = at-enum-told3 .before .before .before .before .before .before .before in
-    let p = rw (at-enum-told3 .enum-told3 .given .1) at (at-start .pre) in (p .0, p .1, omega arith, omega arith, refl)
-
-enum-told-4 : tie.Need-enum-told-4
-enum-told-4 c = search needs
-
-render-line-home-requires : tie.Need-render-line-home-requires
-render-line-home-requires c κs =
-    let at-enum-told4 = c .before .before in
-    let at-start = at-enum-told4 .before .before .before .before .before .before .before in
-    let p = rw (at-enum-told4 .enum-told4 .given .1) at (at-start .pre) in (p .0, p .1, omega arith, omega arith)
+fill-over-requires : tie.Need-fill-over-requires
+fill-over-requires c κs =
+    let at-row2 = c .before .before .before .before .before .before in
+    let at-row = at-row2 .before .before .before .before .before .before .before .before .before .before in
+    let at-start = at-row .before .before .before .before .before .before .before .before in
+    omega (arith, row-long (at-start .args .screen), at-row2 .row2 .given, at-row .row .given, at-start .pre .1)
 
 same-length : tie.Need-same-length
 same-length c = search needs
@@ -55,59 +47,20 @@ same-length-2 c = search needs
 
 returns : tie.Need-returns
 returns c =
-    let at-render-line-visible = c .before .before .before .before in
-    let at-enum-told = at-render-line-visible .before .before .before in
-    let at-wide2 = at-enum-told .before .before in
+    let at-fill-over = c .before .before .before .before in
+    let at-status-bits = at-fill-over .before .before .before in
+    let at-render-sprites-line = at-status-bits .before .before .before .before .before in
+    let at-clear = at-render-sprites-line .before .before .before .before .before in
+    let at-background-of = at-clear .before .before .before .before .before in
+    let at-wide2 = at-background-of .before in
     let at-wide = at-wide2 .before in
-    rw (at-enum-told .enum-told .given .1, ← at-wide .wide .ensures .0, ← at-wide2 .wide2 .ensures .0)
-    (at-render-line-visible .render-line-visible .ensures)
-
-same-length-3 : tie.Need-same-length-3
-same-length-3 c = search needs
-
-same-length-4 : tie.Need-same-length-4
-same-length-4 c = search needs
-
-returns-2 : tie.Need-returns-2
-returns-2 c =
-    let at-render-line-effective = c .before .before .before .before in
-    let at-enum-told2 = at-render-line-effective .before .before .before in
-    let at-wide2 = at-enum-told2 .before .before in
-    let at-start = at-wide2 .before .before .before .before .before in
-    rw (at-enum-told2 .enum-told2 .given .1, ← at-wide2 .wide2 .ensures .0) (
-      at-render-line-effective .render-line-effective .ensures .0 (at-start .args .scroll),
-      at-render-line-effective .render-line-effective .ensures .1 (at-start .args .scroll),
-    )
-
-same-length-5 : tie.Need-same-length-5
-same-length-5 c = search needs
-
-same-length-6 : tie.Need-same-length-6
-same-length-6 c = search needs
-
-returns-3 : tie.Need-returns-3
-returns-3 c =
-    let at-render-line-visible2 = c .before .before .before .before in
-    let at-enum-told3 = at-render-line-visible2 .before .before .before in
-    let at-wide2 = at-enum-told3 .before .before in
-    let at-wide = at-wide2 .before in
-    rw (at-enum-told3 .enum-told3 .given .1, ← at-wide .wide .ensures .0, ← at-wide2 .wide2 .ensures .0)
-    (at-render-line-visible2 .render-line-visible2 .ensures)
-
-same-length-7 : tie.Need-same-length-7
-same-length-7 c = search needs
-
-same-length-8 : tie.Need-same-length-8
-same-length-8 c = search needs
-
-returns-4 : tie.Need-returns-4
-returns-4 c =
-    let at-render-line-home = c .before .before .before .before in
-    let at-enum-told4 = at-render-line-home .before .before .before in
-    let at-wide2 = at-enum-told4 .before .before in
-    let at-wide = at-wide2 .before in
-    rw (at-enum-told4 .enum-told4 .given .1, ← at-wide .wide .ensures .0, ← at-wide2 .wide2 .ensures .0)
-    (at-render-line-home .render-line-home .ensures)
+    let at-start = at-wide .before .before .before .before .before in
+    let a = at-start .args in
+    drawn-is (a .vram .now) (a .reg) (a .scroll) (a .line) (a .row .now) (a .layers .now) (a .colours .now) (a .screen)
+    (at-background-of .background-of .result) (at-start .pre .1)
+    (rw (at-wide .wide .ensures .0, at-wide2 .wide2 .ensures .0) at (at-background-of .background-of .ensures)) (at-clear .clear .ensures)
+    (at-render-sprites-line .render-sprites-line .ensures) (at-status-bits .status-bits .ensures)
+    (at-fill-over .fill-over .ensures .0) (at-fill-over .fill-over .ensures .1)
 
 pub render-line-spec : {M : Type 1} → statement M
 render-line-spec =
@@ -115,23 +68,11 @@ render-line-spec =
     (tie.spec
     wide-requires
     wide-requires-2
-    enum-told
-    render-line-visible-requires
-    enum-told-2
-    render-line-effective-requires
-    enum-told-3
-    render-line-visible-requires-2
-    enum-told-4
-    render-line-home-requires
+    background-of-requires
+    clear-requires
+    render-sprites-line-requires
+    status-bits-requires
+    fill-over-requires
     same-length
     same-length-2
-    returns
-    same-length-3
-    same-length-4
-    returns-2
-    same-length-5
-    same-length-6
-    returns-3
-    same-length-7
-    same-length-8
-    returns-4)
+    returns)
