@@ -179,25 +179,18 @@ module _ (f : Front) (b : List ℕ) (e : length (f .reg) ≡ 11) where
 
 -- ---- so stores one after the other are one, and a block stays formed
 module _ (b : List ℕ) (f : Front) {b₁ : List ℕ} (e : length (f .reg) ≡ 11) (p : b₁ ≡ frontStored f b) where
-  next-stored : (c : Front → Front) {b₂ : List ℕ} → b₂ ≡ frontStored (c (frontIn b₁)) b₁ → b₂ ≡ frontStored (c f) b
+  pub next-stored : (c : Front → Front) {b₂ : List ℕ} → b₂ ≡ frontStored (c (frontIn b₁)) b₁ → b₂ ≡ frontStored (c f) b
   next-stored c q =
       q
       ∙ ap (λ (x : List ℕ). frontStored (c (frontIn x)) x) p
       ∙ ap (λ (g : Front). frontStored (c g) (frontStored f b)) (in-again f b e)
       ∙ stored-again f b e (c f)
 
-  pub next-choice : (d : WriteDest) (a : ℕ) {b₂ : List ℕ} → b₂ ≡ frontStored (choosing (frontIn b₁) d a) b₁ → b₂ ≡ frontStored (choosing f d a) b
-  next-choice d a = next-stored (λ (g : Front). choosing g d a)
+  -- a memory chosen, and the status cleared
+  pub chosen-stored : (d : WriteDest) → set b₁ 20 (chosenOf d) ≡ frontStored (choosing f d (f .addr)) b
+  unfolding frontStored
+  chosen-stored d = rw p (set-past (at b 0 ∷ at b 1 ∷ f .status ∷ f .reg) _ 14 6 (chosenOf d) (ap (λ (n : ℕ). suc (suc (suc n))) e))
 
-  pub next-buffer : (v a : ℕ) {b₂ : List ℕ} → b₂ ≡ frontStored (withBuffer (frontIn b₁) v a) b₁ → b₂ ≡ frontStored (withBuffer f v a) b
-  next-buffer v a = next-stored (λ (g : Front). withBuffer g v a)
-
-  pub next-register :
-      (n v : ℕ) {b₂ : List ℕ} → b₂ ≡ frontStored (withReg (frontIn b₁) (set (frontIn b₁ .reg) n v)) b₁ → b₂ ≡ frontStored
-      (withReg f (set (f .reg) n v)) b
-  next-register n v = next-stored (λ (g : Front). withReg g (set (g .reg) n v))
-
-  -- the status cleared
   pub status-stored : set b₁ 2 0 ≡ frontStored (front 0 (f .reg) (f .addr) (f .«vram_buffer») (f .dest) (f .«cmd_byte1»)) b
   unfolding frontStored
   status-stored = rw p
