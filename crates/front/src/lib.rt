@@ -115,25 +115,17 @@ impl Front {
                 front: self.with_command(Latch::Held(val)),
             };
         };
-        let mut front = self.with_command(Latch::Empty);
+        let front = self.with_command(Latch::Empty);
         let addr = small::word(data, val) % VRAM_ADDRESSES;
-        match val / 64 {
+        let after = match val / 64 {
             0 => {
                 let at = addr as usize;
                 let mut video = front.choosing(WriteDest::Vram, addr);
                 video.vram_buffer = vram[at];
                 video.addr = (addr + 1) % VRAM_ADDRESSES;
-                FrontWritten {
-                    refusal: Refusal::Accepted,
-                    palette: false,
-                    front: video,
-                }
+                video
             }
-            1 => FrontWritten {
-                refusal: Refusal::Accepted,
-                palette: false,
-                front: front.choosing(WriteDest::Vram, addr),
-            },
+            1 => front.choosing(WriteDest::Vram, addr),
             2 => {
                 let reg = (val % 128) as usize;
                 if 10 < reg {
@@ -143,18 +135,16 @@ impl Front {
                         front: front,
                     };
                 }
-                front.reg[reg] = data;
-                FrontWritten {
-                    refusal: Refusal::Accepted,
-                    palette: false,
-                    front: front,
-                }
+                let mut written = front;
+                written.reg[reg] = data;
+                written
             }
-            _ => FrontWritten {
-                refusal: Refusal::Accepted,
-                palette: false,
-                front: front.choosing(WriteDest::Cram, (data as u16) % palette),
-            },
+            _ => front.choosing(WriteDest::Cram, (data as u16) % palette),
+        };
+        FrontWritten {
+            refusal: Refusal::Accepted,
+            palette: false,
+            front: after,
         }
     }
 

@@ -42,13 +42,12 @@ cast-reg c = search needs
 
 returns-2 : tie.Need-returns-2
 returns-2 c =
-    let at-word = c .before .before in
-    let at-with-command2 = at-word .before in
+    let at-with-command2 = c .before .before .before in
     let at-cmd-byte1 = at-with-command2 .before .before in
     simp (at-with-command2 .with-command2 .ensures, at-cmd-byte1 .cmd-byte1 .given .1, c .before .match2 .keys3, lt-ltb _ _ (c .if1 .taken))
 
-element-write-front : tie.Need-element-write-front
-element-write-front c = search needs
+element-write-written : tie.Need-element-write-written
+element-write-written c = search needs
 
 cast-choosing : tie.Need-cast-choosing
 cast-choosing c = search needs
@@ -82,25 +81,22 @@ returns-4 c =
 
 returns-5 : tie.Need-returns-5
 returns-5 c =
-    let at-word = c .before .before in
-    let at-with-command2 = at-word .before in
+    let at-with-command2 = c .before .before .before in
     let at-cmd-byte1 = at-with-command2 .before .before in
     simp (at-with-command2 .with-command2 .ensures, at-cmd-byte1 .cmd-byte1 .given .1, c .before .match2 .keys3, le-ltb _ _ (c .if1 .left))
 
 returns-6 : tie.Need-returns-6
 returns-6 c =
-    let at-word = c .before .before in
-    let at-with-command2 = at-word .before in
+    let at-with-command2 = c .before .before .before in
     let at-cmd-byte1 = at-with-command2 .before .before in
-    let none = c .before .match2 .rest in
     simp (
       c .choosing3 .ensures,
       at-with-command2 .with-command2 .ensures,
       at-cmd-byte1 .cmd-byte1 .given .1,
-      ne-eqb _ _ (none .0 .0 .1),
       ne-eqb _ _
-          (none .0 .1),
-      ne-eqb _ _ (none .1),
+          (c .before .match2 .rest .0 .0 .1),
+      ne-eqb _ _ (c .before .match2 .rest .0 .1),
+      ne-eqb _ _ (c .before .match2 .rest .1),
     )
 
 pub write-cmd-spec : {M : Type 1} → statement M
@@ -120,7 +116,7 @@ write-cmd-spec =
     choosing-requires-2
     cast-reg
     returns-2
-    element-write-front
+    element-write-written
     cast-choosing
     rem-choosing
     choosing-requires-3
