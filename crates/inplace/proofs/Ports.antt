@@ -16,8 +16,9 @@ use Rattle.front.specs.declared.WriteDest.{WriteDest}
 use Rattle.front.specs.declared.WriteDest.the-variants.{None, Vram, Cram}
 use Rattle.front.specs.declared.Latch.the-variants.{Empty, Held}
 use Rattle.refusal.specs.declared.Refusal.{Refusal}
-use Rattle.refusal.specs.declared.Refusal.the-variants.{Accepted, HighRegister}
-use Rattle.front.specs.Front.{emptied, withCommand, choosing, withReg, withBuffer, loaded, sent, forPalette, refusedRead, given, secondByte, commandWrite}
+use Rattle.refusal.specs.declared.Refusal.the-variants.{Accepted, HighRegister, NothingChosen, OutsideMemory}
+use Rattle.front.specs.Front.{FrontAfter, dataWrite, emptied, withCommand, choosing, withReg, withBuffer, loaded, sent, forPalette, refusedRead, given}
+use Rattle.front.specs.Front.{secondByte, commandWrite}
 use Rattle.inplace.specs.declared.Sent.{Sent}
 use Rattle.inplace.specs.declared.Got.{Got}
 use Rattle.fields.specs.Fields.{chosenOf}
@@ -81,6 +82,26 @@ module _ (n : ℕ) (b m : List ℕ) (v : ℕ) where
         commandWrite n (frontIn b) m v ≡ sent Accepted (choosing (emptied (frontIn b)) Cram a)
     second-palette x y z e = second ∙ rw (ne-eqb _ _ x, ne-eqb _ _ y, ne-eqb _ _ z, e)
 
+-- ---- a data byte by the memory that is chosen, a is the address
+module _ (n : ℕ) (b m : List ℕ) (v : ℕ) where
+  pub data-nothing : at b 20 ≡ 0 → dataWrite n (frontIn b) m v ≡ record { answer = sent NothingChosen (emptied (frontIn b)); vram = m }
+  data-nothing e = simp (none-is b e)
+
+  pub data-video : at b 20 ≡ 1 → {a : ℕ} → a ≡ addressIn b → a < vramSize →
+      dataWrite n (frontIn b) m v ≡ record { answer = sent Accepted (withBuffer (emptied (frontIn b)) v a); vram = set m a v }
+  data-video e q h = simp (video-is b e, address-is b q, lt-ltb _ _ h)
+
+  pub data-outside : at b 20 ≡ 1 → {a : ℕ} → a ≡ addressIn b → vramSize ≤ a →
+      dataWrite n (frontIn b) m v ≡ record { answer = sent OutsideMemory (emptied (frontIn b)); vram = m }
+  data-outside e q h = simp (video-is b e, address-is b q, le-ltb _ _ h)
+
+  module _ (x : at b 20 ≢ 0) (y : at b 20 ≢ 1) {a : ℕ} (q : a ≡ addressIn b) where
+    pub data-palette : a < n → dataWrite n (frontIn b) m v ≡ record { answer = forPalette (emptied (frontIn b)); vram = m }
+    data-palette h = simp (palette-is b x y, address-is b q, lt-ltb _ _ h)
+
+    pub data-beyond : n ≤ a → dataWrite n (frontIn b) m v ≡ record { answer = sent OutsideMemory (emptied (frontIn b)); vram = m }
+    data-beyond h = simp (palette-is b x y, address-is b q, le-ltb _ _ h)
+
 -- ---- what is stored once the latch is empty
 module _ (b : List ℕ) (w : FrontFormed b) where
   long : length (emptied (frontIn b) .reg) ≡ 11
@@ -132,9 +153,16 @@ module _ {b b′ : List ℕ} {g : Front} where
   pub refused-by : {a : FrontRead} {r : Got} {x : Refusal} → a ≡ refusedRead x g → r ≡ refused x → b′ ≡ frontStored g b → GotInPlace b a r b′
   refused-by p q e = rw (p, q) (record { refusal = refl; byte = refl; block = e })
 
+  pub data-by :
+      {a : FrontAfter} {r : Sent} {x : Refusal} {m : List ℕ} → a ≡ record { answer = sent x g; vram = m } → r ≡ answered x → b′ ≡ frontStored g b →
+      SentInPlace b (a .answer) r b′ × (m ≡ a .vram)
+  data-by p q e = rw (p, q) (record { refusal = refl; palette = refl; block = e }, refl)
+
   -- the byte is for the palette, and a read that gives one
-  pub palette-by : {a : FrontWritten} → a ≡ forPalette g → b′ ≡ frontStored g b → SentInPlace b a (record { refusal = Accepted; palette = true }) b′
-  palette-by p e = rw p (record { refusal = refl; palette = refl; block = e })
+  pub palette-by :
+      {a : FrontAfter} {m : List ℕ} → a ≡ record { answer = forPalette g; vram = m } → b′ ≡ frontStored g b →
+      SentInPlace b (a .answer) (record { refusal = Accepted; palette = true }) b′ × (m ≡ a .vram)
+  palette-by p e = rw p (record { refusal = refl; palette = refl; block = e }, refl)
 
   pub given-by : {a : FrontRead} {x : ℕ} → a ≡ given x g → b′ ≡ frontStored g b → GotInPlace b a (record { refusal = Accepted; byte = x }) b′
   given-by p e = rw p (record { refusal = refl; byte = refl; block = e })

@@ -2,8 +2,8 @@
 use borrow.Author.Needs.{needs}
 use native.Mathlib.Omega.{arith}
 use lib.ListN.{length-set}
-use borrow.Author.Tests.{lt-ltb, le-ltb}
-use Rattle.inplace.proofs.Ports.{address-is, none-is, video-is, palette-is, emptied-formed, emptied-stored, then-buffer, sent-by, palette-by}
+use Rattle.inplace.proofs.Ports.{data-nothing, data-video, data-outside, data-palette, data-beyond, emptied-formed, emptied-stored, then-buffer, data-by}
+use Rattle.inplace.proofs.Ports.{palette-by}
 use Rattle.inplace.proofs.write_ram.Statement.{statement}
 use Rattle.inplace.proofs.write_ram.Tie as tie
 
@@ -33,10 +33,8 @@ returns c =
     let at-match = c .before .before in
     let at-address-in = at-match .before in
     let at-start = at-address-in .before .before .before .before .before in
-    let d = video-is (at-start .args .block .now) (at-match .match .keys2) in
-    let a = address-is (at-start .args .block .now) (at-address-in .address-in .ensures) in
-    let t = le-ltb _ _ (c .before .if1 .taken) in
-    (sent-by (simp (d, a, t)) (c .answered2 .ensures) (emptied-stored (at-start .args .block .now) (at-start .pre .0)), simp (d, a, t))
+    data-by (data-outside (at-start .args .palette) (at-start .args .block .now) (at-start .args .vram .now) (at-start .args .val) (at-match .match .keys2)
+    (at-address-in .address-in .ensures) (c .before .if1 .taken)) (c .answered2 .ensures) (emptied-stored (at-start .args .block .now) (at-start .pre .0))
 
 cast-at : tie.Need-cast-at
 cast-at c = search needs
@@ -64,10 +62,8 @@ returns-2 c =
     let at-address-in = at-match .before in
     let at-start = at-address-in .before .before .before .before .before in
     let none = at-match .match .rest in
-    let d = palette-is (at-start .args .block .now) (none .0 .1) (none .1) in
-    let a = address-is (at-start .args .block .now) (at-address-in .address-in .ensures) in
-    let t = le-ltb _ _ (c .before .if2 .taken) in
-    (sent-by (simp (d, a, t)) (c .answered4 .ensures) (emptied-stored (at-start .args .block .now) (at-start .pre .0)), simp d)
+    data-by (data-beyond (at-start .args .palette) (at-start .args .block .now) (at-start .args .vram .now) (at-start .args .val) (none .0 .1) (none .1)
+    (at-address-in .address-in .ensures) (c .before .if2 .taken)) (c .answered4 .ensures) (emptied-stored (at-start .args .block .now) (at-start .pre .0))
 
 same-length-3 : tie.Need-same-length-3
 same-length-3 c = search needs
@@ -75,8 +71,8 @@ same-length-3 c = search needs
 returns-3 : tie.Need-returns-3
 returns-3 c =
     let at-start = c .before .before .before .before .before .before .before in
-    let d = none-is (at-start .args .block .now) (c .before .match .keys1) in
-    (sent-by (simp d) (c .answered .ensures) (emptied-stored (at-start .args .block .now) (at-start .pre .0)), simp d)
+    data-by (data-nothing (at-start .args .palette) (at-start .args .block .now) (at-start .args .vram .now) (at-start .args .val) (c .before .match .keys1))
+    (c .answered .ensures) (emptied-stored (at-start .args .block .now) (at-start .pre .0))
 
 same-length-4 : tie.Need-same-length-4
 same-length-4 c =
@@ -93,13 +89,9 @@ returns-4 c =
     let at-match = at-if1 .before in
     let at-address-in = at-match .before in
     let at-start = at-address-in .before .before .before .before .before in
-    let d = video-is (at-start .args .block .now) (at-match .match .keys2) in
-    let a = address-is (at-start .args .block .now) (at-address-in .address-in .ensures) in
-    let t = lt-ltb _ _ (at-if1 .if1 .left) in (
-      sent-by (simp (d, a, t)) (c .answered3 .ensures) (then-buffer (at-start .args .block .now) (at-start .pre .0) _ _
-          (at-store-buffer .store-buffer .ensures)),
-      simp (d, a, t),
-    )
+    data-by (data-video (at-start .args .palette) (at-start .args .block .now) (at-start .args .vram .now) (at-start .args .val) (at-match .match .keys2)
+    (at-address-in .address-in .ensures) (at-if1 .if1 .left)) (c .answered3 .ensures)
+    (then-buffer (at-start .args .block .now) (at-start .pre .0) _ _ (at-store-buffer .store-buffer .ensures))
 
 same-length-6 : tie.Need-same-length-6
 same-length-6 c = search needs
@@ -109,10 +101,8 @@ returns-5 c =
     let at-address-in = c .before .before in
     let at-start = at-address-in .before .before .before .before .before in
     let none = c .before .match .rest in
-    let d = palette-is (at-start .args .block .now) (none .0 .1) (none .1) in
-    let a = address-is (at-start .args .block .now) (at-address-in .address-in .ensures) in
-    let t = lt-ltb _ _ (c .if2 .left) in
-    (palette-by (simp (d, a, t)) (emptied-stored (at-start .args .block .now) (at-start .pre .0)), simp d)
+    palette-by (data-palette (at-start .args .palette) (at-start .args .block .now) (at-start .args .vram .now) (at-start .args .val) (none .0 .1) (none .1)
+    (at-address-in .address-in .ensures) (c .if2 .left)) (emptied-stored (at-start .args .block .now) (at-start .pre .0))
 
 pub write-ram-spec : {M : Type 1} → statement M
 write-ram-spec =
