@@ -2,7 +2,6 @@
 -- Assumes nothing.
 use mathlib.Core.Path.{_≡_, refl, sym, ap, _∙_}
 use mathlib.Core.Logic.{_⊎_, inl, inr}
-use mathlib.Core.Bool.{Bool, true, false}
 use mathlib.Core.List.{List, [], _∷_}
 use Prim.Native.Nat.{ℕ, _*_, _≤_}
 use native.Mathlib.Omega.{arith}
@@ -10,11 +9,11 @@ use lib.ListN.{length}
 use Rattle.laws.specs.Lists.{at}
 use Rattle.laws.specs.Paint.{painted}
 use Rattle.laws.proofs.Paint.{painted-cong}
-use Rattle.laws.proofs.Tests.{split, clash}
+use Rattle.laws.proofs.Tests.{split}
 use Rattle.picture.proofs.Layers.{layersIn-at}
 use Rattle.picture.specs.declared.RenderArea.{RenderArea}
 use Rattle.picture.specs.declared.RenderArea.the-variants.{VisibleOnly, EffectiveArea, TrueEdges}
-use Rattle.picture.specs.Area.{screenOf, columns, rows}
+use Rattle.picture.specs.Area.{screenOf, columns, rows, frameSize}
 use Rattle.vdp.specs.declared.VdpState.{VdpState}
 use Rattle.vdp.specs.declared.Written.{Written}
 use Rattle.vdp.specs.declared.ReadBack.{ReadBack}
@@ -48,7 +47,7 @@ use Rattle.trace_record.specs.Machine.{recordOn}
 use Rattle.trace_run.specs.Device.{withVdp, withHome, AfterStep, wrote, gave, ofHandheld, ofHome, writeOn, readOn, rowStepOn, frameStepOn}
 use Rattle.trace_run.specs.Device.{deviceWrite, deviceRead, deviceRowStep, deviceFrameStep}
 use Rattle.trace_run.specs.Run.{World, Turn, held, on, stepAnswer, rowTurn, intoFrame, frameTurn, layerColour, layersPainted, layersOn}
-use Rattle.trace_run.specs.Run.{layersInto, layerTurn, visibleSize, turnFor, turnBy, turnOf, TurnLeaves}
+use Rattle.trace_run.specs.Run.{layersInto, layerTurn, shownOf, frameFor, turnFor, turnBy, turnOf, TurnLeaves, writeTurned, readTurned, stepTurned}
 
 -- the same turn, said in another way
 same-turn : {u v : Turn} {t : Turned} {vram row frame : List ℕ} → u ≡ v → TurnLeaves u t vram row frame → TurnLeaves v t vram row frame
@@ -96,22 +95,18 @@ module _ (a : RenderArea) (d : Device) (vram : List ℕ) where
   home-frame {frame} e h = (λ i. ofHome d (h .answer i) (h .bytes i)) ∙ ap (λ (m : Machine). frameStepOn m a d vram frame) (sym e)
 
 -- a step into the row buffer, and one into the frame
-module _ (a : RenderArea) (w : World) {k : AfterStep} {t : Turned} (ea : t .answer ≡ stepAnswer k) (er : t .run ≡ on (w .run) 3 (k .device)) where
+module _ (a : RenderArea) (w : World) {k : AfterStep} {t : Turned} (et : t ≡ stepTurned (w .run) k) where
   pub row-stepped : k ≡ deviceRowStep a (w .run .device) (w .vram) (w .row) → TurnLeaves (rowTurn a w) t (w .vram) (k .buffer) (w .frame)
   unfolding rowTurn
   row-stepped h =
-      record {
-        answer = ea ∙ ap stepAnswer h;
-        world = λ i. held ((er ∙ ap (λ (s : AfterStep). on (w .run) 3 (s .device)) h) i) (w .vram) (h i .buffer) (w .frame);
-      }
+      let e = et ∙ ap (stepTurned (w .run)) h in
+      record { answer = ap (λ (x : Turned). x .answer) e; world = λ i. held (e i .run) (w .vram) (h i .buffer) (w .frame) }
 
   pub frame-stepped : k ≡ deviceFrameStep a (w .run .device) (w .vram) (w .frame) → TurnLeaves (intoFrame a w) t (w .vram) (w .row) (k .buffer)
   unfolding intoFrame
   frame-stepped h =
-      record {
-        answer = ea ∙ ap stepAnswer h;
-        world = λ i. held ((er ∙ ap (λ (s : AfterStep). on (w .run) 3 (s .device)) h) i) (w .vram) (w .row) (h i .buffer);
-      }
+      let e = et ∙ ap (stepTurned (w .run)) h in
+      record { answer = ap (λ (x : Turned). x .answer) e; world = λ i. held (e i .run) (w .vram) (w .row) (h i .buffer) }
 
 -- ---- a step whose layers the frame shows
 -- a step draws no row, or it is the accepted one, and the layers are told
@@ -166,10 +161,9 @@ pub layer-stepped :
     → w .run .device .machine ≡ Handheld
     → RowLayersLeave (columns a) a (w .vram) (w .run .device .vdp) (w .row) layers k row layers′ → frame ≡ layersPainted (k .row) (λ y. at layers′)
     (w .frame)
-    → t .answer ≡ stepAnswer (ofHandheld (w .run .device) k row) → t .run ≡ on (w .run) 3 (ofHandheld (w .run .device) k row .device)
-    → TurnLeaves (layersInto a w) t (w .vram) row frame
+    → t ≡ stepTurned (w .run) (ofHandheld (w .run .device) k row) → TurnLeaves (layersInto a w) t (w .vram) row frame
 unfolding layersInto
-layer-stepped a c w layers {k} {row} {layers′} {frame} {t} n e g ef ea er =
+layer-stepped a c w layers {k} {row} {layers′} {frame} {t} n e g ef et =
     let d = w .run .device in
     let room : columns a ≤ length layers = omega arith in
     let ls = rowLines a (w .vram) (length (w .row)) in
@@ -182,10 +176,8 @@ layer-stepped a c w layers {k} {row} {layers′} {frame} {t} n e g ef ea er =
     ∙ painted-is a c (w .vram) (d .vdp) (w .frame) layers n al (ap (λ (x : Stepped). x .row) (g .answer)) (g .owners)
     ∙ ap (λ (x : Stepped). layersPainted (x .row) (rowLayers a (w .vram) (counterUp (d .vdp))) (w .frame)) q
     ∙ ap (λ (m : Machine). layersOn m a d (w .vram) (length (w .row)) (w .frame)) (sym e) in
-    record {
-      answer = ea ∙ ap stepAnswer h;
-      world = λ i. held ((er ∙ ap (λ (x : AfterStep). on (w .run) 3 (x .device)) h) i) (w .vram) (h i .buffer) (f i);
-    }
+    let q = et ∙ ap (stepTurned (w .run)) h in
+    record { answer = ap (λ (x : Turned). x .answer) q; world = λ i. held (q i .run) (w .vram) (h i .buffer) (f i) }
 
 -- the home machine tells no layers
 pub no-layers :
@@ -202,45 +194,39 @@ no-layers a w e h =
     } in
     same-turn (ap into (sym e)) h
 
--- an area of the visible size is as wide as the visible one
-pub as-wide : (a : RenderArea) {b : Bool} → b ≡ visibleSize a → b ≡ true → columns a ≡ columns VisibleOnly
-as-wide VisibleOnly e t = refl
-as-wide EffectiveArea e t = clash (sym t ∙ e)
-as-wide TrueEdges e t = refl
+-- where the frame shows layers the area is as wide as the visible one, and the frame has room
+pub as-wide : (shown : Shown) (a : RenderArea) → Layers ≡ shownOf shown a → columns a ≡ columns VisibleOnly
+as-wide shown VisibleOnly e = refl
+as-wide shown EffectiveArea e = absurd (let o : _≡_ {A = ℕ} 0 1 = cc in omega arith)
+as-wide shown TrueEdges e = refl
 
--- whatever the frame shows, steps of the visible size go there, and steps of another into the row buffer
+pub as-long : (shown : Shown) (a : RenderArea) (n : ℕ) → Layers ≡ shownOf shown a → frameFor shown ≤ n → frameSize VisibleOnly ≤ n
+as-long shown VisibleOnly n e h = rw (sym e) at h
+as-long shown EffectiveArea n e h = absurd (let o : _≡_ {A = ℕ} 0 1 = cc in omega arith)
+as-long shown TrueEdges n e h = rw (sym e) at h
+
+-- steps go where the frame shows them, and those of which it shows nothing into the row buffer
 abbrev pub shownBy : Shown → RenderArea → World → Turn
 shownBy Nothing = rowTurn
 shownBy Colours = intoFrame
 shownBy Layers = layersInto
 
-shown-for : (shown : Shown) (a : RenderArea) (w : World) → true ≡ visibleSize a → shownBy shown a w ≡ turnFor shown a w
+shown-for : (shown : Shown) (a : RenderArea) (w : World) → shownBy (shownOf shown a) a w ≡ turnFor shown a w
 unfolding frameTurn layerTurn
-shown-for Nothing a w e = refl
-shown-for Colours VisibleOnly w e = refl
-shown-for Colours EffectiveArea w e = clash e
-shown-for Colours TrueEdges w e = refl
-shown-for Layers VisibleOnly w e = refl
-shown-for Layers EffectiveArea w e = clash e
-shown-for Layers TrueEdges w e = refl
+shown-for Nothing VisibleOnly w = refl
+shown-for Nothing EffectiveArea w = refl
+shown-for Nothing TrueEdges w = refl
+shown-for Colours VisibleOnly w = refl
+shown-for Colours EffectiveArea w = refl
+shown-for Colours TrueEdges w = refl
+shown-for Layers VisibleOnly w = refl
+shown-for Layers EffectiveArea w = refl
+shown-for Layers TrueEdges w = refl
 
-beside-for : (shown : Shown) (a : RenderArea) (w : World) → false ≡ visibleSize a → rowTurn a w ≡ turnFor shown a w
-unfolding frameTurn layerTurn
-beside-for Nothing a w e = refl
-beside-for Colours VisibleOnly w e = clash (sym e)
-beside-for Colours EffectiveArea w e = refl
-beside-for Colours TrueEdges w e = clash (sym e)
-beside-for Layers VisibleOnly w e = clash (sym e)
-beside-for Layers EffectiveArea w e = refl
-beside-for Layers TrueEdges w e = clash (sym e)
-
-module _ (shown : Shown) (a : RenderArea) (w : World) {b : Bool} (e : b ≡ visibleSize a) {t : Turned} {vram row frame : List ℕ} where
-  pub beside-stepped : b ≡ false → TurnLeaves (rowTurn a w) t vram row frame → TurnLeaves (turnFor shown a w) t vram row frame
-  beside-stepped f = same-turn (beside-for shown a w (sym f ∙ e))
-
-  pub shown-stepped : b ≡ true → {by : Shown} → shown ≡ by → TurnLeaves (shownBy by a w) t vram row frame → TurnLeaves (turnFor shown a w) t vram row
-      frame
-  shown-stepped f q h = same-turn (ap (λ (s : Shown). shownBy s a w) (sym q) ∙ shown-for shown a w (sym f ∙ e)) h
+pub shown-stepped :
+    (shown : Shown) (a : RenderArea) (w : World) {by : Shown} {t : Turned} {vram row frame : List ℕ} → by ≡ shownOf shown a
+    → TurnLeaves (shownBy by a w) t vram row frame → TurnLeaves (turnFor shown a w) t vram row frame
+shown-stepped shown a w e h = same-turn (ap (λ (s : Shown). shownBy s a w) e ∙ shown-for shown a w) h
 
 -- the record at the run's place, by its kind
 module _ (step : RenderArea → World → Turn) (s : List ℕ) (w : World) {x : Record} (e : x ≡ recordOn (w .run .device .machine) s (w .run .at)) where
@@ -249,18 +235,17 @@ module _ (step : RenderArea → World → Turn) (s : List ℕ) (w : World) {x : 
   is-turn f = ap (λ (z : Record). turnBy z step w) (sym f ∙ e)
 
   pub at-write :
-      {p v : ℕ} {t : Turned} {vram : List ℕ} → x ≡ Write p v → t .answer ≡ Says.Wrote (deviceWrite (w .run .device) (w .vram) p v .refusal)
-      → t .run ≡ on (w .run) 4 (deviceWrite (w .run .device) (w .vram) p v .device) → vram ≡ deviceWrite (w .run .device) (w .vram) p v .vram
-      → TurnLeaves (turnOf step s w) t vram (w .row) (w .frame)
+      {p v : ℕ} {t : Turned} {vram : List ℕ} → x ≡ Write p v → t ≡ writeTurned (w .run) (deviceWrite (w .run .device) (w .vram) p v)
+      → vram ≡ deviceWrite (w .run .device) (w .vram) p v .vram → TurnLeaves (turnOf step s w) t vram (w .row) (w .frame)
   unfolding turnBy
-  at-write f ea er em = same-turn (is-turn f) (record { answer = ea; world = λ i. held (er i) (em i) (w .row) (w .frame) })
+  at-write f et em =
+      same-turn (is-turn f) (record { answer = ap (λ (y : Turned). y .answer) et; world = λ i. held (et i .run) (em i) (w .row) (w .frame) })
 
   pub at-read :
-      {p : ℕ} {t : Turned} → x ≡ Read p → t .answer ≡ Says.Gave (deviceRead (w .run .device) (w .vram) p .refusal)
-      (deviceRead (w .run .device) (w .vram) p .byte)
-      → t .run ≡ on (w .run) 3 (deviceRead (w .run .device) (w .vram) p .device) → TurnLeaves (turnOf step s w) t (w .vram) (w .row) (w .frame)
+      {p : ℕ} {t : Turned} → x ≡ Read p → t ≡ readTurned (w .run) (deviceRead (w .run .device) (w .vram) p)
+      → TurnLeaves (turnOf step s w) t (w .vram) (w .row) (w .frame)
   unfolding turnBy
-  at-read f ea er = same-turn (is-turn f) (record { answer = ea; world = λ i. held (er i) (w .vram) (w .row) (w .frame) })
+  at-read f et = same-turn (is-turn f) (record { answer = ap (λ (y : Turned). y .answer) et; world = λ i. held (et i .run) (w .vram) (w .row) (w .frame) })
 
   pub at-step :
       {a : RenderArea} {t : Turned} {vram row frame : List ℕ} → x ≡ Step a → TurnLeaves (step a w) t vram row frame

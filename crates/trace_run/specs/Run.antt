@@ -1,7 +1,7 @@
 -- R7.8, R7.13, R15.5, R20.9: what a recording does, record by record. All programs follow a recording by these definitions.
 -- Assumes nothing.
 use mathlib.Core.Path.{_≡_}
-use mathlib.Core.Bool.{Bool, true, false, cond}
+use mathlib.Core.Bool.{cond}
 use mathlib.Core.List.{List, [], _++_}
 use Prim.Native.Nat.{ℕ, zero, suc, _+_, _-_, _*_, _%_}
 use lib.Dec.{eqb}
@@ -26,7 +26,7 @@ use Rattle.trace_run.specs.declared.Shown.{Shown}
 use Rattle.trace_run.specs.declared.Shown.the-variants.{Nothing, Colours, Layers}
 use Rattle.trace_run.specs.declared.Turned.{Turned}
 use Rattle.trace_record.specs.Machine.{recordOn}
-use Rattle.trace_run.specs.Device.{AfterStep, deviceWrite, deviceRead, deviceRowStep, deviceFrameStep}
+use Rattle.trace_run.specs.Device.{AfterWrite, AfterRead, AfterStep, deviceWrite, deviceRead, deviceRowStep, deviceFrameStep}
 use Rattle.trace_text.specs.Text.{lineOf}
 
 -- What one who follows a recording holds: the device and its place in the recording (`Run`), and the lent buffers. The trace has no frame.
@@ -117,11 +117,11 @@ frameFor Nothing = 0
 frameFor Colours = frameSize VisibleOnly
 frameFor Layers = frameSize VisibleOnly
 
--- the areas whose steps it shows
-abbrev pub visibleSize : RenderArea → Bool
-visibleSize VisibleOnly = true
-visibleSize EffectiveArea = false
-visibleSize TrueEdges = true
+-- what it shows of a step of an area: nothing where the area has not the visible size
+abbrev pub shownOf : Shown → RenderArea → Shown
+shownOf shown VisibleOnly = shown
+shownOf shown EffectiveArea = Nothing
+shownOf shown TrueEdges = shown
 
 -- a record of the recording, with steps made as `step` makes them; at a bad record and at the end nothing happens
 unfoldable pub turnBy : Record → (RenderArea → World → Turn) → World → Turn
@@ -156,3 +156,16 @@ ran step s w = after step (length s) s w
 pub record TurnLeaves (t : Turn) (r : Turned) (vram row frame : List ℕ) : Type 0 where
   pub answer : r .answer ≡ t .answer
   pub world : held (r .run) vram row frame ≡ t .world
+
+-- ---- what a turn of the code answers, by the call that it makes
+abbrev pub turned : Answer → Run → Turned
+turned a run = record { answer = a; run = run }
+
+abbrev pub writeTurned : Run → AfterWrite → Turned
+writeTurned run a = turned (Says.Wrote (a .refusal)) (on run 4 (a .device))
+
+abbrev pub readTurned : Run → AfterRead → Turned
+readTurned run a = turned (Says.Gave (a .refusal) (a .byte)) (on run 3 (a .device))
+
+abbrev pub stepTurned : Run → AfterStep → Turned
+stepTurned run s = turned (stepAnswer s) (on run 3 (s .device))

@@ -8,7 +8,8 @@ ghost use Rattle.picture.specs.declared.RenderArea.the-variants.{VisibleOnly};
 ghost use Rattle.picture.specs.Area.{screenOf, columns, frameSize};
 ghost use Rattle.points.specs.Points.{RowIn};
 ghost use Rattle.trace_run.specs.Device.{handheld, home, withVdp, withHome, deviceWrite, deviceRead, ofHandheld, ofHome};
-ghost use Rattle.trace_run.specs.Run.{held, on, stepAnswer, rowTurn, intoFrame, layerColour, layersPainted, layersInto, visibleSize, frameFor, turnFor, turnOf, TurnLeaves};
+ghost use Rattle.trace_run.specs.Run.{held, on, rowTurn, intoFrame, layerColour, layersPainted, layersInto, shownOf, frameFor, turnFor, turnOf, TurnLeaves};
+ghost use Rattle.trace_run.specs.Run.{turned, writeTurned, readTurned, stepTurned};
 
 pub mod output;
 
@@ -75,48 +76,40 @@ pub struct Turned {
     pub run: Run,
 }
 
-// The run after a call on each machine, one record and some bytes on.
-fn handheld_moved(run: Run, bytes: usize, vdp: VdpState) -> Run
+// A call that is made, on each machine: its answer, and the run one record and some bytes on, with the machine's new state.
+fn handheld_turned(mut run: Run, bytes: usize, answer: Answer, vdp: VdpState) -> Turned
     requires { ⌜ (run .at < 4294967296) × (run .count < 4294967296) × (bytes < 16) ⌝ }
-    ensures { λ r. ⌜ r ≡ on run bytes (withVdp (run .device) vdp) ⌝ }
+    ensures { λ r. ⌜ r ≡ turned answer (on run bytes (withVdp (run .device) vdp)) ⌝ }
 {
-    let device = run.device;
-    let machine = device.machine;
-    let home = device.home;
-    let next = Device {
-        machine: machine,
-        vdp: vdp,
-        home: home,
-    };
-    Run {
-        device: next,
-        at: run.at + bytes,
-        count: run.count + 1,
+    let mut device = run.device;
+    device.vdp = vdp;
+    run.device = device;
+    run.at += bytes;
+    run.count += 1;
+    Turned {
+        answer: answer,
+        run: run,
     }
 }
 
-fn home_moved(run: Run, bytes: usize, home: HomeState) -> Run
+fn home_turned(mut run: Run, bytes: usize, answer: Answer, home: HomeState) -> Turned
     requires { ⌜ (run .at < 4294967296) × (run .count < 4294967296) × (bytes < 16) ⌝ }
-    ensures { λ r. ⌜ r ≡ on run bytes (withHome (run .device) home) ⌝ }
+    ensures { λ r. ⌜ r ≡ turned answer (on run bytes (withHome (run .device) home)) ⌝ }
 {
-    let device = run.device;
-    let machine = device.machine;
-    let vdp = device.vdp;
-    let next = Device {
-        machine: machine,
-        vdp: vdp,
-        home: home,
-    };
-    Run {
-        device: next,
-        at: run.at + bytes,
-        count: run.count + 1,
+    let mut device = run.device;
+    device.home = home;
+    run.device = device;
+    run.at += bytes;
+    run.count += 1;
+    Turned {
+        answer: answer,
+        run: run,
     }
 }
 
 // No call: the run stays where it is.
 fn none(run: Run) -> Turned
-    ensures { λ r. ⌜ r ≡ record { answer = Answer.Nothing; run = run } ⌝ }
+    ensures { λ r. ⌜ r ≡ turned Answer.Nothing run ⌝ }
 {
     Turned {
         answer: Answer::Nothing,
@@ -127,32 +120,23 @@ fn none(run: Run) -> Turned
 // A port write.
 fn write_turn(run: Run, vram: &mut [u8], port: u8, value: u8) -> Turned
     requires { ⌜ (run .at < 4294967296) × (run .count < 4294967296) ⌝ }
-    ensures { λ r. ⌜ r .answer ≡ Answer.Wrote (deviceWrite (run .device) (now (vram .entry)) port value .refusal) ⌝ }
-    ensures { λ r. ⌜ r .run ≡ on run 4 (deviceWrite (run .device) (now (vram .entry)) port value .device) ⌝ }
+    ensures { λ r. ⌜ r ≡ writeTurned run (deviceWrite (run .device) (now (vram .entry)) port value) ⌝ }
     ensures { λ _. ⌜ now (vram .exit) ≡ deviceWrite (run .device) (now (vram .entry)) port value .vram ⌝ }
 {
     let device = run.device;
     let machine = device.machine;
     match machine {
         Machine::Handheld => {
-            let vdp = device.vdp;
-            let written = vdp.out(vram, port as u16, value);
+            let written = device.vdp.out(vram, port as u16, value);
             let refusal = written.refusal;
             let next = written.vdp;
-            Turned {
-                answer: Answer::Wrote(refusal),
-                run: handheld_moved(run, 4, next),
-            }
+            return handheld_turned(run, 4, Answer::Wrote(refusal), next);
         }
         Machine::Home => {
-            let home = device.home;
-            let written = home.out(vram, port as u16, value);
+            let written = device.home.out(vram, port as u16, value);
             let refusal = written.refusal;
             let next = written.home;
-            Turned {
-                answer: Answer::Wrote(refusal),
-                run: home_moved(run, 4, next),
-            }
+            return home_turned(run, 4, Answer::Wrote(refusal), next);
         }
     }
 }
@@ -160,66 +144,59 @@ fn write_turn(run: Run, vram: &mut [u8], port: u8, value: u8) -> Turned
 // A port read.
 fn read_turn(run: Run, vram: &[u8], port: u8) -> Turned
     requires { ⌜ (run .at < 4294967296) × (run .count < 4294967296) ⌝ }
-    ensures { λ r. ⌜ r .answer ≡ Answer.Gave (deviceRead (run .device) (now (vram .entry)) port .refusal) (deviceRead (run .device) (now (vram .entry)) port .byte) ⌝ }
-    ensures { λ r. ⌜ r .run ≡ on run 3 (deviceRead (run .device) (now (vram .entry)) port .device) ⌝ }
+    ensures { λ r. ⌜ r ≡ readTurned run (deviceRead (run .device) (now (vram .entry)) port) ⌝ }
 {
     let device = run.device;
     let machine = device.machine;
     match machine {
         Machine::Handheld => {
-            let vdp = device.vdp;
-            let back = vdp.input(vram, port as u16);
+            let back = device.vdp.input(vram, port as u16);
             let refusal = back.refusal;
             let next = back.vdp;
-            Turned {
-                answer: Answer::Gave(refusal, back.byte),
-                run: handheld_moved(run, 3, next),
-            }
+            return handheld_turned(run, 3, Answer::Gave(refusal, back.byte), next);
         }
         Machine::Home => {
-            let home = device.home;
-            let back = home.input(vram, port as u16);
+            let back = device.home.input(vram, port as u16);
             let refusal = back.refusal;
             let next = back.home;
-            Turned {
-                answer: Answer::Gave(refusal, back.byte),
-                run: home_moved(run, 3, next),
-            }
+            return home_turned(run, 3, Answer::Gave(refusal, back.byte), next);
         }
     }
 }
 
 // A step of each machine, once it is made.
-fn handheld_turn(run: Run, stepped: Stepped) -> Turned
+fn handheld_stepped(run: Run, stepped: Stepped) -> Turned
     requires { ⌜ (run .at < 4294967296) × (run .count < 4294967296) ⌝ }
-    ensures { λ r. ⌜ r .answer ≡ stepAnswer (ofHandheld (run .device) stepped []) ⌝ }
-    ensures { λ r. ⌜ r .run ≡ on run 3 (ofHandheld (run .device) stepped [] .device) ⌝ }
+    ensures { λ r. ⌜ r ≡ stepTurned run (ofHandheld (run .device) stepped []) ⌝ }
 {
     let refusal = stepped.refusal;
     let interrupt = stepped.interrupt;
     let report = stepped.report;
     let next = stepped.vdp;
     let raster = next.raster;
-    Turned {
-        answer: Answer::Stepped(refusal, raster.v_counter, interrupt, report),
-        run: handheld_moved(run, 3, next),
-    }
+    handheld_turned(
+        run,
+        3,
+        Answer::Stepped(refusal, raster.v_counter, interrupt, report),
+        next,
+    )
 }
 
-fn home_turn(run: Run, stepped: HomeStepped) -> Turned
+fn home_stepped(run: Run, stepped: HomeStepped) -> Turned
     requires { ⌜ (run .at < 4294967296) × (run .count < 4294967296) ⌝ }
-    ensures { λ r. ⌜ r .answer ≡ stepAnswer (ofHome (run .device) stepped []) ⌝ }
-    ensures { λ r. ⌜ r .run ≡ on run 3 (ofHome (run .device) stepped [] .device) ⌝ }
+    ensures { λ r. ⌜ r ≡ stepTurned run (ofHome (run .device) stepped []) ⌝ }
 {
     let refusal = stepped.refusal;
     let interrupt = stepped.interrupt;
     let report = stepped.report;
     let next = stepped.home;
     let raster = next.raster;
-    Turned {
-        answer: Answer::Stepped(refusal, raster.v_counter, interrupt, report),
-        run: home_moved(run, 3, next),
-    }
+    home_turned(
+        run,
+        3,
+        Answer::Stepped(refusal, raster.v_counter, interrupt, report),
+        next,
+    )
 }
 
 // A step into the row buffer.
@@ -230,8 +207,11 @@ fn row_step_turn(run: Run, vram: &[u8], row: &mut [u8], area: RenderArea) -> Tur
     let device = run.device;
     let machine = device.machine;
     match machine {
-        Machine::Handheld => return handheld_turn(run, step::row_step(device.vdp, vram, row, area)),
-        Machine::Home => return home_turn(run, home::row_step(device.home, vram, row)),
+        Machine::Handheld => return handheld_stepped(
+            run,
+            step::row_step(device.vdp, vram, row, area),
+        ),
+        Machine::Home => return home_stepped(run, home::row_step(device.home, vram, row)),
     }
 }
 
@@ -243,11 +223,11 @@ fn frame_step_turn(run: Run, vram: &[u8], frame: &mut [u8], area: RenderArea) ->
     let device = run.device;
     let machine = device.machine;
     match machine {
-        Machine::Handheld => return handheld_turn(
+        Machine::Handheld => return handheld_stepped(
             run,
             step::frame_step(device.vdp, vram, frame, area),
         ),
-        Machine::Home => return home_turn(run, home::frame_step(device.home, vram, frame)),
+        Machine::Home => return home_stepped(run, home::frame_step(device.home, vram, frame)),
     }
 }
 
@@ -301,20 +281,20 @@ fn layer_turn(run: Run, vram: &[u8], row: &mut [u8], frame: &mut [u8], area: Ren
             let stepped = layer_row_step(device.vdp, vram, row, &mut layers, area);
             let drawn = stepped.row;
             paint_layers(frame, drawn, &layers);
-            return handheld_turn(run, stepped);
+            return handheld_stepped(run, stepped);
         }
         Machine::Home => return row_step_turn(run, vram, row, area),
     }
 }
 
-// Whether an area has the visible size.
-fn visible_size(area: RenderArea) -> bool
-    ensures { λ r. ⌜ r ≡ visibleSize area ⌝ }
+// What the frame shows of a step of this area: nothing where the area has not the visible size.
+fn shown_of(shown: Shown, area: RenderArea) -> Shown
+    ensures { λ r. ⌜ r ≡ shownOf shown area ⌝ }
 {
     match area {
-        RenderArea::VisibleOnly => true,
-        RenderArea::EffectiveArea => false,
-        RenderArea::TrueEdges => true,
+        RenderArea::VisibleOnly => shown,
+        RenderArea::EffectiveArea => Shown::Nothing,
+        RenderArea::TrueEdges => shown,
     }
 }
 
@@ -330,10 +310,7 @@ fn step_turn(
     requires { ⌜ (run .at < 4294967296) × (run .count < 4294967296) × (frameFor shown ≤ length (now frame)) ⌝ }
     ensures { λ r. ⌜ TurnLeaves (turnFor shown area (held run (now (vram .entry)) (now (row .entry)) (now (frame .entry)))) r (now (vram .entry)) (now (row .exit)) (now (frame .exit)) ⌝ }
 {
-    if !visible_size(area) {
-        return row_step_turn(run, vram, row, area);
-    }
-    match shown {
+    match shown_of(shown, area) {
         Shown::Nothing => return row_step_turn(run, vram, row, area),
         Shown::Colours => return frame_step_turn(run, vram, frame, area),
         Shown::Layers => return layer_turn(run, vram, row, frame, area),

@@ -11,8 +11,8 @@ enum-told c = search needs
 frame-step-requires : tie.Need-frame-step-requires
 frame-step-requires c κs = search needs
 
-handheld-turn-requires : tie.Need-handheld-turn-requires
-handheld-turn-requires c κs = search needs
+handheld-stepped-requires : tie.Need-handheld-stepped-requires
+handheld-stepped-requires c κs = search needs
 
 same-length : tie.Need-same-length
 same-length c = search needs
@@ -23,7 +23,7 @@ returns c =
     let at-enum-told = at-frame-step .before .before in
     let at-start = at-enum-told .before .before .before .before .before in
     λ f. frame-stepped (at-start .args .area) (held (at-start .args .run) (at-start .args .vram .now) f (at-start .args .frame .now))
-    (c .handheld-turn .ensures .0) (c .handheld-turn .ensures .1)
+    (c .handheld-stepped .ensures)
     (handheld-frame (at-start .args .area) (at-start .args .run .device) (at-start .args .vram .now) (at-enum-told .enum-told .given .1)
     (at-frame-step .frame-step .ensures))
 
@@ -33,8 +33,8 @@ enum-told-2 c = search needs
 frame-step-requires-2 : tie.Need-frame-step-requires-2
 frame-step-requires-2 c κs = search needs
 
-home-turn-requires : tie.Need-home-turn-requires
-home-turn-requires c κs = search needs
+home-stepped-requires : tie.Need-home-stepped-requires
+home-stepped-requires c κs = search needs
 
 same-length-2 : tie.Need-same-length-2
 same-length-2 c = search needs
@@ -44,8 +44,7 @@ returns-2 c =
     let at-frame-step2 = c .before .before .before in
     let at-enum-told2 = at-frame-step2 .before .before in
     let at-start = at-enum-told2 .before .before .before .before .before in
-    λ f. frame-stepped (at-start .args .area) (held (at-start .args .run) (at-start .args .vram .now) f (at-start .args .frame .now)) (c .home-turn .ensures .0)
-    (c .home-turn .ensures .1) (home-frame (at-start .args .area) (at-start .args .run .device) (at-start .args .vram .now)
+    λ f. frame-stepped (at-start .args .area) (held (at-start .args .run) (at-start .args .vram .now) f (at-start .args .frame .now)) (c .home-stepped .ensures) (home-frame (at-start .args .area) (at-start .args .run .device) (at-start .args .vram .now)
     (at-enum-told2 .enum-told2 .given .1) (at-frame-step2 .frame-step2 .ensures))
 
 pub frame-step-turn-spec : {M : Type 1} → statement M
@@ -54,11 +53,11 @@ frame-step-turn-spec =
     (tie.spec
     enum-told
     frame-step-requires
-    handheld-turn-requires
+    handheld-stepped-requires
     same-length
     returns
     enum-told-2
     frame-step-requires-2
-    home-turn-requires
+    home-stepped-requires
     same-length-2
     returns-2)

@@ -26,8 +26,8 @@ paint-layers-requires c κs =
           (at-start .args .frame .now) (replicate 160 0) refl _ (ap (λ (x : Stepped). x .row) (at-layer-row-step .layer-row-step .ensures .answer)),
     )
 
-handheld-turn-requires : tie.Need-handheld-turn-requires
-handheld-turn-requires c κs = search needs
+handheld-stepped-requires : tie.Need-handheld-stepped-requires
+handheld-stepped-requires c κs = search needs
 
 same-length : tie.Need-same-length
 same-length c = search needs
@@ -43,8 +43,7 @@ returns c =
     let at-start = at-enum-told .before .before .before .before .before .before in
     layer-stepped (at-start .args .area) (at-start .pre .3)
     (held (at-start .args .run) (at-start .args .vram .now) (at-start .args .row .now) (at-start .args .frame .now)) (replicate 160 0) refl
-    (at-enum-told .enum-told .given .1) (at-layer-row-step .layer-row-step .ensures) (at-paint-layers .paint-layers .ensures) (c .handheld-turn .ensures .0)
-    (c .handheld-turn .ensures .1)
+    (at-enum-told .enum-told .given .1) (at-layer-row-step .layer-row-step .ensures) (at-paint-layers .paint-layers .ensures) (c .handheld-stepped .ensures)
 
 enum-told-2 : tie.Need-enum-told-2
 enum-told-2 c = search needs
@@ -71,7 +70,7 @@ layer-turn-spec =
     slice-aggregate-layer-row-step
     layer-row-step-requires
     paint-layers-requires
-    handheld-turn-requires
+    handheld-stepped-requires
     same-length
     same-length-2
     returns

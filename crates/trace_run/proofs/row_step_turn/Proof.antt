@@ -11,8 +11,8 @@ enum-told c = search needs
 row-step-requires : tie.Need-row-step-requires
 row-step-requires c κs = search needs
 
-handheld-turn-requires : tie.Need-handheld-turn-requires
-handheld-turn-requires c κs = search needs
+handheld-stepped-requires : tie.Need-handheld-stepped-requires
+handheld-stepped-requires c κs = search needs
 
 same-length : tie.Need-same-length
 same-length c = search needs
@@ -22,8 +22,7 @@ returns c =
     let at-row-step = c .before .before .before in
     let at-enum-told = at-row-step .before .before in
     let at-start = at-enum-told .before .before .before .before .before in
-    λ f. row-stepped (at-start .args .area) (held (at-start .args .run) (at-start .args .vram .now) (at-start .args .row .now) f) (c .handheld-turn .ensures .0)
-    (c .handheld-turn .ensures .1) (handheld-row (at-start .args .area) (at-start .args .run .device) (at-start .args .vram .now)
+    λ f. row-stepped (at-start .args .area) (held (at-start .args .run) (at-start .args .vram .now) (at-start .args .row .now) f) (c .handheld-stepped .ensures) (handheld-row (at-start .args .area) (at-start .args .run .device) (at-start .args .vram .now)
     (at-enum-told .enum-told .given .1) (at-row-step .row-step .ensures))
 
 enum-told-2 : tie.Need-enum-told-2
@@ -32,8 +31,8 @@ enum-told-2 c = search needs
 row-step-requires-2 : tie.Need-row-step-requires-2
 row-step-requires-2 c κs = search needs
 
-home-turn-requires : tie.Need-home-turn-requires
-home-turn-requires c κs = search needs
+home-stepped-requires : tie.Need-home-stepped-requires
+home-stepped-requires c κs = search needs
 
 same-length-2 : tie.Need-same-length-2
 same-length-2 c = search needs
@@ -43,8 +42,7 @@ returns-2 c =
     let at-row-step2 = c .before .before .before in
     let at-enum-told2 = at-row-step2 .before .before in
     let at-start = at-enum-told2 .before .before .before .before .before in
-    λ f. row-stepped (at-start .args .area) (held (at-start .args .run) (at-start .args .vram .now) (at-start .args .row .now) f) (c .home-turn .ensures .0)
-    (c .home-turn .ensures .1) (home-row (at-start .args .area) (at-start .args .run .device) (at-start .args .vram .now)
+    λ f. row-stepped (at-start .args .area) (held (at-start .args .run) (at-start .args .vram .now) (at-start .args .row .now) f) (c .home-stepped .ensures) (home-row (at-start .args .area) (at-start .args .run .device) (at-start .args .vram .now)
     (at-enum-told2 .enum-told2 .given .1) (at-row-step2 .row-step2 .ensures))
 
 pub row-step-turn-spec : {M : Type 1} → statement M
@@ -53,11 +51,11 @@ row-step-turn-spec =
     (tie.spec
     enum-told
     row-step-requires
-    handheld-turn-requires
+    handheld-stepped-requires
     same-length
     returns
     enum-told-2
     row-step-requires-2
-    home-turn-requires
+    home-stepped-requires
     same-length-2
     returns-2)

@@ -25,7 +25,7 @@ returns c =
     let at-start = at-record-on .before .before .before .before .before .before in
     at-write (turnFor (at-start .args .shown)) (at-start .args .input .now)
     (held (at-start .args .run) (at-start .args .vram .now) (at-start .args .row .now) (at-start .args .frame .now)) (at-record-on .record-on .ensures)
-    (at-port .port .given .1) (at-write-turn .write-turn .ensures .0) (at-write-turn .write-turn .ensures .1 .0) (at-write-turn .write-turn .ensures .1 .1)
+    (at-port .port .given .1) (at-write-turn .write-turn .ensures .0) (at-write-turn .write-turn .ensures .1)
 
 enum-known-port-2 : tie.Need-enum-known-port-2
 enum-known-port-2 c = search needs
@@ -43,7 +43,7 @@ returns-2 c =
     let at-start = at-record-on .before .before .before .before .before .before in
     at-read (turnFor (at-start .args .shown)) (at-start .args .input .now)
     (held (at-start .args .run) (at-start .args .vram .now) (at-start .args .row .now) (at-start .args .frame .now)) (at-record-on .record-on .ensures)
-    (at-port2 .port2 .given .1) (c .read-turn .ensures .0) (c .read-turn .ensures .1)
+    (at-port2 .port2 .given .1) (c .read-turn .ensures)
 
 enum-known-area : tie.Need-enum-known-area
 enum-known-area c = search needs

@@ -1,9 +1,8 @@
 -- `trace_run::write_turn` meets its contract: a turn that writes to a port.
 use borrow.Author.Needs.{needs}
 use mathlib.Core.Path.{ap, _∙_}
-use Rattle.trace_text.specs.declared.Answer.the-variants as Says
 use Rattle.trace_run.specs.Device.{AfterWrite}
-use Rattle.trace_run.specs.Run.{on}
+use Rattle.trace_run.specs.Run.{writeTurned}
 use Rattle.trace_run.proofs.Turns.{handheld-wrote, home-wrote}
 use Rattle.trace_run.proofs.write_turn.Statement.{statement}
 use Rattle.trace_run.proofs.write_turn.Tie as tie
@@ -14,17 +13,8 @@ enum-told c = search needs
 out-requires : tie.Need-out-requires
 out-requires c κs = search needs
 
-handheld-moved-requires : tie.Need-handheld-moved-requires
-handheld-moved-requires c κs = search needs
-
-enum-told-2 : tie.Need-enum-told-2
-enum-told-2 c = search needs
-
-out-requires-2 : tie.Need-out-requires-2
-out-requires-2 c κs = search needs
-
-home-moved-requires : tie.Need-home-moved-requires
-home-moved-requires c κs = search needs
+handheld-turned-requires : tie.Need-handheld-turned-requires
+handheld-turned-requires c κs = search needs
 
 same-length : tie.Need-same-length
 same-length c = search needs
@@ -32,13 +22,20 @@ same-length c = search needs
 returns : tie.Need-returns
 returns c =
     let at-out = c .before .before .before .before in
-    let at-enum-told = at-out .before .before .before in
+    let at-enum-told = at-out .before .before in
     let at-start = at-enum-told .before .before .before .before in
     let a = at-start .args in
-    let g = handheld-wrote (a .run .device) (a .vram .now) (a .port) (a .value) (at-enum-told .enum-told .given .1) (at-out .out .ensures) in (
-      ap (λ (x : AfterWrite). Says.Wrote (x .refusal)) g,
-      (c .handheld-moved .ensures ∙ ap (λ (x : AfterWrite). on (a .run) 4 (x .device)) g, ap (λ (x : AfterWrite). x .vram) g),
-    )
+    let g = handheld-wrote (a .run .device) (a .vram .now) (a .port) (a .value) (at-enum-told .enum-told .given .1) (at-out .out .ensures) in
+    (c .handheld-turned .ensures ∙ ap (writeTurned (a .run)) g, ap (λ (x : AfterWrite). x .vram) g)
+
+enum-told-2 : tie.Need-enum-told-2
+enum-told-2 c = search needs
+
+out-requires-2 : tie.Need-out-requires-2
+out-requires-2 c κs = search needs
+
+home-turned-requires : tie.Need-home-turned-requires
+home-turned-requires c κs = search needs
 
 same-length-2 : tie.Need-same-length-2
 same-length-2 c = search needs
@@ -46,13 +43,11 @@ same-length-2 c = search needs
 returns-2 : tie.Need-returns-2
 returns-2 c =
     let at-out2 = c .before .before .before .before in
-    let at-enum-told2 = at-out2 .before .before .before in
+    let at-enum-told2 = at-out2 .before .before in
     let at-start = at-enum-told2 .before .before .before .before in
     let a = at-start .args in
-    let g = home-wrote (a .run .device) (a .vram .now) (a .port) (a .value) (at-enum-told2 .enum-told2 .given .1) (at-out2 .out2 .ensures) in (
-      ap (λ (x : AfterWrite). Says.Wrote (x .refusal)) g,
-      (c .home-moved .ensures ∙ ap (λ (x : AfterWrite). on (a .run) 4 (x .device)) g, ap (λ (x : AfterWrite). x .vram) g),
-    )
+    let g = home-wrote (a .run .device) (a .vram .now) (a .port) (a .value) (at-enum-told2 .enum-told2 .given .1) (at-out2 .out2 .ensures) in
+    (c .home-turned .ensures ∙ ap (writeTurned (a .run)) g, ap (λ (x : AfterWrite). x .vram) g)
 
 pub write-turn-spec : {M : Type 1} → statement M
 write-turn-spec =
@@ -60,11 +55,11 @@ write-turn-spec =
     (tie.spec
     enum-told
     out-requires
-    handheld-moved-requires
-    enum-told-2
-    out-requires-2
-    home-moved-requires
+    handheld-turned-requires
     same-length
     returns
+    enum-told-2
+    out-requires-2
+    home-turned-requires
     same-length-2
     returns-2)
