@@ -1,22 +1,24 @@
 -- What a whole recording prints and draws, as the code puts it together.
 -- Assumes nothing.
 use mathlib.Core.Path.{_≡_, sym, ap, _∙_}
-use mathlib.Core.Logic.{_≢_}
 use mathlib.Core.Bool.{Bool, true, false, _&&_}
 use mathlib.Core.List.{List, [], _++_}
-use Prim.Native.Nat.{ℕ, _+_, _<_, _≤_}
-use borrow.Author.Tests.{eq-eqb, ne-eqb, lt-ltb, le-ltb, le-leb, lt-leb}
+use Prim.Native.Nat.{ℕ, _+_, _*_, _<_, _≤_}
+use native.Mathlib.Omega.{arith}
+use borrow.Author.Tests.{leb-true, eqb-true, lt-ltb, le-ltb, le-leb, lt-leb}
 use lib.Dec.{leb, eqb}
 use lib.ListN.{length, take}
 use lib.Seq.{length-take-le}
 use Rattle.laws.specs.Lists.{written}
+use Rattle.laws.proofs.Tests.{both}
 use Rattle.picture.specs.declared.RenderArea.{RenderArea}
 use Rattle.picture.specs.declared.Screen.{Screen}
 use Rattle.picture.specs.Screen.{frameSize}
 use Rattle.trace_run.specs.declared.Device.{Device}
 use Rattle.trace_text.specs.Text.{longLine}
 use Rattle.trace_run.specs.Run.{World, Turn, start, rowTurn, after, lines, ran}
-use Rattle.trace_end.specs.End.{lastLine, pixels, pictureRoom, drawn}
+use Rattle.trace_end.specs.End.{lastLine, pixels, pixelCount, pictureRoom, drawn}
+use Rattle.trace_end.proofs.End.{frame-bytes, many-pixels}
 use Rattle.trace_run.specs.Output.{text, printed, screenFor, pictured, Left, left, leaves, traced, snapped, TraceLeaves, RunLeaves, PictureLeaves}
 use Rattle.trace_text.proofs.Lines.{grow}
 
@@ -79,37 +81,52 @@ module _ (step : RenderArea → World → Turn) (s : List ℕ) (w : World) (o : 
   abbrev room : Bool
   room = leb (pictureRoom screen) (length o) && eqb (length (w .frame)) (frameSize screen)
 
-  pub snapshot-no-room : length o < pictureRoom screen → left w 0 o ≡ snapped step s w o
+  pub snapshot-no-room : room ≡ false → left w 0 o ≡ snapped step s w o
   unfolding snapped
-  snapshot-no-room h = no-room room step (pictured step s w) s w o (rw (lt-leb (pictureRoom screen) (length o) h))
+  snapshot-no-room h = no-room room step (pictured step s w) s w o h
 
-  module _ (h : pictureRoom screen ≤ length o) where
-    pub snapshot-no-frame : length (w .frame) ≢ frameSize screen → left w 0 o ≡ snapped step s w o
-    unfolding snapped
-    snapshot-no-frame k =
-        no-room room step (pictured step s w) s w o
-        (rw (le-leb (pictureRoom screen) (length o) h, ne-eqb (length (w .frame)) (frameSize screen) k))
+  module _ (h : room ≡ true) where
+    pub snapshot-long : 65535 < length s → {n : ℕ} {o′ : List ℕ} → n ≡ length longLine → o′ ≡ written o 0 longLine → left w n o′ ≡ snapped step s w o
+    unfolding snapped pictured
+    snapshot-long k en eo =
+        let b : longLine ≡ pictured step s w = rw (lt-ltb 65535 (length s) k) in
+        too-long room step (pictured step s w) s w o h k (en ∙ ap length b) (eo ∙ ap (written o 0) b)
 
-    module _ (g : length (w .frame) ≡ frameSize screen) where
-      enough : room ≡ true
-      enough = rw (le-leb (pictureRoom screen) (length o) h, eq-eqb (length (w .frame)) (frameSize screen) g)
+    pub snapshot-whole :
+        length s ≤ 65535 → {x : World} {n : ℕ} {o′ : List ℕ} → x ≡ after step (length s) s w
+        → (n ≡ length (drawn screen s (x .run .at) (x .frame))) × (o′ ≡ written o 0 (drawn screen s (x .run .at) (x .frame))) → left x n o′ ≡ snapped
+        step s w o
+    unfolding snapped pictured ran
+    snapshot-whole k {x} ex p =
+        let b : drawn screen s (x .run .at) (x .frame) ≡ pictured step s w =
+        ap (λ (y : World). drawn screen s (y .run .at) (y .frame)) ex ∙ sym (rw (le-ltb 65535 (length s) k)) in
+        whole room step (pictured step s w) s w o h k ex (p .0 ∙ ap length b) (p .1 ∙ ap (written o 0) b)
 
-      pub snapshot-long : 65535 < length s → {n : ℕ} {o′ : List ℕ} → n ≡ length longLine → o′ ≡ written o 0 longLine → left w n o′ ≡ snapped step s w
-          o
-      unfolding snapped pictured
-      snapshot-long k en eo =
-          let b : longLine ≡ pictured step s w = rw (lt-ltb 65535 (length s) k) in
-          too-long room step (pictured step s w) s w o enough k (en ∙ ap length b) (eo ∙ ap (written o 0) b)
+-- the test of the room, as the code makes it, where n is the count of the screen's pixels
+module _ (screen : Screen) (frame out : ℕ) {n : ℕ} (e : n ≡ pixelCount screen) where
+  pub no-picture : out < 15 + 3 * n → false ≡ (leb (pictureRoom screen) out && eqb frame (frameSize screen))
+  no-picture h = sym (rw (lt-leb (pictureRoom screen) out (omega arith)))
 
-      pub snapshot-whole :
-          length s ≤ 65535 → {x : World} {n : ℕ} {o′ : List ℕ} → x ≡ after step (length s) s w
-          → (n ≡ length (drawn screen s (x .run .at) (x .frame))) × (o′ ≡ written o 0 (drawn screen s (x .run .at) (x .frame))) → left x n o′ ≡ snapped
-          step s w o
-      unfolding snapped pictured ran
-      snapshot-whole k {x} ex p =
-          let b : drawn screen s (x .run .at) (x .frame) ≡ pictured step s w =
-          ap (λ (y : World). drawn screen s (y .run .at) (y .frame)) ex ∙ sym (rw (le-ltb 65535 (length s) k)) in
-          whole room step (pictured step s w) s w o enough k ex (p .0 ∙ ap length b) (p .1 ∙ ap (written o 0) b)
+  pub a-picture : 15 + 3 * n ≤ out → eqb frame (4 * n) ≡ (leb (pictureRoom screen) out && eqb frame (frameSize screen))
+  a-picture h =
+      let q : 4 * n ≡ frameSize screen = omega (arith, frame-bytes screen) in
+      ap (eqb frame) q ∙ sym (rw (le-leb (pictureRoom screen) out (omega arith)))
+
+-- what it tells: the room, the frame, and that this is enough for the line of a long recording, for a run and for the picture
+pub record Roomy (screen : Screen) (frame out : ℕ) : Type 0 where
+  pub room : pictureRoom screen ≤ out
+  pub whole : 4 * pixelCount screen ≤ frame
+  pub long : 5 ≤ out
+  pub visible : 92160 ≤ frame
+
+pub roomy : (screen : Screen) (frame out : ℕ) → (leb (pictureRoom screen) out && eqb frame (frameSize screen)) ≡ true → Roomy screen frame out
+roomy screen frame out h =
+    let t = both (leb (pictureRoom screen) out) (eqb frame (frameSize screen)) h in
+    let a = leb-true (pictureRoom screen) out (t .0) in
+    let b = eqb-true frame (frameSize screen) (t .1) in
+    let m = many-pixels screen in
+    let k = frame-bytes screen in
+    record { room = a; whole = omega arith; long = omega arith; visible = omega arith }
 
 pub trace-leaves :
     {d : Device} {s vram row o : List ℕ} (x : World) {n : ℕ} {o′ : List ℕ} → left x n o′ ≡ traced s (start d vram row []) o
@@ -161,3 +178,11 @@ same-leaves l p =
 -- what lending the first n bytes of a buffer asks
 pub lent : (n : ℕ) (xs : List ℕ) → n ≤ length xs → (n ≤ length xs) × (n ≡ length (take n xs))
 lent n xs h = (h, sym (length-take-le n xs h))
+
+-- the bytes that were put: at most r of m
+pub lent-in : (n : ℕ) (xs : List ℕ) {k r m : ℕ} → n ≡ k → k ≤ r → r ≤ m → length xs ≡ m → (n ≤ length xs) × (n ≡ length (take n xs))
+lent-in n xs e f g h = lent n xs (omega arith)
+
+-- those of a text of k and of its last line, of at most ten
+pub lent-behind : (n : ℕ) (xs : List ℕ) (k : ℕ) {j m : ℕ} → n ≡ k + j → j ≤ 10 → k + 10 ≤ m → length xs ≡ m → (n ≤ length xs) × (n ≡ length (take n xs))
+lent-behind n xs k e f g h = lent n xs (omega arith)

@@ -228,6 +228,24 @@ module _ {step : RenderArea → World → Turn} (moves : Moves step) where
       → Small (length s) (x .run) (lines step i s w)
   ran-small i s w e p q = rw e (small i s w (small-start (length s) (w .run) p q))
 
+-- so of a recording that is not too long its place and its count are small, and there is room for what it prints, a line more and the last line
+module _ {n : ℕ} {r : Run} {t : List ℕ} (h : n ≤ 65535) (g : Small n r t) where
+  pub place-fits : r .at < 4294967296
+  place-fits = omega (arith, g .inside)
+
+  pub count-fits : r .count < 4294967296
+  count-fits = omega (arith, g .inside, g .counted)
+
+  module _ {o : ℕ} (big : 327700 ≤ o) where
+    pub text-fits : length t ≤ o
+    text-fits = omega (arith, g .inside, g .short)
+
+    pub line-fits : {k m : ℕ} → k ≡ length t → m ≡ o → k + 15 ≤ m
+    line-fits e f = omega (arith, g .inside, g .short)
+
+    pub last-fits : {k m : ℕ} → k ≡ length t → m ≡ o → k + 10 ≤ m
+    last-fits e f = omega (arith, g .inside, g .short)
+
 -- ---- one turn of the code's loop
 module _ (step : RenderArea → World → Turn) (s : List ℕ) (w : World) (i : ℕ) {x : World} (e : x ≡ after step i s w) where
   pub world-more : {t : Turned} {vram row frame : List ℕ} → TurnLeaves (turnOf step s x) t vram row frame → held (t .run) vram row frame ≡ after step

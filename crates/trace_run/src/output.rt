@@ -1,8 +1,12 @@
 // A whole recording: the text that it prints, and the pictures that it draws.
 ghost use mathlib.Core.Path.{_≡_};
 ghost use Prim.Native.Nat.{_+_, _*_, _≤_};
+ghost use mathlib.Core.Bool.{_&&_};
+ghost use lib.Dec.{leb, eqb};
 ghost use lib.ListN.{length, take};
 ghost use Rattle.laws.specs.Lists.{written};
+ghost use Rattle.picture.specs.Screen.{frameSize};
+ghost use Rattle.trace_end.specs.End.{pictureRoom};
 ghost use Rattle.trace_run.specs.Device.{handheld};
 ghost use Rattle.trace_run.specs.Output.{longest, screenFor, RunLeaves, TraceLeaves, PictureLeaves};
 ghost use Rattle.trace_run.specs.Run.{frameTurn, layerTurn, frameFor, turnFor, start, ran};
@@ -60,6 +64,17 @@ fn screen_for(machine: Machine) -> Screen
     }
 }
 
+// Whether a frame of so many bytes is one of this screen, and so many are room for its picture.
+fn has_room(screen: Screen, frame: usize, out: usize) -> bool
+    ensures { λ r. ⌜ r ≡ (leb (pictureRoom screen) out && eqb frame (frameSize screen)) ⌝ }
+{
+    let count = trace_end::pixel_count(screen);
+    if out < 15 + 3 * count {
+        return false;
+    }
+    frame == 4 * count
+}
+
 // A whole recording, record by record; answers where the run then stands.
 fn run_all(
     device: Device,
@@ -102,11 +117,7 @@ fn pictured(
 {
     let machine = device.machine;
     let screen = screen_for(machine);
-    let count = trace_end::pixel_count(screen);
-    if out.len() < 15 + 3 * count {
-        return 0;
-    }
-    if frame.len() != 4 * count {
+    if !has_room(screen, frame.len(), out.len()) {
         return 0;
     }
     if LONGEST < input.len() {

@@ -10,8 +10,8 @@ use Rattle.laws.proofs.Lists.{written-nil}
 use Rattle.trace_text.specs.Text.{longLine}
 use Rattle.trace_run.specs.Run.{held, start, rowTurn, after, lines}
 use Rattle.trace_end.proofs.End.{last-short}
-use Rattle.trace_run.proofs.Outputs.{text-whole, trace-no-room, trace-long, trace-whole, trace-leaves, lent}
-use Rattle.trace_run.proofs.Runs.{row-moves, ran-small, world-more, text-more}
+use Rattle.trace_run.proofs.Outputs.{text-whole, trace-no-room, trace-long, trace-whole, trace-leaves, lent, lent-in, lent-behind}
+use Rattle.trace_run.proofs.Runs.{row-moves, ran-small, place-fits, count-fits, text-fits, line-fits, last-fits, world-more, text-more}
 use Rattle.trace_run.proofs.output.trace.Statement.{statement}
 use Rattle.trace_run.proofs.output.trace.Tie as tie
 
@@ -97,7 +97,7 @@ turn-requires c κs =
     let l = at-loop .loop in
     let e = l .inv .1 in
     let g = ran-small row-moves (l .i) s w e refl refl in
-    (omega (arith, g .inside), omega (arith, g .inside, g .counted), omega arith)
+    (place-fits short g, count-fits short g, omega arith)
 
 put-answer-requires : tie.Need-put-answer-requires Inv-loop μ-loop
 put-answer-requires c κs =
@@ -114,7 +114,7 @@ put-answer-requires c κs =
     let l = at-loop .loop in
     let e = l .inv .1 in
     let g = ran-small row-moves (l .i) s w e refl refl in
-    omega (arith, g .inside, g .short, l .inv .2, l .inv .6)
+    line-fits short g big (l .inv .2) (l .inv .6)
 
 add-i : tie.Need-add-i Inv-loop μ-loop
 add-i c = search needs
@@ -142,7 +142,7 @@ loop-again c =
     let g = ran-small row-moves (l .i) s w e refl refl in
     let t = at-turn .turn in
     let p = at-put-answer .put-answer in
-    let room : length (lines rowTurn (l .i) s w) ≤ length o = omega (arith, g .inside, g .short) in
+    let room = text-fits short g big in
     let m = text-more rowTurn s w (l .i) e o (t .ensures) room (l .inv .2) (l .inv .3) (p .ensures) in (
       omega (arith, at-loop-test .loop-test .taken),
       world-more rowTurn s w (l .i) e (t .ensures),
@@ -169,7 +169,7 @@ put-last-requires c κs =
     let l = at-loop .loop in
     let e = l .inv .1 in
     let g = ran-small row-moves (l .i) s w e refl refl in
-    omega (arith, g .inside, g .short, l .inv .2, l .inv .6)
+    last-fits short g big (l .inv .2) (l .inv .6)
 
 same-length-2 : tie.Need-same-length-2 Inv-loop μ-loop
 same-length-2 c = search needs
@@ -201,14 +201,13 @@ returns-3 c =
     let all : l .i ≡ length s = omega (arith, l .inv .0, at-loop-test .loop-test .left) in
     let x = held (l .run) (l .vram) (l .row) (l .none) in
     let ex : x ≡ after rowTurn (length s) s w = e ∙ ap (λ (k : ℕ). after rowTurn k s w) all in
-    let fits : length (lines rowTurn (l .i) s w) ≤ length o = omega (arith, g .inside, g .short) in
-    let room : length (lines rowTurn (length s) s w) ≤ length o = rw all at fits in
+    let room : length (lines rowTurn (length s) s w) ≤ length o = rw all at (text-fits short g big) in
     let en = l .inv .2 ∙ ap (λ (k : ℕ). length (lines rowTurn k s w)) all in
     let eo = l .inv .3 ∙ ap (λ (k : ℕ). written o 0 (lines rowTurn k s w)) all in
     let t = text-whole s w ex o room en eo (f .ensures) in (
       trace-leaves x (trace-whole s w o big short ex t),
-      lent (f .result) (f .last .0)
-          (omega (arith, f .ensures .0, f .kept .0, l .inv .2, l .inv .6, last-short s (l .run .at) (l .run .count), g .inside, g .short)),
+      lent-behind (f .result) (f .last .0) (l .len) (f .ensures .0) (last-short s (l .run .at) (l .run .count)) (last-fits short g big (l .inv .2) (l .inv .6))
+          (f .kept .0),
     )
 
 pub trace-spec : {M : Type 1} → statement M
