@@ -76,6 +76,14 @@ pub struct Turned {
     pub run: Run,
 }
 
+// The machine of a run's device.
+fn machine_of(run: Run) -> Machine
+    ensures { λ r. ⌜ r ≡ run .device .machine ⌝ }
+{
+    let device = run.device;
+    device.machine
+}
+
 // A call that is made, on each machine: its answer, and the run one record and some bytes on, with the machine's new state.
 fn handheld_turned(mut run: Run, bytes: usize, answer: Answer, vdp: VdpState) -> Turned
     requires { ⌜ (run .at < 4294967296) × (run .count < 4294967296) × (bytes < 16) ⌝ }
@@ -123,20 +131,16 @@ fn write_turn(run: Run, vram: &mut [u8], port: u8, value: u8) -> Turned
     ensures { λ r. ⌜ r ≡ writeTurned run (deviceWrite (run .device) (now (vram .entry)) port value) ⌝ }
     ensures { λ _. ⌜ now (vram .exit) ≡ deviceWrite (run .device) (now (vram .entry)) port value .vram ⌝ }
 {
-    let device = run.device;
-    let machine = device.machine;
-    match machine {
+    match machine_of(run) {
         Machine::Handheld => {
-            let written = device.vdp.out(vram, port as u16, value);
+            let written = run.device.vdp.out(vram, port as u16, value);
             let refusal = written.refusal;
-            let next = written.vdp;
-            return handheld_turned(run, 4, Answer::Wrote(refusal), next);
+            return handheld_turned(run, 4, Answer::Wrote(refusal), written.vdp);
         }
         Machine::Home => {
-            let written = device.home.out(vram, port as u16, value);
+            let written = run.device.home.out(vram, port as u16, value);
             let refusal = written.refusal;
-            let next = written.home;
-            return home_turned(run, 4, Answer::Wrote(refusal), next);
+            return home_turned(run, 4, Answer::Wrote(refusal), written.home);
         }
     }
 }
@@ -146,20 +150,16 @@ fn read_turn(run: Run, vram: &[u8], port: u8) -> Turned
     requires { ⌜ (run .at < 4294967296) × (run .count < 4294967296) ⌝ }
     ensures { λ r. ⌜ r ≡ readTurned run (deviceRead (run .device) (now (vram .entry)) port) ⌝ }
 {
-    let device = run.device;
-    let machine = device.machine;
-    match machine {
+    match machine_of(run) {
         Machine::Handheld => {
-            let back = device.vdp.input(vram, port as u16);
+            let back = run.device.vdp.input(vram, port as u16);
             let refusal = back.refusal;
-            let next = back.vdp;
-            return handheld_turned(run, 3, Answer::Gave(refusal, back.byte), next);
+            return handheld_turned(run, 3, Answer::Gave(refusal, back.byte), back.vdp);
         }
         Machine::Home => {
-            let back = device.home.input(vram, port as u16);
+            let back = run.device.home.input(vram, port as u16);
             let refusal = back.refusal;
-            let next = back.home;
-            return home_turned(run, 3, Answer::Gave(refusal, back.byte), next);
+            return home_turned(run, 3, Answer::Gave(refusal, back.byte), back.home);
         }
     }
 }
@@ -172,13 +172,12 @@ fn handheld_stepped(run: Run, stepped: Stepped) -> Turned
     let refusal = stepped.refusal;
     let interrupt = stepped.interrupt;
     let report = stepped.report;
-    let next = stepped.vdp;
-    let raster = next.raster;
+    let counter = stepped.vdp.raster.v_counter;
     handheld_turned(
         run,
         3,
-        Answer::Stepped(refusal, raster.v_counter, interrupt, report),
-        next,
+        Answer::Stepped(refusal, counter, interrupt, report),
+        stepped.vdp,
     )
 }
 
@@ -189,13 +188,12 @@ fn home_stepped(run: Run, stepped: HomeStepped) -> Turned
     let refusal = stepped.refusal;
     let interrupt = stepped.interrupt;
     let report = stepped.report;
-    let next = stepped.home;
-    let raster = next.raster;
+    let counter = stepped.home.raster.v_counter;
     home_turned(
         run,
         3,
-        Answer::Stepped(refusal, raster.v_counter, interrupt, report),
-        next,
+        Answer::Stepped(refusal, counter, interrupt, report),
+        stepped.home,
     )
 }
 
@@ -204,14 +202,12 @@ fn row_step_turn(run: Run, vram: &[u8], row: &mut [u8], area: RenderArea) -> Tur
     requires { ⌜ (run .at < 4294967296) × (run .count < 4294967296) ⌝ }
     ensures { λ r. ⌜ ((frame : List ℕ) → TurnLeaves (rowTurn area (held run (now (vram .entry)) (now (row .entry)) frame)) r (now (vram .entry)) (now (row .exit)) frame) ⌝ }
 {
-    let device = run.device;
-    let machine = device.machine;
-    match machine {
+    match machine_of(run) {
         Machine::Handheld => return handheld_stepped(
             run,
-            step::row_step(device.vdp, vram, row, area),
+            step::row_step(run.device.vdp, vram, row, area),
         ),
-        Machine::Home => return home_stepped(run, home::row_step(device.home, vram, row)),
+        Machine::Home => return home_stepped(run, home::row_step(run.device.home, vram, row)),
     }
 }
 
@@ -220,14 +216,12 @@ fn frame_step_turn(run: Run, vram: &[u8], frame: &mut [u8], area: RenderArea) ->
     requires { ⌜ (run .at < 4294967296) × (run .count < 4294967296) ⌝ }
     ensures { λ r. ⌜ ((row : List ℕ) → TurnLeaves (intoFrame area (held run (now (vram .entry)) row (now (frame .entry)))) r (now (vram .entry)) row (now (frame .exit))) ⌝ }
 {
-    let device = run.device;
-    let machine = device.machine;
-    match machine {
+    match machine_of(run) {
         Machine::Handheld => return handheld_stepped(
             run,
-            step::frame_step(device.vdp, vram, frame, area),
+            step::frame_step(run.device.vdp, vram, frame, area),
         ),
-        Machine::Home => return home_stepped(run, home::frame_step(device.home, vram, frame)),
+        Machine::Home => return home_stepped(run, home::frame_step(run.device.home, vram, frame)),
     }
 }
 
@@ -273,12 +267,10 @@ fn layer_turn(run: Run, vram: &[u8], row: &mut [u8], frame: &mut [u8], area: Ren
     requires { ⌜ (run .at < 4294967296) × (run .count < 4294967296) × (frameSize VisibleOnly ≤ length (now frame)) × (columns area ≡ columns VisibleOnly) ⌝ }
     ensures { λ r. ⌜ TurnLeaves (layersInto area (held run (now (vram .entry)) (now (row .entry)) (now (frame .entry)))) r (now (vram .entry)) (now (row .exit)) (now (frame .exit)) ⌝ }
 {
-    let device = run.device;
-    let machine = device.machine;
-    match machine {
+    match machine_of(run) {
         Machine::Handheld => {
             let mut layers = [0u8; GG_VISIBLE_PIXEL_WIDTH];
-            let stepped = layer_row_step(device.vdp, vram, row, &mut layers, area);
+            let stepped = layer_row_step(run.device.vdp, vram, row, &mut layers, area);
             let drawn = stepped.row;
             paint_layers(frame, drawn, &layers);
             return handheld_stepped(run, stepped);
@@ -329,9 +321,7 @@ pub fn turn(
     requires { ⌜ (run .at < 4294967296) × (run .count < 4294967296) × (frameFor shown ≤ length (now frame)) ⌝ }
     ensures { λ r. ⌜ TurnLeaves (turnOf (turnFor shown) (now (input .entry)) (held run (now (vram .entry)) (now (row .entry)) (now (frame .entry)))) r (now (vram .exit)) (now (row .exit)) (now (frame .exit)) ⌝ }
 {
-    let device = run.device;
-    let machine = device.machine;
-    match record_on(machine, input, run.at) {
+    match record_on(machine_of(run), input, run.at) {
         Record::Write(port, value) => return write_turn(run, vram, port, value),
         Record::Read(port) => return read_turn(run, vram, port),
         Record::Step(area) => return step_turn(run, shown, vram, row, frame, area),

@@ -1,10 +1,13 @@
 -- `trace_run::read_turn` meets its contract: a turn that reads a port.
 use borrow.Author.Needs.{needs}
-use mathlib.Core.Path.{ap, _∙_}
+use mathlib.Core.Path.{sym, ap, _∙_}
 use Rattle.trace_run.specs.Run.{readTurned}
 use Rattle.trace_run.proofs.Turns.{handheld-gave, home-gave}
 use Rattle.trace_run.proofs.read_turn.Statement.{statement}
 use Rattle.trace_run.proofs.read_turn.Tie as tie
+
+machine-of-requires : tie.Need-machine-of-requires
+machine-of-requires c κs = search needs
 
 enum-told : tie.Need-enum-told
 enum-told c = search needs
@@ -17,12 +20,14 @@ handheld-turned-requires c κs = search needs
 
 returns : tie.Need-returns
 returns c =
-    let at-input = c .before .before in
+    let at-input = c .before in
     let at-enum-told = at-input .before in
-    let at-start = at-enum-told .before .before .before .before in
+    let at-machine-of = at-enum-told .before .before in
+    let at-start = at-machine-of .before .before in
     let a = at-start .args in
     c .handheld-turned .ensures
-    ∙ ap (readTurned (a .run)) (handheld-gave (a .run .device) (a .vram .now) (a .port) (at-enum-told .enum-told .given .1) (at-input .input .ensures))
+    ∙ ap (readTurned (a .run)) (handheld-gave (a .run .device) (a .vram .now) (a .port)
+    (sym (at-machine-of .machine-of .ensures) ∙ at-enum-told .enum-told .given .1) (at-input .input .ensures))
 
 enum-told-2 : tie.Need-enum-told-2
 enum-told-2 c = search needs
@@ -35,17 +40,20 @@ home-turned-requires c κs = search needs
 
 returns-2 : tie.Need-returns-2
 returns-2 c =
-    let at-input2 = c .before .before in
+    let at-input2 = c .before in
     let at-enum-told2 = at-input2 .before in
-    let at-start = at-enum-told2 .before .before .before .before in
+    let at-machine-of = at-enum-told2 .before .before in
+    let at-start = at-machine-of .before .before in
     let a = at-start .args in
     c .home-turned .ensures
-    ∙ ap (readTurned (a .run)) (home-gave (a .run .device) (a .vram .now) (a .port) (at-enum-told2 .enum-told2 .given .1) (at-input2 .input2 .ensures))
+    ∙ ap (readTurned (a .run)) (home-gave (a .run .device) (a .vram .now) (a .port)
+    (sym (at-machine-of .machine-of .ensures) ∙ at-enum-told2 .enum-told2 .given .1) (at-input2 .input2 .ensures))
 
 pub read-turn-spec : {M : Type 1} → statement M
 read-turn-spec =
     tie.close
     (tie.spec
+    machine-of-requires
     enum-told
     input-requires
     handheld-turned-requires

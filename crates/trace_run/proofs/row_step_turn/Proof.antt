@@ -1,9 +1,13 @@
 -- `trace_run::row_step_turn` meets its contract: a step into the row buffer.
 use borrow.Author.Needs.{needs}
+use mathlib.Core.Path.{sym, _∙_}
 use Rattle.trace_run.specs.Run.{held}
 use Rattle.trace_run.proofs.Turns.{handheld-row, home-row, row-stepped}
 use Rattle.trace_run.proofs.row_step_turn.Statement.{statement}
 use Rattle.trace_run.proofs.row_step_turn.Tie as tie
+
+machine-of-requires : tie.Need-machine-of-requires
+machine-of-requires c κs = search needs
 
 enum-told : tie.Need-enum-told
 enum-told c = search needs
@@ -21,9 +25,12 @@ returns : tie.Need-returns
 returns c =
     let at-row-step = c .before .before .before in
     let at-enum-told = at-row-step .before .before in
-    let at-start = at-enum-told .before .before .before .before .before in
-    λ f. row-stepped (at-start .args .area) (held (at-start .args .run) (at-start .args .vram .now) (at-start .args .row .now) f) (c .handheld-stepped .ensures) (handheld-row (at-start .args .area) (at-start .args .run .device) (at-start .args .vram .now)
-    (at-enum-told .enum-told .given .1) (at-row-step .row-step .ensures))
+    let at-machine-of = at-enum-told .before .before in
+    let at-start = at-machine-of .before .before .before in
+    let a = at-start .args in
+    λ f. row-stepped (a .area) (held (a .run) (a .vram .now) (a .row .now) f) (c .handheld-stepped .ensures)
+    (handheld-row (a .area) (a .run .device) (a .vram .now) (sym (at-machine-of .machine-of .ensures) ∙ at-enum-told .enum-told .given .1)
+    (at-row-step .row-step .ensures))
 
 enum-told-2 : tie.Need-enum-told-2
 enum-told-2 c = search needs
@@ -41,14 +48,18 @@ returns-2 : tie.Need-returns-2
 returns-2 c =
     let at-row-step2 = c .before .before .before in
     let at-enum-told2 = at-row-step2 .before .before in
-    let at-start = at-enum-told2 .before .before .before .before .before in
-    λ f. row-stepped (at-start .args .area) (held (at-start .args .run) (at-start .args .vram .now) (at-start .args .row .now) f) (c .home-stepped .ensures) (home-row (at-start .args .area) (at-start .args .run .device) (at-start .args .vram .now)
-    (at-enum-told2 .enum-told2 .given .1) (at-row-step2 .row-step2 .ensures))
+    let at-machine-of = at-enum-told2 .before .before in
+    let at-start = at-machine-of .before .before .before in
+    let a = at-start .args in
+    λ f. row-stepped (a .area) (held (a .run) (a .vram .now) (a .row .now) f) (c .home-stepped .ensures)
+    (home-row (a .area) (a .run .device) (a .vram .now) (sym (at-machine-of .machine-of .ensures) ∙ at-enum-told2 .enum-told2 .given .1)
+    (at-row-step2 .row-step2 .ensures))
 
 pub row-step-turn-spec : {M : Type 1} → statement M
 row-step-turn-spec =
     tie.close
     (tie.spec
+    machine-of-requires
     enum-told
     row-step-requires
     handheld-stepped-requires
