@@ -13,11 +13,8 @@ pub const LAYERS: u8 = 2;
 
 pub const HOME_PICTURE: u8 = 3;
 
-// What is made of this input on this device. It answers that it has run, as the others here do.
-fn make(kind: u8, device: Device, name: &[u8], input: &[u8]) -> bool {
-    if kind == TEXT {
-        return crate::trace::run(device, name, input);
-    }
+// The picture that is made of this input on this device. It answers that it has run, as the others here do.
+fn draw(kind: u8, device: Device, name: &[u8], input: &[u8]) -> bool {
     if kind == PICTURE {
         return crate::snapshot::draw(device, name, input);
     }
@@ -27,13 +24,16 @@ fn make(kind: u8, device: Device, name: &[u8], input: &[u8]) -> bool {
     crate::snapshot::draw_home(device, name, input)
 }
 
-// One of these programs, on its device.
+// One of these programs, on its device. The trace program takes its input by itself, since its memory comes before it.
 fn run(kind: u8, device: Device, name: &[u8], help: &[u8]) -> bool {
+    if kind == TEXT {
+        return crate::trace::run(device, name, help);
+    }
     let mut input = io::large_buffer();
     let taken = program::input(name, help, &mut input);
     if taken.ready {
         let n = taken.len;
-        return make(kind, device, name, &input[..n]);
+        return draw(kind, device, name, &input[..n]);
     }
     true
 }

@@ -3,13 +3,18 @@
 use crate::recording::TEXT;
 use trace_run::Device;
 
-// The trace program on its input. Its video memory and its row buffer come first (R11.3). It answers that it has run.
-pub fn run(device: Device, name: &[u8], input: &[u8]) -> bool {
+// The trace program. Its video memory and its row buffer come first (R11.3), then its input. It answers that it has run.
+pub fn run(device: Device, name: &[u8], help: &[u8]) -> bool {
     let mut vram = [0u8; 16384];
     let mut row = [0u8; 1024];
+    let mut input = io::large_buffer();
     let mut text = program::text_room();
-    let k = trace_run::output::trace(device, input, &mut vram, &mut row, &mut text);
-    program::output(name, &text[..k]);
+    let taken = program::input(name, help, &mut input);
+    if taken.ready {
+        let n = taken.len;
+        let k = trace_run::output::trace(device, &input[..n], &mut vram, &mut row, &mut text);
+        program::output(name, &text[..k]);
+    }
     true
 }
 
