@@ -80,6 +80,8 @@ use Rattle.points.proofs.row_due
 use Rattle.points.proofs.frame_due
 use Rattle.points.proofs.layer_due
 use Rattle.points.proofs.finish
+use Rattle.points_run.proofs.draw
+use Rattle.points_run.proofs.draw_in
 use Rattle.points_run.proofs.row_points_due
 use Rattle.points_run.proofs.frame_points_due
 use Rattle.points_run.proofs.row_points
@@ -465,6 +467,18 @@ frame-due-once κs a q z z′ w w′ e f = (e ∙ sym f, refl)
 
 pub layer-due-once : OneOutcome 0 layer_due.Kinds.ps layer_due.Kinds.r layer_due.Reads.Asked layer_due.Reads.Learnt
 layer-due-once κs a q z z′ w w′ e f = (e .0 ∙ sym (f .0), refl)
+
+pub draw-once : OneOutcome 4 draw.Kinds.ps draw.Kinds.r draw.Reads.Asked draw.Reads.Learnt
+draw-once κs a q z z′ w w′ e f = (
+  e .0 ∙ sym (f .0),
+  λ i. (tt, (tt, (tt, (tt, ((e .1 .0 ∙ sym (f .1 .0)) i, ((e .1 .1 ∙ sym (f .1 .1)) i, w .1 .1 .1 .1 .1 .1)))))),
+)
+
+pub draw-in-once : OneOutcome 4 draw_in.Kinds.ps draw_in.Kinds.r draw_in.Reads.Asked draw_in.Reads.Learnt
+draw-in-once κs a q z z′ w w′ e f = (
+  e .0 ∙ sym (f .0),
+  λ i. (tt, (tt, (tt, (tt, ((e .1 .0 ∙ sym (f .1 .0)) i, ((e .1 .1 ∙ sym (f .1 .1)) i, w .1 .1 .1 .1 .1 .1)))))),
+)
 
 pub row-points-due-once : OneOutcome 4 row_points_due.Kinds.ps row_points_due.Kinds.r row_points_due.Reads.Asked row_points_due.Reads.Learnt
 row-points-due-once κs a q z z′ w w′ e f = (

@@ -1,8 +1,7 @@
 // The five points of a step run, by what they read and leave of a machine: into a row buffer, or into a frame of which one row is lent.
 ghost use mathlib.Core.Path.{_≡_};
 ghost use lib.ListN.{length};
-ghost use Rattle.picture.specs.Screen.{rowSize, frameSize, pictureOf};
-ghost use Rattle.picture.specs.Layers.{layersOf};
+ghost use Rattle.picture.specs.Screen.{rowSize, frameSize};
 ghost use Rattle.points.specs.Points.{reading, bitsOf};
 ghost use Rattle.points.specs.Bytes.{rowWith, frameWith, layersBy, RowPointsLeave, FramePointsLeave, RowLayerPointsLeave, FrameLayerPointsLeave};
 ghost use Rattle.points.specs.Due.{Fits, duePicture, dueLayers, pointsBy};
@@ -12,44 +11,54 @@ use points::Due;
 use points::Points;
 use raster::Raster;
 
-// The row drawn into the buffer, and its layers told where they are asked for; answers the status bits that it sets.
-fn draw(
+// The row of a step that is due, of a machine with these registers and colours, drawn into the buffer, and its layers told where they are asked for; answers
+// the status bits that it sets. Where no row is due, nothing is drawn.
+pub fn draw(
+    due: Due,
     reg: [u8; 11],
-    scroll: u8,
     colours: &[u32; 32],
     vram: &[u8],
     row: &mut [u8],
     layers: &mut [u8],
     screen: Screen,
-    drawn: DrawnRow,
 ) -> u8
-    requires { ⌜ Fits screen (now vram) (rowSize screen) (length (now row)) drawn ⌝ }
-    ensures { λ r. ⌜ r ≡ bitsOf drawn (pictureOf screen reg scroll (now (vram .entry))) ⌝ }
-    ensures { λ r. ⌜ now (row .exit) ≡ rowWith drawn screen (now (colours .entry)) (pictureOf screen reg scroll (now (vram .entry))) (now (row .entry)) ⌝ }
-    ensures { λ r. ⌜ now (layers .exit) ≡ layersBy drawn screen (layersOf screen reg scroll (now (vram .entry))) (now (layers .entry)) ⌝ }
+    requires { ⌜ Fits screen (now vram) (rowSize screen) (length (now row)) (due .row) ⌝ }
+    ensures { λ r. ⌜ r ≡ bitsOf (due .row) (duePicture screen (now (vram .entry)) reg due) ⌝ }
+    ensures { λ r. ⌜ now (row .exit) ≡ rowWith (due .row) screen (now (colours .entry)) (duePicture screen (now (vram .entry)) reg due) (now (row .entry)) ⌝ }
+    ensures { λ r. ⌜ now (layers .exit) ≡ layersBy (due .row) screen (dueLayers screen (now (vram .entry)) reg due) (now (layers .entry)) ⌝ }
 {
+    let drawn = due.row;
     let DrawnRow::Drawn(line) = drawn else {
         return 0;
     };
-    row::render_line(row, layers, vram, colours, screen, reg, scroll, line)
+    row::render_line(
+        row,
+        layers,
+        vram,
+        colours,
+        screen,
+        reg,
+        due.up.vertical_scroll,
+        line,
+    )
 }
 
 // The same at the row's place in the frame, whose part it is lent.
-fn draw_in(
+pub fn draw_in(
+    due: Due,
     reg: [u8; 11],
-    scroll: u8,
     colours: &[u32; 32],
     vram: &[u8],
     frame: &mut [u8],
     layers: &mut [u8],
     screen: Screen,
-    drawn: DrawnRow,
 ) -> u8
-    requires { ⌜ Fits screen (now vram) (frameSize screen) (length (now frame)) drawn ⌝ }
-    ensures { λ r. ⌜ r ≡ bitsOf drawn (pictureOf screen reg scroll (now (vram .entry))) ⌝ }
-    ensures { λ r. ⌜ now (frame .exit) ≡ frameWith drawn screen (now (colours .entry)) (pictureOf screen reg scroll (now (vram .entry))) (now (frame .entry)) ⌝ }
-    ensures { λ r. ⌜ now (layers .exit) ≡ layersBy drawn screen (layersOf screen reg scroll (now (vram .entry))) (now (layers .entry)) ⌝ }
+    requires { ⌜ Fits screen (now vram) (frameSize screen) (length (now frame)) (due .row) ⌝ }
+    ensures { λ r. ⌜ r ≡ bitsOf (due .row) (duePicture screen (now (vram .entry)) reg due) ⌝ }
+    ensures { λ r. ⌜ now (frame .exit) ≡ frameWith (due .row) screen (now (colours .entry)) (duePicture screen (now (vram .entry)) reg due) (now (frame .entry)) ⌝ }
+    ensures { λ r. ⌜ now (layers .exit) ≡ layersBy (due .row) screen (dueLayers screen (now (vram .entry)) reg due) (now (layers .entry)) ⌝ }
 {
+    let drawn = due.row;
     let DrawnRow::Drawn(line) = drawn else {
         return 0;
     };
@@ -63,7 +72,7 @@ fn draw_in(
         colours,
         screen,
         reg,
-        scroll,
+        due.up.vertical_scroll,
         line,
     )
 }
@@ -86,18 +95,7 @@ pub fn row_points_due(
     ensures { λ r. ⌜ now (row .exit) ≡ rowWith (due .row) screen (now (colours .entry)) (duePicture screen (now (vram .entry)) reg due) (now (row .entry)) ⌝ }
     ensures { λ r. ⌜ now (layers .exit) ≡ layersBy (due .row) screen (dueLayers screen (now (vram .entry)) reg due) (now (layers .entry)) ⌝ }
 {
-    let up = due.up;
-    let drawn = due.row;
-    let bits = draw(
-        reg,
-        up.vertical_scroll,
-        colours,
-        vram,
-        row,
-        layers,
-        screen,
-        drawn,
-    );
+    let bits = draw(due, reg, colours, vram, row, layers, screen);
     points::finish(due, reg, status, bits)
 }
 
@@ -117,18 +115,7 @@ pub fn frame_points_due(
     ensures { λ r. ⌜ now (frame .exit) ≡ frameWith (due .row) screen (now (colours .entry)) (duePicture screen (now (vram .entry)) reg due) (now (frame .entry)) ⌝ }
     ensures { λ r. ⌜ now (layers .exit) ≡ layersBy (due .row) screen (dueLayers screen (now (vram .entry)) reg due) (now (layers .entry)) ⌝ }
 {
-    let up = due.up;
-    let drawn = due.row;
-    let bits = draw_in(
-        reg,
-        up.vertical_scroll,
-        colours,
-        vram,
-        frame,
-        layers,
-        screen,
-        drawn,
-    );
+    let bits = draw_in(due, reg, colours, vram, frame, layers, screen);
     points::finish(due, reg, status, bits)
 }
 

@@ -1,7 +1,6 @@
 -- `points_run::draw` meets its contract: the row drawn into the buffer, and its layers told where they are asked for.
 use borrow.Author.Needs.{needs}
-use Rattle.picture.specs.Screen.{pictureOf}
-use Rattle.picture.specs.Layers.{layersOf}
+use Rattle.points.specs.Due.{duePicture, dueLayers}
 use Rattle.points_run.proofs.Steps.{drawn-none, drawn-one}
 use Rattle.points_run.proofs.draw.Statement.{statement}
 use Rattle.points_run.proofs.draw.Tie as tie
@@ -16,8 +15,8 @@ returns : tie.Need-returns
 returns c =
     let at-start = c .before .before .before .before .before in
     drawn-none (at-start .args .screen) (at-start .args .colours .now)
-    (pictureOf (at-start .args .screen) (at-start .args .reg) (at-start .args .scroll) (at-start .args .vram .now))
-    (layersOf (at-start .args .screen) (at-start .args .reg) (at-start .args .scroll) (at-start .args .vram .now)) (at-start .args .row .now)
+    (duePicture (at-start .args .screen) (at-start .args .vram .now) (at-start .args .reg) (at-start .args .due))
+    (dueLayers (at-start .args .screen) (at-start .args .vram .now) (at-start .args .reg) (at-start .args .due)) (at-start .args .row .now)
     (at-start .args .layers .now) (c .enum-told .given .1)
 
 render-line-requires : tie.Need-render-line-requires
@@ -38,8 +37,8 @@ returns-2 c =
     let at-drawn = at-render-line .before .before .before .before in
     let at-start = at-drawn .before .before .before .before .before in
     drawn-one (at-start .args .screen) (at-start .args .colours .now)
-    (pictureOf (at-start .args .screen) (at-start .args .reg) (at-start .args .scroll) (at-start .args .vram .now))
-    (layersOf (at-start .args .screen) (at-start .args .reg) (at-start .args .scroll) (at-start .args .vram .now)) (at-start .args .row .now)
+    (duePicture (at-start .args .screen) (at-start .args .vram .now) (at-start .args .reg) (at-start .args .due))
+    (dueLayers (at-start .args .screen) (at-start .args .vram .now) (at-start .args .reg) (at-start .args .due)) (at-start .args .row .now)
     (at-start .args .layers .now) _ (at-drawn .drawn .given .1) (at-render-line .render-line .ensures .0 .bytes)
     (at-render-line .render-line .ensures .0 .status) (at-render-line .render-line .ensures .1)
 

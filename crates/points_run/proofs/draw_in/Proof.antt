@@ -1,8 +1,7 @@
 -- `points_run::draw_in` meets its contract: the row drawn at its place in the frame.
 use borrow.Author.Needs.{needs}
 use native.Mathlib.Omega.{arith}
-use Rattle.picture.specs.Screen.{pictureOf}
-use Rattle.picture.specs.Layers.{layersOf}
+use Rattle.points.specs.Due.{duePicture, dueLayers}
 use Rattle.points.proofs.Rows.{start-small, row-end, frame-small}
 use Rattle.points_run.proofs.Steps.{framed-none, framed-one}
 use Rattle.points_run.proofs.draw_in.Statement.{statement}
@@ -18,8 +17,8 @@ returns : tie.Need-returns
 returns c =
     let at-start = c .before .before .before .before .before in
     framed-none (at-start .args .screen) (at-start .args .colours .now)
-    (pictureOf (at-start .args .screen) (at-start .args .reg) (at-start .args .scroll) (at-start .args .vram .now))
-    (layersOf (at-start .args .screen) (at-start .args .reg) (at-start .args .scroll) (at-start .args .vram .now)) (at-start .args .frame .now)
+    (duePicture (at-start .args .screen) (at-start .args .vram .now) (at-start .args .reg) (at-start .args .due))
+    (dueLayers (at-start .args .screen) (at-start .args .vram .now) (at-start .args .reg) (at-start .args .due)) (at-start .args .frame .now)
     (at-start .args .layers .now) (c .enum-told .given .1)
 
 row-size-requires : tie.Need-row-size-requires
@@ -75,8 +74,8 @@ returns-2 c =
     let at-start = at-drawn .before .before .before .before .before in
     let f = at-start .pre _ (at-drawn .drawn .given .1) in rw (at-row-size .row-size .ensures)
     (framed-one (at-start .args .screen) (at-start .args .colours .now)
-    (pictureOf (at-start .args .screen) (at-start .args .reg) (at-start .args .scroll) (at-start .args .vram .now))
-    (layersOf (at-start .args .screen) (at-start .args .reg) (at-start .args .scroll) (at-start .args .vram .now)) (at-start .args .frame .now)
+    (duePicture (at-start .args .screen) (at-start .args .vram .now) (at-start .args .reg) (at-start .args .due))
+    (dueLayers (at-start .args .screen) (at-start .args .vram .now) (at-start .args .reg) (at-start .args .due)) (at-start .args .frame .now)
     (at-start .args .layers .now) (at-drawn .drawn .given .0 .0) (at-drawn .drawn .given .1) (f .1 .1) (f .1 .0)
     (rw (at-row-size .row-size .ensures) at (at-render-line .render-line .ensures .0 .bytes)) (at-render-line .render-line .ensures .0 .status)
     (at-render-line .render-line .ensures .1))

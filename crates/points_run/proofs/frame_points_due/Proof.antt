@@ -20,7 +20,7 @@ same-length-2 c = search needs
 returns : tie.Need-returns
 returns c =
     let at-draw-in = c .before .before .before .before .before in
-    let at-start = at-draw-in .before .before .before .before .before .before .before in (
+    let at-start = at-draw-in .before .before .before .before .before .before in (
       c .finish .ensures ∙ ap (λ (x : _). pointsBy (at-start .args .reg) (at-start .args .status) x (at-start .args .due)) (at-draw-in .draw-in .ensures .0),
       (at-draw-in .draw-in .ensures .1 .0, at-draw-in .draw-in .ensures .1 .1),
     )

@@ -20,7 +20,7 @@ same-length-2 c = search needs
 returns : tie.Need-returns
 returns c =
     let at-draw = c .before .before .before .before .before in
-    let at-start = at-draw .before .before .before .before .before .before .before in (
+    let at-start = at-draw .before .before .before .before .before .before in (
       c .finish .ensures ∙ ap (λ (x : _). pointsBy (at-start .args .reg) (at-start .args .status) x (at-start .args .due)) (at-draw .draw .ensures .0),
       (at-draw .draw .ensures .1 .0, at-draw .draw .ensures .1 .1),
     )
