@@ -5,9 +5,9 @@ use mathlib.Core.List.{List}
 use Prim.Native.Nat.{ℕ}
 use Rattle.refusal.specs.declared.Refusal.the-variants.{BlockMalformed}
 use Rattle.refusal.specs.Refusals.{refusalNumber}
-use Rattle.word.specs.Word.{pixelWord}
 use Rattle.home.specs.Pixel.{pixelOf}
 use Rattle.home_block.specs.HomeBlock.{stateOf, wellFormed}
+use Rattle.face.specs.Pixel.{pixelWord}
 
 -- the block, then video memory
 unfoldable pub pixelCall : List ℕ → List ℕ → ℕ → ℕ → ℕ

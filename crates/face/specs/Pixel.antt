@@ -2,14 +2,19 @@
 -- Assumes nothing.
 use mathlib.Core.Bool.{cond}
 use mathlib.Core.List.{List}
-use Prim.Native.Nat.{ℕ}
+use Prim.Native.Nat.{ℕ, _+_}
 use lib.Dec.{leb}
 use Rattle.picture.specs.Area.{areaFrom}
 use Rattle.refusal.specs.declared.Refusal.the-variants.{BlockMalformed, UnknownArea}
 use Rattle.refusal.specs.Refusals.{refusalNumber}
 use Rattle.block.specs.Block.{wellFormed, stateOf}
-use Rattle.word.specs.Word.{pixelWord}
+use Rattle.pixel.specs.declared.Pixel.{Pixel}
+use Rattle.word.specs.Word.{pixelBits}
 use Rattle.step.specs.Pixel.{pixelOf}
+
+-- R16.6: its word, with the refusal in bits 0 to 7
+abbrev pub pixelWord : Pixel → ℕ
+pixelWord p = refusalNumber (p .refusal) + pixelBits (p .there) (p .colour)
 
 -- R16.3: the block, the area, then video memory
 unfoldable pub pixelCall : List ℕ → List ℕ → ℕ → ℕ → ℕ → ℕ

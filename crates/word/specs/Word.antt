@@ -5,7 +5,6 @@ use mathlib.Core.Bool.{Bool, cond}
 use Prim.Native.Nat.{ℕ, _+_, _*_, _%_}
 use Rattle.refusal.specs.declared.Refusal.{Refusal}
 use Rattle.refusal.specs.Refusals.{refusalNumber}
-use Rattle.pixel.specs.declared.Pixel.{Pixel}
 use Rattle.points.specs.declared.VdpInt.{VdpInt}
 use Rattle.points.specs.declared.DisplayRefresh.{DisplayRefresh}
 use Rattle.points.specs.declared.DrawnRow.{DrawnRow}
@@ -26,12 +25,9 @@ pointsWord p = answerWord (p .refusal) (p .interrupt) (p .report) (p .row)
 abbrev pub byteWord : Refusal → ℕ → ℕ
 byteWord r byte = refusalNumber r + 256 * byte
 
--- R16.6, of one pixel: bit 24 where there is one, its four bytes in bits 32 to 63, red lowest, and the refusal in bits 0 to 7
+-- R16.6, of one pixel: bit 24 where there is one, and its four bytes in bits 32 to 63, red lowest
 abbrev pub pixelBits : Bool → ℕ → ℕ
 pixelBits there colour = cond there 16777216 0 + 4294967296 * colour
-
-abbrev pub pixelWord : Pixel → ℕ
-pixelWord p = refusalNumber (p .refusal) + pixelBits (p .there) (p .colour)
 
 -- the refusal is the word's low byte
 abbrev pub refusalIn : ℕ → ℕ
