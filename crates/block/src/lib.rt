@@ -21,7 +21,7 @@ pub const PALETTE_LATCHED: usize = 23;
 
 pub const PALETTE_BYTE: usize = 24;
 
-const VERTICAL_SCROLL: usize = 25;
+pub const VERTICAL_SCROLL: usize = 25;
 
 pub const DIRTY: usize = 26;
 

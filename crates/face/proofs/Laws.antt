@@ -6,9 +6,10 @@ use mathlib.Core.Logic.{_≢_}
 use mathlib.Core.List.{List, []}
 use Prim.Native.Nat.{ℕ, _+_, _*_, _<_, _≤_}
 use native.Mathlib.Omega.{arith}
-use borrow.Author.Tests.{le-leb}
-use lib.Dec.{leb}
+use borrow.Author.Tests.{le-leb, eqb-false}
+use lib.Dec.{leb, eqb}
 use lib.ListN.{length}
+use lib.Seq.{take-at}
 use Rattle.laws.specs.Lists.{at}
 use Rattle.laws.proofs.Parts.{at-past}
 use Rattle.laws.proofs.Tests.{split, both}
@@ -21,19 +22,21 @@ use Rattle.raster.specs.Raster.{lineTableFrom}
 use Rattle.vdp.specs.declared.VdpState.{VdpState}
 use Rattle.refusal.specs.declared.Refusal.{Refusal}
 use Rattle.refusal.specs.declared.Refusal.the-variants.{BlockMalformed}
-use Rattle.vdp.specs.Device.{made, withCache}
+use Rattle.vdp.specs.Device.{made, withStatus, withRaster, withCache}
 use Rattle.refusal.specs.Refusals.{refusalNumber, Line, first, under}
 use Rattle.vdp.specs.Ports.{portRead}
 use Rattle.inplace.specs.declared.Got.{Got}
+use Rattle.fields.specs.Stored.{frontEnd}
+use Rattle.block_parts.specs.Parts.{registersIn}
 use Rattle.block.specs.Block.{oldSize, fits, freshIn, wellFormed, head, small, last, stateOf, blockOf, Sized}
 use Rattle.block.proofs.Whole.{long}
 use Rattle.block_ports.specs.InPlace.{OutInPlace, InputInPlace}
 use Rattle.block.proofs.RoundTrip.{block-back}
-use Rattle.block.proofs.Stores.{sized-state}
+use Rattle.block.proofs.Stores.{sized-state, raster-stored, cache-stored}
 use Rattle.step.specs.declared.Stepped.{Stepped}
 use Rattle.points.specs.declared.Points.{Points}
 use Rattle.points.specs.declared.Due.{Due}
-use Rattle.points.specs.Points.{bitsOf, rowLines, frameLines, pointsWith}
+use Rattle.points.specs.Points.{bitsOf, rowLines, frameLines}
 use Rattle.points.specs.Bytes.{rowWith, frameWith, layersBy, alsoLayers}
 use Rattle.points.specs.Due.{dueOf, duePicture, dueLayers, pointsBy}
 use Rattle.step.specs.Step.{coloursNow, readingOf, cleaned, joined, stepWith}
@@ -51,7 +54,8 @@ use Rattle.word.specs.Called.{askedLines}
 use Rattle.word.proofs.Calls.{leaves, along, on, asked-both, asked-refused}
 use Rattle.face.specs.Face.{Called, Leaves, stepWord, onBlock, onArea, newTableCall, outOn, outCall, inputOn, inputCall, steppedTo, stepOn}
 use Rattle.face.specs.Face.{stepCall, rowStepOn, rowStepCall, dumpOn, dumpCall}
-use Rattle.face.proofs.Steps.{answer-by, colours-by, row-by, frame-by, layers-by}
+use Rattle.face.specs.Steps.{pointsIn, coloursStored, pointsStored}
+use Rattle.face.proofs.Steps.{answer-by, row-due-by, row-by, frame-by, layers-by}
 
 -- ---- a fresh block
 module _ (b : List ℕ) (t : ℕ) {k : LineTable} {room good : Bool} (ek : k ≡ lineTableFrom t) (er : room ≡ fits k (length b))
@@ -71,13 +75,17 @@ module _ (b : List ℕ) (t : ℕ) {k : LineTable} {room good : Bool} (ek : k ≡
       let f : b′ ≡ blockOf (length b) (made (lineTableFrom t)) = (rw ek at eb) ∙ rw room in
       record { word = rw g; block = f ∙ rw g; lent = rw g }
 
--- ---- a call that is taken has a block of its size, with a status byte
+-- ---- a call that is taken has a block of its size, with room for what a step leaves
 module _ (b : List ℕ) (n : ℕ) {q : ℕ} (eq : q ≡ refusalNumber (first (askedLines (wellFormed b) n))) (zero : q ≡ 0) where
   pub room : oldSize ≤ length b
   room = long b (asked-both (wellFormed b) n eq zero .0)
 
-  pub status-room : 2 < length b
-  status-room = omega (arith, room)
+  -- at the places of a step
+  pub colours-room : (26 < length b) × (91 + 128 ≤ length b)
+  colours-room = (omega (arith, room), omega (arith, room))
+
+  pub points-room : (b₁ : List ℕ) → length b₁ ≡ length b → (frontEnd ≤ length b₁) × (25 < length b₁)
+  points-room b₁ e = (omega (arith, room), omega (arith, room))
 
 -- ---- the block is tested first
 module _ (b : List ℕ) {q : ℕ} (eq : q ≡ refusalNumber (first (askedLines (wellFormed b) 0))) where
@@ -126,26 +134,42 @@ module _ (b : List ℕ) {q : ℕ} (eq : q ≡ refusalNumber (first (askedLines (
         along (on (stateOf b) b pixels (dumpOn b m pixels) (whole z))
         (record { word = en ∙ ap refusalNumber (l .refusal); block = refl; lent = rw (er, ec) at (l .bytes) })
 
--- ---- a step under these lines, by what its points answer and leave, the block that they are stored in, and their word
-ran :
-    (b m : List ℕ) (ls : List Line) (a : RenderArea) {points : Points} {colours b′ x′ y : List ℕ} {r : ℕ} (bytes : (i : ℕ) → at b i < 256)
-    (w : wellFormed b ≡ true) → points ≡ pointsWith ls (screenOf a) m (readingOf (stateOf b))
-    → ((n : ℕ) → points .row ≡ Drawn n → colours ≡ coloursNow (stateOf b))
-    → ((j : ℕ) (s : VdpState) → Sized s → points .raster .table ≡ s .raster .table → ((n : ℕ) → points .row ≡ Drawn n → colours ≡ coloursNow s)
-    → b ≡ blockOf j s → b′ ≡ blockOf j (joined s points .vdp))
-    → r ≡ pointsWord points → x′ ≡ y
-    → Leaves (steppedTo (length b) (stepWith ls a m (stateOf b)) y) r b′ x′
-ran b m ls a {points} bytes w e colour-of es er ex =
-    let s : VdpState = stateOf b in
-    let q : joined s points ≡ stepWith ls a m s = ap (λ (p : Points). joined s p) e ∙ joined-with ls a m s in
-    record {
-      word = er ∙ ap stepWord q;
-      block =
-          es (length b) s (sized-state b (long b w)) (ap (λ (t : Stepped). t .vdp .raster .table) q ∙ step-table ls a m s)
-          colour-of (sym (block-back b w bytes))
-          ∙ ap (λ (t : Stepped). blockOf (length b) (t .vdp)) q;
-      lent = ex;
-    }
+-- a step's colours keep the sizes
+cleaned-sized : (r : DrawnRow) (s : VdpState) (colours : List ℕ) → Sized s → Sized (cleaned r s colours)
+cleaned-sized NoRow s colours g = g
+cleaned-sized (Drawn y) s colours g = record { registers = g .registers; palette = g .palette }
+
+-- and the table
+cleaned-table : (r : DrawnRow) (s : VdpState) (colours : List ℕ) → cleaned r s colours .raster .table ≡ s .raster .table
+cleaned-table NoRow s colours = refl
+cleaned-table (Drawn y) s colours = refl
+
+-- a block whose colours are clean has them already
+clean-kept : (n : ℕ) (s : VdpState) → Sized s → at (blockOf n s) 26 ≢ 1 → blockOf n s ≡ blockOf n (withCache s (coloursNow s))
+unfolding blockOf head small last
+clean-kept n s g h =
+    split (s .«cram_dirty») (λ t. absurd (h (at-past (s .reg) _ 11 12 (g .registers) ∙ rw t))) (λ t. rw t)
+
+-- the colours of a step, stored in the block of a device
+colours-stored :
+    (k : ℕ) (s : VdpState) → Sized s → {b colours : List ℕ} → b ≡ blockOf k s → (r : DrawnRow) → ((y : ℕ) → r ≡ Drawn y → colours ≡ coloursNow s)
+    → coloursStored 26 91 r colours b ≡ blockOf k (cleaned r s (coloursNow s))
+colours-stored k s g e NoRow q = e
+colours-stored k s g {b} {colours} e (Drawn y) q =
+    split (eqb (at b 26) 1)
+    (λ f. rw f (cache-stored k s g b colours e ∙ ap (λ (c : List ℕ). blockOf k (withCache s c)) (q y refl)))
+    (λ f. rw f (e ∙ clean-kept k s g (λ z. eqb-false (at b 26) 1 f (ap (λ (c : List ℕ). at c 26) e ∙ z))))
+
+-- and its status byte and registers, which they leave
+cleaned-status : (k : ℕ) (r : DrawnRow) (s : VdpState) (colours : List ℕ) → at (blockOf k (cleaned r s colours)) 2 ≡ s .status
+unfolding blockOf head
+cleaned-status k NoRow s colours = refl
+cleaned-status k (Drawn y) s colours = refl
+
+cleaned-registers : (k : ℕ) (r : DrawnRow) (s : VdpState) (colours : List ℕ) → Sized s → registersIn (blockOf k (cleaned r s colours)) ≡ s .reg
+unfolding blockOf head
+cleaned-registers k NoRow s colours g = take-at (s .reg) _ 11 (g .registers)
+cleaned-registers k (Drawn y) s colours g = take-at (s .reg) _ 11 (g .registers)
 
 -- ---- a step: the block is tested, the area number, and then the block's parts are read each by itself
 taken : (b x : List ℕ) (n : ℕ) (call : VdpState → RenderArea → Called) {q : ℕ} → q ≡ refusalNumber (first (askedLines (wellFormed b) n)) → q ≡ 0
@@ -171,29 +195,54 @@ module _ (b m x : List ℕ) (n : ℕ) {r : ℕ} (er : r ≡ refusalNumber (first
         owners = split (wellFormed b) (λ e. split (leb n 2) (λ f. absurd (h (er ∙ rw (e, f)))) (λ f. rw (e, f))) (λ e. rw e);
       }
 
--- the status byte is that of the device
-pub status-is : (b : List ℕ) {status : ℕ} → status ≡ at b 2 → status ≡ stateOf b .status
-unfolding stateOf
-status-is b e = e
-
--- taken, it is that step, from what its parts give
+-- taken, it is that step, from what its parts give: b₁ is the block with the colours
 module _ (b m x : List ℕ) (n : ℕ) {q : ℕ} (eq : q ≡ refusalNumber (first (askedLines (wellFormed b) n))) (zero : q ≡ 0) (bytes : (i : ℕ) → at b i < 256)
-    {z : Screen} {reg : List ℕ} {raster : Raster} {status : ℕ} {d : Due} {colours : List ℕ} {points : Points} {b′ x′ : List ℕ} {r : ℕ}
-    (ez : z ≡ screenOf (areaFrom n)) (eg : reg ≡ stateOf b .reg) (et : raster ≡ stateOf b .raster) (eu : status ≡ stateOf b .status)
-    (ec : (y : ℕ) → d .row ≡ Drawn y → colours ≡ coloursNow (stateOf b)) (ep : points ≡ pointsBy reg status (bitsOf (d .row) (duePicture z m reg d)) d)
-    (er : r ≡ pointsWord points)
-    (es : (j : ℕ) (s : VdpState) → Sized s → points .raster .table ≡ s .raster .table → ((y : ℕ) → points .row ≡ Drawn y → colours ≡ coloursNow s)
-    → b ≡ blockOf j s → b′ ≡ blockOf j (joined s points .vdp)) where
+    (d : Due) {z : Screen} {reg : List ℕ} {raster : Raster} {colours : List ℕ} {bits : ℕ} {b₁ b′ : List ℕ} {r : ℕ} (ez : z ≡ screenOf (areaFrom n))
+    (eg : reg ≡ stateOf b .reg) (et : raster ≡ stateOf b .raster) (ec : (y : ℕ) → d .row ≡ Drawn y → colours ≡ coloursNow (stateOf b))
+    (ei : bits ≡ bitsOf (d .row) (duePicture z m reg d)) (eb : b₁ ≡ coloursStored 26 91 (d .row) colours b)
+    (er : r ≡ pointsWord (pointsIn b₁ bits d)) (es : b′ ≡ pointsStored 25 (pointsIn b₁ bits d) b₁) where
+  whole-block : wellFormed b ≡ true
+  whole-block = asked-both (wellFormed b) n eq zero .0
+
+  device-sized : Sized (stateOf b)
+  device-sized = sized-state b (long b whole-block)
+
+  coloured : b₁ ≡ blockOf (length b) (cleaned (d .row) (stateOf b) (coloursNow (stateOf b)))
+  coloured = eb ∙ colours-stored (length b) (stateOf b) device-sized (sym (block-back b whole-block bytes)) (d .row) ec
+
+  eu : at b₁ 2 ≡ stateOf b .status
+  eu = ap (λ (l : List ℕ). at l 2) coloured ∙ cleaned-status (length b) (d .row) (stateOf b) (coloursNow (stateOf b))
+
+  eg₁ : registersIn b₁ ≡ reg
+  eg₁ = ap registersIn coloured ∙ cleaned-registers (length b) (d .row) (stateOf b) (coloursNow (stateOf b)) device-sized ∙ sym eg
+
+  ep : pointsIn b₁ bits d ≡ pointsBy reg (at b₁ 2) (bitsOf (d .row) (duePicture z m reg d)) d
+  ep = ap (λ (g : List ℕ). pointsBy g (at b₁ 2) bits d) eg₁ ∙ ap (λ (i : ℕ). pointsBy reg (at b₁ 2) i d) ei
+
   -- under any lines, which may go by the screen
-  under-lines : (lines : Screen → List Line) {y : List ℕ} → d ≡ dueOf (lines z) z reg raster → x′ ≡ y
+  under-lines : (lines : Screen → List Line) {x′ y : List ℕ} → d ≡ dueOf (lines z) z reg raster → x′ ≡ y
       → Leaves (steppedTo (length b) (stepWith (lines (screenOf (areaFrom n))) (areaFrom n) m (stateOf b)) y) r b′ x′
   under-lines lines ed ex =
-      let k = readingOf (stateOf b) in
-      ran b m (lines (screenOf (areaFrom n))) (areaFrom n) bytes (asked-both (wellFormed b) n eq zero .0)
-      (rw ez at (answer-by (lines z) z m k eg et eu ec ep ed))
-      (colours-by (lines z) z m k eg et eu ec ep ed) es er ex
+      let s : VdpState = stateOf b in
+      let a : RenderArea = areaFrom n in
+      let ls : List Line = lines (screenOf a) in
+      let p : Points = pointsIn b₁ bits d in
+      let k = readingOf s in
+      let t : joined s p ≡ stepWith ls a m s = ap (λ (v : Points). joined s v) (rw ez at (answer-by (lines z) z m k eg et eu ec ep ed))
+      ∙ joined-with ls a m s in
+      record {
+        word = er ∙ ap stepWord t;
+        block =
+            es
+            ∙ raster-stored (length b) (cleaned (d .row) s (coloursNow s)) (cleaned-sized (d .row) s (coloursNow s) device-sized) b₁ (p .status) (p .raster)
+            (ap (λ (v : Stepped). v .vdp .raster .table) t ∙ step-table ls a m s ∙ sym (cleaned-table (d .row) s (coloursNow s))) coloured
+            ∙ ap (λ (w : DrawnRow). blockOf (length b) (withRaster (withStatus (cleaned w s (coloursNow s)) (p .status)) (p .raster)))
+            (sym (row-due-by (lines z) z m k eg et eu ec ep ed))
+            ∙ ap (λ (v : Stepped). blockOf (length b) (v .vdp)) t;
+        lent = ex;
+      }
 
-  pub step-kept : d ≡ dueOf (frameLines z m (length x)) z reg raster → x′ ≡ frameWith (d .row) z colours (duePicture z m reg d) x
+  pub step-kept : {x′ : List ℕ} → d ≡ dueOf (frameLines z m (length x)) z reg raster → x′ ≡ frameWith (d .row) z colours (duePicture z m reg d) x
       → Leaves (stepCall b m x n) r b′ x′
   unfolding stepCall frameAfter
   step-kept ed ex =
@@ -201,7 +250,7 @@ module _ (b m x : List ℕ) (n : ℕ) {q : ℕ} (eq : q ≡ refusalNumber (first
       (under-lines (λ s. frameLines s m (length x)) ed
       (rw ez at (frame-by (frameLines z m (length x)) z m (readingOf (stateOf b)) eg et eu ec ep ed x ex)))
 
-  pub row-kept : d ≡ dueOf (rowLines z m (length x)) z reg raster → x′ ≡ rowWith (d .row) z colours (duePicture z m reg d) x
+  pub row-kept : {x′ : List ℕ} → d ≡ dueOf (rowLines z m (length x)) z reg raster → x′ ≡ rowWith (d .row) z colours (duePicture z m reg d) x
       → Leaves (rowStepCall b m x n) r b′ x′
   unfolding rowStepCall rowAfter
   row-kept ed ex =
@@ -211,7 +260,7 @@ module _ (b m x : List ℕ) (n : ℕ) {q : ℕ} (eq : q ≡ refusalNumber (first
 
   -- with layers
   module _ (layers : List ℕ) {layers′ : List ℕ} (eo : layers′ ≡ layersBy (d .row) z (dueLayers z m reg d) layers) where
-    layered : (lines : Screen → List Line) (filled : VdpState → RenderArea → List ℕ)
+    layered : (lines : Screen → List Line) (filled : VdpState → RenderArea → List ℕ) {x′ : List ℕ}
         → d ≡ dueOf (alsoLayers (columns z) (length layers) (lines z)) z reg raster
         → x′ ≡ under (layerLines (λ a. lines (screenOf a)) layers (areaFrom n)) (λ r. x) (filled (stateOf b) (areaFrom n))
         → LayerLeaves (λ a. lines (screenOf a)) filled b m x layers n r b′ x′ layers′
@@ -224,30 +273,16 @@ module _ (b m x : List ℕ) (n : ℕ) {q : ℕ} (eq : q ≡ refusalNumber (first
           owners = (rw ez at (layers-by (ls z) z m (readingOf (stateOf b)) eg et eu ec ep ed layers eo)) ∙ rw (t .0, le-leb n 2 (t .1));
         }
 
-    pub layer-frame-kept : d ≡ dueOf (alsoLayers (columns z) (length layers) (frameLines z m (length x))) z reg raster
+    pub layer-frame-kept : {x′ : List ℕ} → d ≡ dueOf (alsoLayers (columns z) (length layers) (frameLines z m (length x))) z reg raster
         → x′ ≡ frameWith (d .row) z colours (duePicture z m reg d) x → LayerFrameLeaves b m x layers n r b′ x′ layers′
     layer-frame-kept ed ex =
         layered (λ s. frameLines s m (length x)) (frameFills m x) ed
-        (rw ez at (frame-by (alsoLayers (columns z) (length layers) (frameLines z m (length x))) z m (readingOf (stateOf b)) eg et eu ec ep ed x ex))
+        (rw ez at (frame-by (alsoLayers (columns z) (length layers) (frameLines z m (length x))) z m (readingOf (stateOf b)) eg et
+        eu ec ep ed x ex))
 
-    pub layer-row-kept : d ≡ dueOf (alsoLayers (columns z) (length layers) (rowLines z m (length x))) z reg raster
+    pub layer-row-kept : {x′ : List ℕ} → d ≡ dueOf (alsoLayers (columns z) (length layers) (rowLines z m (length x))) z reg raster
         → x′ ≡ rowWith (d .row) z colours (duePicture z m reg d) x → LayerRowLeaves b m x layers n r b′ x′ layers′
     layer-row-kept ed ex =
         layered (λ s. rowLines s m (length x)) (rowFills m x) ed
-        (rw ez at (row-by (alsoLayers (columns z) (length layers) (rowLines z m (length x))) z m (readingOf (stateOf b)) eg et eu ec ep ed x ex))
-
--- a step's colours keep the sizes
-pub cleaned-sized : (r : DrawnRow) (s : VdpState) (colours : List ℕ) → Sized s → Sized (cleaned r s colours)
-cleaned-sized NoRow s colours g = g
-cleaned-sized (Drawn y) s colours g = record { registers = g .registers; palette = g .palette }
-
--- and the table
-pub cleaned-table : (r : DrawnRow) (s : VdpState) (colours : List ℕ) → cleaned r s colours .raster .table ≡ s .raster .table
-cleaned-table NoRow s colours = refl
-cleaned-table (Drawn y) s colours = refl
-
--- a block whose colours are clean has them already
-pub clean-kept : (n : ℕ) (s : VdpState) → Sized s → at (blockOf n s) 26 ≢ 1 → blockOf n s ≡ blockOf n (withCache s (coloursNow s))
-unfolding blockOf head small last
-clean-kept n s g h =
-    split (s .«cram_dirty») (λ t. absurd (h (at-past (s .reg) _ 11 12 (g .registers) ∙ rw t))) (λ t. rw t)
+        (rw ez at (row-by (alsoLayers (columns z) (length layers) (rowLines z m (length x))) z m (readingOf (stateOf b)) eg et
+        eu ec ep ed x ex))

@@ -1,6 +1,6 @@
 -- A step of either machine, from what its parts give: the registers, the raster and the status that are read, what is due, the colours, and the points.
 -- Assumes nothing.
-use mathlib.Core.Path.{_≡_, sym, _∙_}
+use mathlib.Core.Path.{_≡_}
 use mathlib.Core.List.{List}
 use Prim.Native.Nat.{ℕ}
 use Rattle.picture.specs.declared.Screen.{Screen}
@@ -26,9 +26,9 @@ module _ (ls : List Line) (z : Screen) (m : List ℕ) (k : Reading) {reg : List 
   pub answer-by : p ≡ pointsWith ls z m k
   answer-by = answered ls z m k due-by points-by
 
-  -- the colours of the machine, if the step drew a row
-  pub colours-by : (y : ℕ) → p .row ≡ Drawn y → colours ≡ k .colours
-  colours-by y e = ec y (sym (due-row ls z m k due-by points-by) ∙ e)
+  -- the row that was due
+  pub row-due-by : p .row ≡ d .row
+  row-due-by = due-row ls z m k due-by points-by
 
   -- what it leaves in its buffers
   module _ (x : List ℕ) {x′ : List ℕ} where

@@ -1,5 +1,6 @@
 -- What the contracts of `face` cite, and what is shown of them.
 pub mod Face
+pub mod Steps
 pub mod Refused
 pub mod Version
 pub mod Tiles

@@ -6,20 +6,18 @@ ghost use Prim.Native.Nat.{ℕ, _<_};
 ghost use lib.ListN.{length};
 ghost use Rattle.laws.specs.Lists.{at};
 ghost use Rattle.refusal.specs.Refusals.{refusalNumber, first};
-ghost use Rattle.word.specs.Word.{pointsWord};
 ghost use Rattle.word.specs.Called.{Leaves, askedLines};
-ghost use Rattle.home.specs.declared.HomeState.{HomeState};
-ghost use Rattle.home.specs.Step.{coloursNow, cleaned, joined};
+ghost use Rattle.home.specs.Step.{coloursNow};
 ghost use Rattle.points.specs.declared.DrawnRow.the-variants.{Drawn};
-ghost use Rattle.home_block.specs.HomeBlock.{blockSize, blockOf, stateOf, wellFormed, Sized};
+ghost use Rattle.home_block.specs.HomeBlock.{blockSize, stateOf, wellFormed};
 ghost use Rattle.face.specs.Home.{newTableCall, newCall, outCall, inputCall, stepCall, rowStepCall, dumpCall};
 ghost use Rattle.face.specs.HomePixel.{pixelCall};
 ghost use Rattle.face.specs.HomeLayers.{LayerRowLeaves, LayerFrameLeaves};
-use super::status_in;
+use super::left;
+use super::store_colours;
 use picture::Screen;
 use points::DrawnRow;
 use points::Due;
-use points::Points;
 use refusal::Refusal;
 
 // A fresh device of this table into the block.
@@ -90,58 +88,26 @@ fn colours_of(state: &[u8], due: Due) -> [u32; 32]
     home_block::cache_in(state)
 }
 
-// The colours into the block, if a row was drawn with them and they are not there already.
-fn store_colours(state: &mut [u8], row: DrawnRow, colours: &[u32; 32])
-    requires { ⌜ length (now state) ≡ blockSize ⌝ }
-    ensures { λ _. ⌜ ((h : HomeState) → Sized h → ((y : ℕ) → row ≡ Drawn y → now (colours .entry) ≡ coloursNow h) → now (state .entry) ≡ blockOf h → now (state .exit) ≡ blockOf (cleaned row h (coloursNow h))) ⌝ }
-{
-    let DrawnRow::Drawn(_) = row else {
-        return;
-    };
-    if state[home_block::DIRTY] == 1 {
-        home_block::store_cache(state, colours);
-    }
-}
-
-// What the points of a step leave of the device, into its block; answered by their word.
-fn left(points: Points, colours: &[u32; 32], state: &mut [u8]) -> u32
-    requires { ⌜ length (now state) ≡ blockSize ⌝ }
-    ensures { λ r. ⌜ r ≡ pointsWord points ⌝ }
-    ensures { λ _. ⌜ ((h : HomeState) → Sized h → points .raster .table ≡ h .raster .table → ((y : ℕ) → points .row ≡ Drawn y → now (colours .entry) ≡ coloursNow h) → now (state .entry) ≡ blockOf h → now (state .exit) ≡ blockOf (joined h points .home)) ⌝ }
-{
-    let row = points.row;
-    let raster = points.raster;
-    store_colours(state, row, colours);
-    home_block::store_raster(state, points.status, raster);
-    word::word_of(points)
-}
-
 // A step, whose row goes to its place in the frame.
 #[no_mangle]
 pub extern "C" fn vdp_home_step(state: &mut [u8], vram: &[u8], frame: &mut [u8]) -> u32
     ensures { λ r. ⌜ Leaves (stepCall (now (state .entry)) (now (vram .entry)) (now (frame .entry))) r (now (state .exit)) (now (frame .exit)) ⌝ }
 {
-    let refused = asked(state);
+    let view: &[u8] = state;
+    let refused = asked(view);
     if refused != 0 {
         return refused;
     }
-    let view: &[u8] = state;
     let screen = Screen::Home;
     let reg = home_block::registers(view);
-    let due = points::frame_due(reg, home_block::raster_in(view), vram, frame.len(), screen);
-    let colours = colours_of(view, due);
+    let raster = home_block::raster_in(view);
+    let due = points::frame_due(reg, raster, vram, frame.len(), screen);
+    let made = colours_of(view, due);
+    let colours = &made;
     let mut none = [0u8; 0];
-    let points = points_run::frame_points_due(
-        due,
-        reg,
-        status_in(view),
-        &colours,
-        vram,
-        frame,
-        &mut none,
-        screen,
-    );
-    left(points, &colours, state)
+    let bits = points_run::draw_in(due, reg, colours, vram, frame, &mut none, screen);
+    store_colours(state, due, colours, home_block::DIRTY, home_block::CACHE);
+    left(due, bits, state, home_block::VERTICAL_SCROLL)
 }
 
 // A step, whose row goes to the first bytes of the row buffer.
@@ -149,27 +115,21 @@ pub extern "C" fn vdp_home_step(state: &mut [u8], vram: &[u8], frame: &mut [u8])
 pub extern "C" fn vdp_home_row_step(state: &mut [u8], vram: &[u8], row: &mut [u8]) -> u32
     ensures { λ r. ⌜ Leaves (rowStepCall (now (state .entry)) (now (vram .entry)) (now (row .entry))) r (now (state .exit)) (now (row .exit)) ⌝ }
 {
-    let refused = asked(state);
+    let view: &[u8] = state;
+    let refused = asked(view);
     if refused != 0 {
         return refused;
     }
-    let view: &[u8] = state;
     let screen = Screen::Home;
     let reg = home_block::registers(view);
-    let due = points::row_due(reg, home_block::raster_in(view), vram, row.len(), screen);
-    let colours = colours_of(view, due);
+    let raster = home_block::raster_in(view);
+    let due = points::row_due(reg, raster, vram, row.len(), screen);
+    let made = colours_of(view, due);
+    let colours = &made;
     let mut none = [0u8; 0];
-    let points = points_run::row_points_due(
-        due,
-        reg,
-        status_in(view),
-        &colours,
-        vram,
-        row,
-        &mut none,
-        screen,
-    );
-    left(points, &colours, state)
+    let bits = points_run::draw(due, reg, colours, vram, row, &mut none, screen);
+    store_colours(state, due, colours, home_block::DIRTY, home_block::CACHE);
+    left(due, bits, state, home_block::VERTICAL_SCROLL)
 }
 
 // The step on a frame, with the layers of the row's columns, which go to the first bytes of the layer buffer.
@@ -182,28 +142,21 @@ pub extern "C" fn vdp_home_layer_step(
 ) -> u32
     ensures { λ r. ⌜ LayerFrameLeaves (now (state .entry)) (now (vram .entry)) (now (frame .entry)) (now (layers .entry)) r (now (state .exit)) (now (frame .exit)) (now (layers .exit)) ⌝ }
 {
-    let refused = asked(state);
+    let view: &[u8] = state;
+    let refused = asked(view);
     if refused != 0 {
         return refused;
     }
-    let view: &[u8] = state;
     let screen = Screen::Home;
     let reg = home_block::registers(view);
     let raster = home_block::raster_in(view);
-    let plain = points::frame_due(reg, raster, vram, frame.len(), screen);
-    let due = points::layer_due(plain, raster, layers.len(), screen);
-    let colours = colours_of(view, due);
-    let points = points_run::frame_points_due(
-        due,
-        reg,
-        status_in(view),
-        &colours,
-        vram,
-        frame,
-        layers,
-        screen,
-    );
-    left(points, &colours, state)
+    let mut due = points::frame_due(reg, raster, vram, frame.len(), screen);
+    due = points::layer_due(due, raster, layers.len(), screen);
+    let made = colours_of(view, due);
+    let colours = &made;
+    let bits = points_run::draw_in(due, reg, colours, vram, frame, layers, screen);
+    store_colours(state, due, colours, home_block::DIRTY, home_block::CACHE);
+    left(due, bits, state, home_block::VERTICAL_SCROLL)
 }
 
 // The same of the step on a row buffer.
@@ -216,28 +169,21 @@ pub extern "C" fn vdp_home_layer_row_step(
 ) -> u32
     ensures { λ r. ⌜ LayerRowLeaves (now (state .entry)) (now (vram .entry)) (now (row .entry)) (now (layers .entry)) r (now (state .exit)) (now (row .exit)) (now (layers .exit)) ⌝ }
 {
-    let refused = asked(state);
+    let view: &[u8] = state;
+    let refused = asked(view);
     if refused != 0 {
         return refused;
     }
-    let view: &[u8] = state;
     let screen = Screen::Home;
     let reg = home_block::registers(view);
     let raster = home_block::raster_in(view);
-    let plain = points::row_due(reg, raster, vram, row.len(), screen);
-    let due = points::layer_due(plain, raster, layers.len(), screen);
-    let colours = colours_of(view, due);
-    let points = points_run::row_points_due(
-        due,
-        reg,
-        status_in(view),
-        &colours,
-        vram,
-        row,
-        layers,
-        screen,
-    );
-    left(points, &colours, state)
+    let mut due = points::row_due(reg, raster, vram, row.len(), screen);
+    due = points::layer_due(due, raster, layers.len(), screen);
+    let made = colours_of(view, due);
+    let colours = &made;
+    let bits = points_run::draw(due, reg, colours, vram, row, layers, screen);
+    store_colours(state, due, colours, home_block::DIRTY, home_block::CACHE);
+    left(due, bits, state, home_block::VERTICAL_SCROLL)
 }
 
 // All tiles into the pixels; the block is only read.
@@ -253,23 +199,19 @@ pub extern "C" fn vdp_home_dump_tileset(state: &[u8], vram: &[u8], pixels: &mut 
     word::number(dump::dump_tileset(home_block::registers(state), &colours, vram, pixels))
 }
 
-// The colour with number n that a row of the block's device is drawn with: that one is made of the palette, where the colours are dirty.
-fn colour_of(state: &[u8], n: usize) -> u32
-    requires { ⌜ (length (now state) ≡ blockSize) × (n < 32) ⌝ }
-    ensures { λ r. ⌜ r ≡ at (coloursNow (stateOf (now (state .entry)))) n ⌝ }
-{
-    if state[home_block::DIRTY] == 1 {
-        return colour::home_rgb(state[home_block::PALETTE + n]);
-    }
-    home_block::cached_colour(state, n)
-}
-
-// The colour of a pixel, 0 where there is none.
+// The colour of a pixel, 0 where there is none: of the number n that a row of the block's device is drawn with. Where the colours are dirty that one is made
+// of the palette.
 fn shown(state: &[u8], there: bool, n: usize) -> u32
     requires { ⌜ (length (now state) ≡ blockSize) × (n < 32) ⌝ }
     ensures { λ r. ⌜ r ≡ cond there (at (coloursNow (stateOf (now (state .entry)))) n) 0 ⌝ }
 {
-    if there { colour_of(state, n) } else { 0 }
+    if !there {
+        return 0;
+    }
+    if state[home_block::DIRTY] == 1 {
+        return colour::home_rgb(state[home_block::PALETTE + n]);
+    }
+    home_block::cached_colour(state, n)
 }
 
 // One pixel of the row as it would be drawn now, the fill among it; the block is only read.

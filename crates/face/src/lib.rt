@@ -6,13 +6,14 @@ ghost use Prim.Native.Nat.{ℕ, _+_, _*_, _≤_, _<_};
 ghost use Rattle.refusal.specs.Refusals.{refusalNumber, first};
 ghost use lib.ListN.{length};
 ghost use Rattle.laws.specs.Lists.{at};
-ghost use Rattle.vdp.specs.declared.VdpState.{VdpState};
 ghost use Rattle.points.specs.declared.DrawnRow.the-variants.{Drawn};
 ghost use Rattle.word.specs.Word.{pointsWord};
 ghost use Rattle.word.specs.Called.{askedLines};
 ghost use Rattle.picture.specs.Area.{areaFrom, screenOf};
-ghost use Rattle.block.specs.Block.{oldSize, wellFormed, stateOf, blockOf, Sized};
-ghost use Rattle.step.specs.Step.{coloursNow, cleaned, joined};
+ghost use Rattle.fields.specs.Stored.{frontEnd};
+ghost use Rattle.block.specs.Block.{oldSize, wellFormed, stateOf};
+ghost use Rattle.step.specs.Step.{coloursNow};
+ghost use Rattle.face.specs.Steps.{pointsIn, coloursStored, pointsStored};
 ghost use Rattle.face.specs.Tiles.{writeTileCall, readTileCall};
 ghost use Rattle.face.specs.Face.{newTableCall, newCall, outCall, inputCall, stepCall, rowStepCall, dumpCall, Leaves};
 ghost use Rattle.face.specs.Layers.{LayerRowLeaves, LayerFrameLeaves};
@@ -27,7 +28,6 @@ pub mod home_calls;
 use picture::Screen;
 use points::DrawnRow;
 use points::Due;
-use points::Points;
 use refusal::Refusal;
 use trace_record::Record;
 use trace_record::Recorded;
@@ -101,39 +101,38 @@ fn colours_of(state: &[u8], due: Due) -> [u32; 32]
     block::cache_in(state)
 }
 
-// The colours into the block, if a row was drawn with them and they are not there already.
-fn store_colours(state: &mut [u8], row: DrawnRow, colours: &[u32; 32])
-    requires { ⌜ oldSize ≤ length (now state) ⌝ }
-    ensures { λ _. ⌜ ((k : ℕ) (s : VdpState) → Sized s → ((y : ℕ) → row ≡ Drawn y → now (colours .entry) ≡ coloursNow s) → now (state .entry) ≡ blockOf k s → now (state .exit) ≡ blockOf k (cleaned row s (coloursNow s))) ⌝ }
+// ---- the parts of a step that are the same for either machine
+
+// The colours into the block, whose dirty flag and cache stand at these places, if a row is drawn with them and they are not there already.
+fn store_colours(state: &mut [u8], due: Due, colours: &[u32; 32], dirty: usize, cache: usize)
+    requires { ⌜ (dirty < length (now state)) × (cache + 128 ≤ length (now state)) ⌝ }
+    ensures { λ _. ⌜ now (state .exit) ≡ coloursStored dirty cache (due .row) (now (colours .entry)) (now (state .entry)) ⌝ }
 {
+    let row = due.row;
     let DrawnRow::Drawn(_) = row else {
         return;
     };
-    if state[block::DIRTY] == 1 {
-        block::store_cache(state, colours);
+    if state[dirty] == 1 {
+        block_parts::store_cache(state, cache, dirty, colours);
     }
 }
 
-// The status byte of a block.
-fn status_in(state: &[u8]) -> u8
-    requires { ⌜ 2 < length (now state) ⌝ }
-    ensures { λ r. ⌜ r ≡ at (now (state .entry)) 2 ⌝ }
+// What the points of a step that was due leave of status and raster once its row, which set these bits, is drawn: into the block, whose scroll stands at this
+// place. Answered by their word.
+fn left(due: Due, bits: u8, state: &mut [u8], scroll: usize) -> u32
+    requires { ⌜ (frontEnd ≤ length (now state)) × (scroll < length (now state)) ⌝ }
+    ensures { λ r. ⌜ r ≡ pointsWord (pointsIn (now (state .entry)) bits due) ⌝ }
+    ensures { λ _. ⌜ now (state .exit) ≡ pointsStored scroll (pointsIn (now (state .entry)) bits due) (now (state .entry)) ⌝ }
 {
-    state[fields::STATUS]
-}
-
-// What the points of a step leave of the device, into its block; answered by their word.
-fn left(points: Points, colours: &[u32; 32], state: &mut [u8]) -> u32
-    requires { ⌜ oldSize ≤ length (now state) ⌝ }
-    ensures { λ r. ⌜ r ≡ pointsWord points ⌝ }
-    ensures { λ _. ⌜ ((k : ℕ) (s : VdpState) → Sized s → points .raster .table ≡ s .raster .table → ((y : ℕ) → points .row ≡ Drawn y → now (colours .entry) ≡ coloursNow s) → now (state .entry) ≡ blockOf k s → now (state .exit) ≡ blockOf k (joined s points .vdp)) ⌝ }
-{
-    let row = points.row;
+    let view: &[u8] = state;
+    let reg = block_parts::registers(view);
+    let points = points::finish(due, reg, view[fields::STATUS], bits);
     let raster = points.raster;
-    store_colours(state, row, colours);
-    block::store_raster(state, points.status, raster);
+    block_parts::store_raster(state, scroll, points.status, raster);
     word::word_of(points)
 }
+
+// ---- the steps
 
 // The screen of an area's number.
 fn screen_from(area: u8) -> Screen
@@ -147,27 +146,21 @@ fn screen_from(area: u8) -> Screen
 pub extern "C" fn vdp_step(state: &mut [u8], vram: &[u8], frame: &mut [u8], area: u8) -> u32
     ensures { λ r. ⌜ Leaves (stepCall (now (state .entry)) (now (vram .entry)) (now (frame .entry)) area) r (now (state .exit)) (now (frame .exit)) ⌝ }
 {
-    let refused = asked(state, area);
+    let view: &[u8] = state;
+    let refused = asked(view, area);
     if refused != 0 {
         return refused;
     }
-    let view: &[u8] = state;
     let screen = screen_from(area);
     let reg = block::registers(view);
-    let due = points::frame_due(reg, block::raster_in(view), vram, frame.len(), screen);
-    let colours = colours_of(view, due);
+    let raster = block::raster_in(view);
+    let due = points::frame_due(reg, raster, vram, frame.len(), screen);
+    let made = colours_of(view, due);
+    let colours = &made;
     let mut none = [0u8; 0];
-    let points = points_run::frame_points_due(
-        due,
-        reg,
-        status_in(view),
-        &colours,
-        vram,
-        frame,
-        &mut none,
-        screen,
-    );
-    left(points, &colours, state)
+    let bits = points_run::draw_in(due, reg, colours, vram, frame, &mut none, screen);
+    store_colours(state, due, colours, block::DIRTY, block::CACHE);
+    left(due, bits, state, block::VERTICAL_SCROLL)
 }
 
 // A step, whose row goes to the first bytes of the row buffer.
@@ -175,27 +168,21 @@ pub extern "C" fn vdp_step(state: &mut [u8], vram: &[u8], frame: &mut [u8], area
 pub extern "C" fn vdp_row_step(state: &mut [u8], vram: &[u8], row: &mut [u8], area: u8) -> u32
     ensures { λ r. ⌜ Leaves (rowStepCall (now (state .entry)) (now (vram .entry)) (now (row .entry)) area) r (now (state .exit)) (now (row .exit)) ⌝ }
 {
-    let refused = asked(state, area);
+    let view: &[u8] = state;
+    let refused = asked(view, area);
     if refused != 0 {
         return refused;
     }
-    let view: &[u8] = state;
     let screen = screen_from(area);
     let reg = block::registers(view);
-    let due = points::row_due(reg, block::raster_in(view), vram, row.len(), screen);
-    let colours = colours_of(view, due);
+    let raster = block::raster_in(view);
+    let due = points::row_due(reg, raster, vram, row.len(), screen);
+    let made = colours_of(view, due);
+    let colours = &made;
     let mut none = [0u8; 0];
-    let points = points_run::row_points_due(
-        due,
-        reg,
-        status_in(view),
-        &colours,
-        vram,
-        row,
-        &mut none,
-        screen,
-    );
-    left(points, &colours, state)
+    let bits = points_run::draw(due, reg, colours, vram, row, &mut none, screen);
+    store_colours(state, due, colours, block::DIRTY, block::CACHE);
+    left(due, bits, state, block::VERTICAL_SCROLL)
 }
 
 // The step on a frame, with the layers of the row's columns, which go to the first bytes of the layer buffer.
@@ -209,28 +196,21 @@ pub extern "C" fn vdp_layer_step(
 ) -> u32
     ensures { λ r. ⌜ LayerFrameLeaves (now (state .entry)) (now (vram .entry)) (now (frame .entry)) (now (layers .entry)) area r (now (state .exit)) (now (frame .exit)) (now (layers .exit)) ⌝ }
 {
-    let refused = asked(state, area);
+    let view: &[u8] = state;
+    let refused = asked(view, area);
     if refused != 0 {
         return refused;
     }
-    let view: &[u8] = state;
     let screen = screen_from(area);
     let reg = block::registers(view);
     let raster = block::raster_in(view);
-    let plain = points::frame_due(reg, raster, vram, frame.len(), screen);
-    let due = points::layer_due(plain, raster, layers.len(), screen);
-    let colours = colours_of(view, due);
-    let points = points_run::frame_points_due(
-        due,
-        reg,
-        status_in(view),
-        &colours,
-        vram,
-        frame,
-        layers,
-        screen,
-    );
-    left(points, &colours, state)
+    let mut due = points::frame_due(reg, raster, vram, frame.len(), screen);
+    due = points::layer_due(due, raster, layers.len(), screen);
+    let made = colours_of(view, due);
+    let colours = &made;
+    let bits = points_run::draw_in(due, reg, colours, vram, frame, layers, screen);
+    store_colours(state, due, colours, block::DIRTY, block::CACHE);
+    left(due, bits, state, block::VERTICAL_SCROLL)
 }
 
 // The same of the step on a row buffer.
@@ -244,28 +224,21 @@ pub extern "C" fn vdp_layer_row_step(
 ) -> u32
     ensures { λ r. ⌜ LayerRowLeaves (now (state .entry)) (now (vram .entry)) (now (row .entry)) (now (layers .entry)) area r (now (state .exit)) (now (row .exit)) (now (layers .exit)) ⌝ }
 {
-    let refused = asked(state, area);
+    let view: &[u8] = state;
+    let refused = asked(view, area);
     if refused != 0 {
         return refused;
     }
-    let view: &[u8] = state;
     let screen = screen_from(area);
     let reg = block::registers(view);
     let raster = block::raster_in(view);
-    let plain = points::row_due(reg, raster, vram, row.len(), screen);
-    let due = points::layer_due(plain, raster, layers.len(), screen);
-    let colours = colours_of(view, due);
-    let points = points_run::row_points_due(
-        due,
-        reg,
-        status_in(view),
-        &colours,
-        vram,
-        row,
-        layers,
-        screen,
-    );
-    left(points, &colours, state)
+    let mut due = points::row_due(reg, raster, vram, row.len(), screen);
+    due = points::layer_due(due, raster, layers.len(), screen);
+    let made = colours_of(view, due);
+    let colours = &made;
+    let bits = points_run::draw(due, reg, colours, vram, row, layers, screen);
+    store_colours(state, due, colours, block::DIRTY, block::CACHE);
+    left(due, bits, state, block::VERTICAL_SCROLL)
 }
 
 // All tiles into the pixels; the block is only read.
@@ -307,11 +280,15 @@ pub extern "C" fn vdp_read_tile(vram: &[u8], tile: u16, codes: &mut [u8]) -> u32
 
 // ---- one pixel
 
-// The colour with number n that a row of the block's device is drawn with: that one is made of the palette, where the colours are dirty.
-fn colour_of(state: &[u8], n: usize) -> u32
+// The colour of a pixel, 0 where there is none: of the number n that a row of the block's device is drawn with. Where the colours are dirty that one is made
+// of the palette.
+fn shown(state: &[u8], there: bool, n: usize) -> u32
     requires { ⌜ (oldSize ≤ length (now state)) × (n < 32) ⌝ }
-    ensures { λ r. ⌜ r ≡ at (coloursNow (stateOf (now (state .entry)))) n ⌝ }
+    ensures { λ r. ⌜ r ≡ cond there (at (coloursNow (stateOf (now (state .entry)))) n) 0 ⌝ }
 {
+    if !there {
+        return 0;
+    }
     if state[block::DIRTY] == 1 {
         return colour::rgb(
             state[block::PALETTE + 2 * n],
@@ -319,14 +296,6 @@ fn colour_of(state: &[u8], n: usize) -> u32
         );
     }
     block::cached_colour(state, n)
-}
-
-// The colour of a pixel, 0 where there is none.
-fn shown(state: &[u8], there: bool, n: usize) -> u32
-    requires { ⌜ (oldSize ≤ length (now state)) × (n < 32) ⌝ }
-    ensures { λ r. ⌜ r ≡ cond there (at (coloursNow (stateOf (now (state .entry)))) n) 0 ⌝ }
-{
-    if there { colour_of(state, n) } else { 0 }
 }
 
 // One pixel of the row as it would be drawn now; the block is only read.

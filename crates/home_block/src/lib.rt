@@ -24,7 +24,7 @@ use refusal::Refusal;
 pub const BLOCK_SIZE: usize = 186;
 
 // The places that are its own: the scroll, the dirty flag, the table, the palette, the cache.
-const VERTICAL_SCROLL: usize = 23;
+pub const VERTICAL_SCROLL: usize = 23;
 
 pub const DIRTY: usize = 24;
 

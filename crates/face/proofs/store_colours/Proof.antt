@@ -1,13 +1,6 @@
--- `face::store_colours` meets its contract: the colours into the block, if a row was drawn with them and they are not there already.
+-- `face::store_colours` meets its contract: the colours into the block, if a row is drawn with them and they are not there already.
 use borrow.Author.Needs.{needs}
-use mathlib.Core.Path.{ap, _∙_}
-use mathlib.Core.List.{List}
-use Prim.Native.Nat.{ℕ}
-use Rattle.laws.specs.Lists.{at}
-use Rattle.block.specs.Block.{blockOf}
-use Rattle.vdp.specs.Device.{withCache}
-use Rattle.block.proofs.Stores.{cache-stored}
-use Rattle.face.proofs.Laws.{clean-kept}
+use borrow.Author.Tests.{eq-eqb, ne-eqb}
 use Rattle.face.proofs.store_colours.Statement.{statement}
 use Rattle.face.proofs.store_colours.Tie as tie
 
@@ -18,7 +11,7 @@ enum-told-2 : tie.Need-enum-told-2
 enum-told-2 c = search needs
 
 returns : tie.Need-returns
-returns c = λ k s g q e. rw (c .enum-told2 .given .1) e
+returns c = search needs
 
 slice-read-if1 : tie.Need-slice-read-if1
 slice-read-if1 c = search needs
@@ -32,16 +25,14 @@ same-length c = search needs
 returns-2 : tie.Need-returns-2
 returns-2 c =
     let at-store-cache = c .before .before in
-    let at-enum-told = at-store-cache .before .before .before .before in
-    let at-start = at-enum-told .before .before .before in
-    λ k s g q e. rw (at-enum-told .enum-told .given .1)
-    (at-store-cache .store-cache .ensures ∙ cache-stored k s g (at-start .args .state .now) (at-start .args .colours .now) e
-    ∙ ap (λ (c : List ℕ). blockOf k (withCache s c)) (q _ (at-enum-told .enum-told .given .1)))
+    let at-if1 = at-store-cache .before .before in
+    let at-enum-told = at-if1 .before .before in
+    rw (at-enum-told .enum-told .given .1, eq-eqb _ _ (at-if1 .if1 .taken)) (at-store-cache .store-cache .ensures)
 
 returns-3 : tie.Need-returns-3
 returns-3 c =
     let at-enum-told = c .before .before in
-    λ k s g q e. rw (at-enum-told .enum-told .given .1) (e ∙ clean-kept k s g (λ z. c .if1 .left (ap (λ (b : List ℕ). at b 26) e ∙ z)))
+    rw (at-enum-told .enum-told .given .1, ne-eqb _ _ (c .if1 .left))
 
 pub store-colours-spec : {M : Type 1} → statement M
 store-colours-spec =

@@ -1,11 +1,11 @@
 -- `face::vdp_layer_step` meets its contract: the step on a frame, with the layers of the row's columns.
 use borrow.Author.Needs.{needs}
 use lib.ListN.{length}
+use native.Mathlib.Omega.{arith}
 use Rattle.picture.specs.Screen.{columns}
 use Rattle.points.specs.Points.{frameLines}
-use native.Mathlib.Omega.{arith}
 use Rattle.points_run.proofs.Steps.{frame-layers-fit}
-use Rattle.face.proofs.Laws.{room, status-room, status-is, layer-refused, layer-frame-kept}
+use Rattle.face.proofs.Laws.{room, colours-room, points-room, layer-refused, layer-frame-kept}
 use Rattle.face.proofs.vdp_layer_step.Statement.{statement}
 use Rattle.face.proofs.vdp_layer_step.Tie as tie
 
@@ -26,14 +26,13 @@ screen-from-requires c κs = search needs
 
 registers-requires : tie.Need-registers-requires
 registers-requires c κs =
-    let at-if1 = c .before .before in
-    let at-asked = at-if1 .before in
+    let at-asked = c .before .before in
     let at-start = at-asked .before .before .before .before .before .before in
-    room (at-start .args .state .now) (at-start .args .area) (at-asked .asked .ensures) (at-if1 .if1 .left)
+    room (at-start .args .state .now) (at-start .args .area) (at-asked .asked .ensures) (c .before .if1 .left)
 
 raster-in-requires : tie.Need-raster-in-requires
 raster-in-requires c κs =
-    let at-if1 = c .before .before .before in
+    let at-if1 = c .before .before in
     let at-asked = at-if1 .before in
     let at-start = at-asked .before .before .before .before .before .before in
     room (at-start .args .state .now) (at-start .args .area) (at-asked .asked .ensures) (at-if1 .if1 .left)
@@ -46,38 +45,40 @@ layer-due-requires c κs = search needs
 
 colours-of-requires : tie.Need-colours-of-requires
 colours-of-requires c κs =
-    let at-if1 = c .before .before .before .before .before .before in
+    let at-if1 = c .before .before .before .before .before in
     let at-asked = at-if1 .before in
     let at-start = at-asked .before .before .before .before .before .before in
     room (at-start .args .state .now) (at-start .args .area) (at-asked .asked .ensures) (at-if1 .if1 .left)
 
-status-in-requires : tie.Need-status-in-requires
-status-in-requires c κs =
-    let at-if1 = c .before .before .before .before .before .before .before in
-    let at-asked = at-if1 .before in
-    let at-start = at-asked .before .before .before .before .before .before in
-    status-room (at-start .args .state .now) (at-start .args .area) (at-asked .asked .ensures) (at-if1 .if1 .left)
-
-frame-points-due-requires : tie.Need-frame-points-due-requires
-frame-points-due-requires c κs =
-    let at-layer-due = c .before .before .before .before .before in
+draw-in-requires : tie.Need-draw-in-requires
+draw-in-requires c κs =
+    let at-layer-due = c .before .before .before .before in
     let at-frame-due = at-layer-due .before in
     let at-raster-in = at-frame-due .before in
     let at-registers = at-raster-in .before in
     let at-screen-from = at-registers .before in
-    let at-start = at-screen-from .before .before .before .before .before .before .before .before .before in
+    let at-start = at-screen-from .before .before .before .before .before .before .before .before in
     frame-layers-fit (at-screen-from .screen-from .result) (at-registers .registers .result) (at-raster-in .raster-in .result) (at-start .args .vram .now)
     (length (at-start .args .frame .now)) (columns (at-screen-from .screen-from .result)) (length (at-start .args .layers .now))
     (at-layer-due .layer-due .ensures .1 (frameLines (at-screen-from .screen-from .result) (at-start .args .vram .now)
     (length (at-start .args .frame .now))) (at-registers .registers .result) (at-frame-due .frame-due .ensures))
 
+store-colours-requires : tie.Need-store-colours-requires
+store-colours-requires c κs =
+    let at-if1 = c .before .before .before .before .before .before .before .before .before .before .before .before .before .before .before in
+    let at-asked = at-if1 .before in
+    let at-start = at-asked .before .before .before .before .before .before in
+    colours-room (at-start .args .state .now) (at-start .args .area) (at-asked .asked .ensures) (at-if1 .if1 .left)
+
 left-requires : tie.Need-left-requires
 left-requires c κs =
-    let at-if1 = c .before .before .before .before .before .before .before .before .before .before .before .before .before .before .before .before .before
+    let at-store-colours = c .before .before .before in
+    let at-if1 = at-store-colours .before .before .before .before .before .before .before .before .before .before .before .before .before .before .before
     .before in
     let at-asked = at-if1 .before in
     let at-start = at-asked .before .before .before .before .before .before in
-    room (at-start .args .state .now) (at-start .args .area) (at-asked .asked .ensures) (at-if1 .if1 .left)
+    points-room (at-start .args .state .now) (at-start .args .area) (at-asked .asked .ensures) (at-if1 .if1 .left) (at-store-colours .store-colours .last .0)
+    (at-store-colours .store-colours .kept .0)
 
 same-length-2 : tie.Need-same-length-2
 same-length-2 c = search needs
@@ -91,26 +92,25 @@ same-length-4 c = search needs
 returns-2 : tie.Need-returns-2
 returns-2 c =
     let at-left = c .before .before in
-    let at-frame-points-due = at-left .before .before .before .before .before .before .before in
-    let at-status-in = at-frame-points-due .before .before .before .before in
-    let at-colours-of = at-status-in .before in
+    let at-store-colours = at-left .before .before .before .before in
+    let at-draw-in = at-store-colours .before .before .before .before .before .before in
+    let at-colours-of = at-draw-in .before .before .before .before in
     let at-layer-due = at-colours-of .before in
     let at-frame-due = at-layer-due .before in
     let at-raster-in = at-frame-due .before in
     let at-registers = at-raster-in .before in
     let at-screen-from = at-registers .before in
-    let at-if1 = at-screen-from .before .before in
+    let at-if1 = at-screen-from .before in
     let at-asked = at-if1 .before in
     let at-slice-known = at-asked .before .before .before .before .before in
     let at-start = at-slice-known .before in
     layer-frame-kept (at-start .args .state .now) (at-start .args .vram .now) (at-start .args .frame .now) (at-start .args .area) (at-asked .asked .ensures)
-    (at-if1 .if1 .left)
-    (λ i. omega (arith, at-slice-known .slice-known .given i)) (at-screen-from .screen-from .ensures) (at-registers .registers .ensures)
-    (at-raster-in .raster-in .ensures) (status-is (at-start .args .state .now) (at-status-in .status-in .ensures))
-    (at-colours-of .colours-of .ensures) (at-frame-points-due .frame-points-due .ensures .0) (at-left .left .ensures .0) (at-left .left .ensures .1)
-    (at-start .args .layers .now) (at-frame-points-due .frame-points-due .ensures .1 .1)
-    (at-layer-due .layer-due .ensures .1 (frameLines (at-screen-from .screen-from .result) (at-start .args .vram .now) (length (at-start .args .frame .now)))
-    (at-registers .registers .result) (at-frame-due .frame-due .ensures)) (at-frame-points-due .frame-points-due .ensures .1 .0)
+    (at-if1 .if1 .left) (λ i. omega (arith, at-slice-known .slice-known .given i)) (at-layer-due .layer-due .result) (at-screen-from .screen-from .ensures)
+    (at-registers .registers .ensures) (at-raster-in .raster-in .ensures) (at-colours-of .colours-of .ensures) (at-draw-in .draw-in .ensures .0)
+    (at-store-colours .store-colours .ensures) (at-left .left .ensures .0) (at-left .left .ensures .1) (at-start .args .layers .now)
+    (at-draw-in .draw-in .ensures .1 .1) (at-layer-due .layer-due .ensures .1
+    (frameLines (at-screen-from .screen-from .result) (at-start .args .vram .now) (length (at-start .args .frame .now))) (at-registers .registers .result)
+    (at-frame-due .frame-due .ensures)) (at-draw-in .draw-in .ensures .1 .0)
 
 pub vdp-layer-step-spec : {M : Type 1} → statement M
 vdp-layer-step-spec =
@@ -125,8 +125,8 @@ vdp-layer-step-spec =
     frame-due-requires
     layer-due-requires
     colours-of-requires
-    status-in-requires
-    frame-points-due-requires
+    draw-in-requires
+    store-colours-requires
     left-requires
     same-length-2
     same-length-3

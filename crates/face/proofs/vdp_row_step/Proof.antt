@@ -3,7 +3,7 @@ use borrow.Author.Needs.{needs}
 use lib.ListN.{length}
 use native.Mathlib.Omega.{arith}
 use Rattle.points_run.proofs.Steps.{row-due-fits}
-use Rattle.face.proofs.Laws.{room, status-room, status-is, row-refused, row-kept}
+use Rattle.face.proofs.Laws.{room, colours-room, points-room, row-refused, row-kept}
 use Rattle.face.proofs.vdp_row_step.Statement.{statement}
 use Rattle.face.proofs.vdp_row_step.Tie as tie
 
@@ -24,14 +24,13 @@ screen-from-requires c κs = search needs
 
 registers-requires : tie.Need-registers-requires
 registers-requires c κs =
-    let at-if1 = c .before .before in
-    let at-asked = at-if1 .before in
+    let at-asked = c .before .before in
     let at-start = at-asked .before .before .before .before .before in
-    room (at-start .args .state .now) (at-start .args .area) (at-asked .asked .ensures) (at-if1 .if1 .left)
+    room (at-start .args .state .now) (at-start .args .area) (at-asked .asked .ensures) (c .before .if1 .left)
 
 raster-in-requires : tie.Need-raster-in-requires
 raster-in-requires c κs =
-    let at-if1 = c .before .before .before in
+    let at-if1 = c .before .before in
     let at-asked = at-if1 .before in
     let at-start = at-asked .before .before .before .before .before in
     room (at-start .args .state .now) (at-start .args .area) (at-asked .asked .ensures) (at-if1 .if1 .left)
@@ -41,37 +40,39 @@ row-due-requires c κs = search needs
 
 colours-of-requires : tie.Need-colours-of-requires
 colours-of-requires c κs =
-    let at-if1 = c .before .before .before .before .before in
+    let at-if1 = c .before .before .before .before in
     let at-asked = at-if1 .before in
     let at-start = at-asked .before .before .before .before .before in
     room (at-start .args .state .now) (at-start .args .area) (at-asked .asked .ensures) (at-if1 .if1 .left)
 
-status-in-requires : tie.Need-status-in-requires
-status-in-requires c κs =
-    let at-if1 = c .before .before .before .before .before .before in
-    let at-asked = at-if1 .before in
-    let at-start = at-asked .before .before .before .before .before in
-    status-room (at-start .args .state .now) (at-start .args .area) (at-asked .asked .ensures) (at-if1 .if1 .left)
+slice-aggregate-draw : tie.Need-slice-aggregate-draw
+slice-aggregate-draw c = search needs
 
-slice-aggregate-row-points-due : tie.Need-slice-aggregate-row-points-due
-slice-aggregate-row-points-due c = search needs
-
-row-points-due-requires : tie.Need-row-points-due-requires
-row-points-due-requires c κs =
-    let at-row-due = c .before .before .before .before .before in
+draw-requires : tie.Need-draw-requires
+draw-requires c κs =
+    let at-row-due = c .before .before .before .before in
     let at-raster-in = at-row-due .before in
     let at-registers = at-raster-in .before in
     let at-screen-from = at-registers .before in
-    let at-start = at-screen-from .before .before .before .before .before .before .before .before in
+    let at-start = at-screen-from .before .before .before .before .before .before .before in
     row-due-fits (at-screen-from .screen-from .result) (at-registers .registers .result) (at-raster-in .raster-in .result) (at-start .args .vram .now)
     (length (at-start .args .row .now)) (at-row-due .row-due .ensures)
 
-left-requires : tie.Need-left-requires
-left-requires c κs =
-    let at-if1 = c .before .before .before .before .before .before .before .before .before .before .before .before .before .before .before .before in
+store-colours-requires : tie.Need-store-colours-requires
+store-colours-requires c κs =
+    let at-if1 = c .before .before .before .before .before .before .before .before .before .before .before .before .before in
     let at-asked = at-if1 .before in
     let at-start = at-asked .before .before .before .before .before in
-    room (at-start .args .state .now) (at-start .args .area) (at-asked .asked .ensures) (at-if1 .if1 .left)
+    colours-room (at-start .args .state .now) (at-start .args .area) (at-asked .asked .ensures) (at-if1 .if1 .left)
+
+left-requires : tie.Need-left-requires
+left-requires c κs =
+    let at-store-colours = c .before .before .before in
+    let at-if1 = at-store-colours .before .before .before .before .before .before .before .before .before .before .before .before .before .before in
+    let at-asked = at-if1 .before in
+    let at-start = at-asked .before .before .before .before .before in
+    points-room (at-start .args .state .now) (at-start .args .area) (at-asked .asked .ensures) (at-if1 .if1 .left) (at-store-colours .store-colours .last .0)
+    (at-store-colours .store-colours .kept .0)
 
 same-length-2 : tie.Need-same-length-2
 same-length-2 c = search needs
@@ -82,23 +83,22 @@ same-length-3 c = search needs
 returns-2 : tie.Need-returns-2
 returns-2 c =
     let at-left = c .before .before in
-    let at-row-points-due = at-left .before .before .before .before .before .before in
-    let at-status-in = at-row-points-due .before .before .before .before in
-    let at-colours-of = at-status-in .before in
+    let at-store-colours = at-left .before .before .before .before in
+    let at-draw = at-store-colours .before .before .before .before .before in
+    let at-colours-of = at-draw .before .before .before .before in
     let at-row-due = at-colours-of .before in
     let at-raster-in = at-row-due .before in
     let at-registers = at-raster-in .before in
     let at-screen-from = at-registers .before in
-    let at-if1 = at-screen-from .before .before in
+    let at-if1 = at-screen-from .before in
     let at-asked = at-if1 .before in
     let at-slice-known = at-asked .before .before .before .before in
     let at-start = at-slice-known .before in
     row-kept (at-start .args .state .now) (at-start .args .vram .now) (at-start .args .row .now) (at-start .args .area) (at-asked .asked .ensures)
-    (at-if1 .if1 .left)
-    (λ i. omega (arith, at-slice-known .slice-known .given i)) (at-screen-from .screen-from .ensures) (at-registers .registers .ensures)
-    (at-raster-in .raster-in .ensures) (status-is (at-start .args .state .now) (at-status-in .status-in .ensures))
-    (at-colours-of .colours-of .ensures) (at-row-points-due .row-points-due .ensures .0) (at-left .left .ensures .0) (at-left .left .ensures .1)
-    (at-row-due .row-due .ensures) (at-row-points-due .row-points-due .ensures .1 .0)
+    (at-if1 .if1 .left) (λ i. omega (arith, at-slice-known .slice-known .given i)) (at-row-due .row-due .result) (at-screen-from .screen-from .ensures)
+    (at-registers .registers .ensures) (at-raster-in .raster-in .ensures) (at-colours-of .colours-of .ensures) (at-draw .draw .ensures .0)
+    (at-store-colours .store-colours .ensures) (at-left .left .ensures .0) (at-left .left .ensures .1) (at-row-due .row-due .ensures)
+    (at-draw .draw .ensures .1 .0)
 
 pub vdp-row-step-spec : {M : Type 1} → statement M
 vdp-row-step-spec =
@@ -112,9 +112,9 @@ vdp-row-step-spec =
     raster-in-requires
     row-due-requires
     colours-of-requires
-    status-in-requires
-    slice-aggregate-row-points-due
-    row-points-due-requires
+    slice-aggregate-draw
+    draw-requires
+    store-colours-requires
     left-requires
     same-length-2
     same-length-3

@@ -1,10 +1,10 @@
 -- `face::home_calls::vdp_home_row_step` meets its contract: a step, whose row goes to the first bytes of the row buffer.
 use borrow.Author.Needs.{needs}
 use lib.ListN.{length}
-use Rattle.picture.specs.declared.Screen.the-variants.{Home}
 use native.Mathlib.Omega.{arith}
+use Rattle.picture.specs.declared.Screen.the-variants.{Home}
 use Rattle.points_run.proofs.Steps.{row-due-fits}
-use Rattle.face.proofs.HomeLaws.{room, status-room, status-is, row-refused, row-kept}
+use Rattle.face.proofs.HomeLaws.{room, colours-room, points-room, row-refused, row-kept}
 use Rattle.face.proofs.home_calls.vdp_home_row_step.Statement.{statement}
 use Rattle.face.proofs.home_calls.vdp_home_row_step.Tie as tie
 
@@ -21,52 +21,52 @@ returns c =
 
 registers-requires : tie.Need-registers-requires
 registers-requires c κs =
-    let at-asked = c .before .before in
-    let at-start = at-asked .before .before .before .before .before in
-    room (at-start .args .state .now) (at-asked .asked .ensures) (c .before .if1 .left)
+    let at-start = c .before .before .before .before .before .before in
+    room (at-start .args .state .now) (c .before .asked .ensures) (c .if1 .left)
 
 raster-in-requires : tie.Need-raster-in-requires
 raster-in-requires c κs =
-    let at-if1 = c .before .before in
-    let at-asked = at-if1 .before in
+    let at-asked = c .before .before in
     let at-start = at-asked .before .before .before .before .before in
-    room (at-start .args .state .now) (at-asked .asked .ensures) (at-if1 .if1 .left)
+    room (at-start .args .state .now) (at-asked .asked .ensures) (c .before .if1 .left)
 
 row-due-requires : tie.Need-row-due-requires
 row-due-requires c κs = search needs
 
 colours-of-requires : tie.Need-colours-of-requires
 colours-of-requires c κs =
-    let at-if1 = c .before .before .before .before in
+    let at-if1 = c .before .before .before in
     let at-asked = at-if1 .before in
     let at-start = at-asked .before .before .before .before .before in
     room (at-start .args .state .now) (at-asked .asked .ensures) (at-if1 .if1 .left)
 
-status-in-requires : tie.Need-status-in-requires
-status-in-requires c κs =
-    let at-if1 = c .before .before .before .before .before in
-    let at-asked = at-if1 .before in
-    let at-start = at-asked .before .before .before .before .before in
-    status-room (at-start .args .state .now) (at-asked .asked .ensures) (at-if1 .if1 .left)
+slice-aggregate-draw : tie.Need-slice-aggregate-draw
+slice-aggregate-draw c = search needs
 
-slice-aggregate-row-points-due : tie.Need-slice-aggregate-row-points-due
-slice-aggregate-row-points-due c = search needs
-
-row-points-due-requires : tie.Need-row-points-due-requires
-row-points-due-requires c κs =
-    let at-row-due = c .before .before .before .before .before in
+draw-requires : tie.Need-draw-requires
+draw-requires c κs =
+    let at-row-due = c .before .before .before .before in
     let at-raster-in = at-row-due .before in
     let at-registers = at-raster-in .before in
-    let at-start = at-registers .before .before .before .before .before .before .before .before in
+    let at-start = at-registers .before .before .before .before .before .before .before in
     row-due-fits Home (at-registers .registers .result) (at-raster-in .raster-in .result) (at-start .args .vram .now) (length (at-start .args .row .now))
     (at-row-due .row-due .ensures)
 
-left-requires : tie.Need-left-requires
-left-requires c κs =
-    let at-if1 = c .before .before .before .before .before .before .before .before .before .before .before .before .before .before .before in
+store-colours-requires : tie.Need-store-colours-requires
+store-colours-requires c κs =
+    let at-if1 = c .before .before .before .before .before .before .before .before .before .before .before .before in
     let at-asked = at-if1 .before in
     let at-start = at-asked .before .before .before .before .before in
-    room (at-start .args .state .now) (at-asked .asked .ensures) (at-if1 .if1 .left)
+    colours-room (at-start .args .state .now) (at-asked .asked .ensures) (at-if1 .if1 .left)
+
+left-requires : tie.Need-left-requires
+left-requires c κs =
+    let at-store-colours = c .before .before .before in
+    let at-if1 = at-store-colours .before .before .before .before .before .before .before .before .before .before .before .before .before in
+    let at-asked = at-if1 .before in
+    let at-start = at-asked .before .before .before .before .before in
+    points-room (at-start .args .state .now) (at-asked .asked .ensures) (at-if1 .if1 .left) (at-store-colours .store-colours .last .0)
+    (at-store-colours .store-colours .kept .0)
 
 same-length-2 : tie.Need-same-length-2
 same-length-2 c = search needs
@@ -77,21 +77,20 @@ same-length-3 c = search needs
 returns-2 : tie.Need-returns-2
 returns-2 c =
     let at-left = c .before .before in
-    let at-row-points-due = at-left .before .before .before .before .before .before in
-    let at-status-in = at-row-points-due .before .before .before .before in
-    let at-colours-of = at-status-in .before in
+    let at-store-colours = at-left .before .before .before .before in
+    let at-draw = at-store-colours .before .before .before .before .before in
+    let at-colours-of = at-draw .before .before .before .before in
     let at-row-due = at-colours-of .before in
     let at-raster-in = at-row-due .before in
     let at-registers = at-raster-in .before in
-    let at-if1 = at-registers .before .before in
+    let at-if1 = at-registers .before in
     let at-asked = at-if1 .before in
     let at-slice-known = at-asked .before .before .before .before in
     let at-start = at-slice-known .before in
     row-kept (at-start .args .state .now) (at-start .args .vram .now) (at-start .args .row .now) (at-asked .asked .ensures) (at-if1 .if1 .left)
-    (λ i. omega (arith, at-slice-known .slice-known .given i)) (at-registers .registers .ensures) (at-raster-in .raster-in .ensures)
-    (status-is (at-start .args .state .now) (at-status-in .status-in .ensures))
-    (at-colours-of .colours-of .ensures) (at-row-points-due .row-points-due .ensures .0) (at-left .left .ensures .0) (at-left .left .ensures .1)
-    (at-row-due .row-due .ensures) (at-row-points-due .row-points-due .ensures .1 .0)
+    (λ i. omega (arith, at-slice-known .slice-known .given i)) (at-row-due .row-due .result) (at-registers .registers .ensures)
+    (at-raster-in .raster-in .ensures) (at-colours-of .colours-of .ensures) (at-draw .draw .ensures .0) (at-store-colours .store-colours .ensures)
+    (at-left .left .ensures .0) (at-left .left .ensures .1) (at-row-due .row-due .ensures) (at-draw .draw .ensures .1 .0)
 
 pub vdp-home-row-step-spec : {M : Type 1} → statement M
 vdp-home-row-step-spec =
@@ -104,9 +103,9 @@ vdp-home-row-step-spec =
     raster-in-requires
     row-due-requires
     colours-of-requires
-    status-in-requires
-    slice-aggregate-row-points-due
-    row-points-due-requires
+    slice-aggregate-draw
+    draw-requires
+    store-colours-requires
     left-requires
     same-length-2
     same-length-3

@@ -1,10 +1,10 @@
 -- `face::home_calls::vdp_home_step` meets its contract: a step, whose row goes to its place in the frame.
 use borrow.Author.Needs.{needs}
 use lib.ListN.{length}
-use Rattle.picture.specs.declared.Screen.the-variants.{Home}
 use native.Mathlib.Omega.{arith}
+use Rattle.picture.specs.declared.Screen.the-variants.{Home}
 use Rattle.points_run.proofs.Steps.{frame-due-fits}
-use Rattle.face.proofs.HomeLaws.{room, status-room, status-is, step-refused, step-kept}
+use Rattle.face.proofs.HomeLaws.{room, colours-room, points-room, step-refused, step-kept}
 use Rattle.face.proofs.home_calls.vdp_home_step.Statement.{statement}
 use Rattle.face.proofs.home_calls.vdp_home_step.Tie as tie
 
@@ -21,52 +21,52 @@ returns c =
 
 registers-requires : tie.Need-registers-requires
 registers-requires c κs =
-    let at-asked = c .before .before in
-    let at-start = at-asked .before .before .before .before .before in
-    room (at-start .args .state .now) (at-asked .asked .ensures) (c .before .if1 .left)
+    let at-start = c .before .before .before .before .before .before in
+    room (at-start .args .state .now) (c .before .asked .ensures) (c .if1 .left)
 
 raster-in-requires : tie.Need-raster-in-requires
 raster-in-requires c κs =
-    let at-if1 = c .before .before in
-    let at-asked = at-if1 .before in
+    let at-asked = c .before .before in
     let at-start = at-asked .before .before .before .before .before in
-    room (at-start .args .state .now) (at-asked .asked .ensures) (at-if1 .if1 .left)
+    room (at-start .args .state .now) (at-asked .asked .ensures) (c .before .if1 .left)
 
 frame-due-requires : tie.Need-frame-due-requires
 frame-due-requires c κs = search needs
 
 colours-of-requires : tie.Need-colours-of-requires
 colours-of-requires c κs =
-    let at-if1 = c .before .before .before .before in
+    let at-if1 = c .before .before .before in
     let at-asked = at-if1 .before in
     let at-start = at-asked .before .before .before .before .before in
     room (at-start .args .state .now) (at-asked .asked .ensures) (at-if1 .if1 .left)
 
-status-in-requires : tie.Need-status-in-requires
-status-in-requires c κs =
-    let at-if1 = c .before .before .before .before .before in
-    let at-asked = at-if1 .before in
-    let at-start = at-asked .before .before .before .before .before in
-    status-room (at-start .args .state .now) (at-asked .asked .ensures) (at-if1 .if1 .left)
+slice-aggregate-draw-in : tie.Need-slice-aggregate-draw-in
+slice-aggregate-draw-in c = search needs
 
-slice-aggregate-frame-points-due : tie.Need-slice-aggregate-frame-points-due
-slice-aggregate-frame-points-due c = search needs
-
-frame-points-due-requires : tie.Need-frame-points-due-requires
-frame-points-due-requires c κs =
-    let at-frame-due = c .before .before .before .before .before in
+draw-in-requires : tie.Need-draw-in-requires
+draw-in-requires c κs =
+    let at-frame-due = c .before .before .before .before in
     let at-raster-in = at-frame-due .before in
     let at-registers = at-raster-in .before in
-    let at-start = at-registers .before .before .before .before .before .before .before .before in
+    let at-start = at-registers .before .before .before .before .before .before .before in
     frame-due-fits Home (at-registers .registers .result) (at-raster-in .raster-in .result) (at-start .args .vram .now) (length (at-start .args .frame .now))
     (at-frame-due .frame-due .ensures)
 
-left-requires : tie.Need-left-requires
-left-requires c κs =
-    let at-if1 = c .before .before .before .before .before .before .before .before .before .before .before .before .before .before .before in
+store-colours-requires : tie.Need-store-colours-requires
+store-colours-requires c κs =
+    let at-if1 = c .before .before .before .before .before .before .before .before .before .before .before .before in
     let at-asked = at-if1 .before in
     let at-start = at-asked .before .before .before .before .before in
-    room (at-start .args .state .now) (at-asked .asked .ensures) (at-if1 .if1 .left)
+    colours-room (at-start .args .state .now) (at-asked .asked .ensures) (at-if1 .if1 .left)
+
+left-requires : tie.Need-left-requires
+left-requires c κs =
+    let at-store-colours = c .before .before .before in
+    let at-if1 = at-store-colours .before .before .before .before .before .before .before .before .before .before .before .before .before in
+    let at-asked = at-if1 .before in
+    let at-start = at-asked .before .before .before .before .before in
+    points-room (at-start .args .state .now) (at-asked .asked .ensures) (at-if1 .if1 .left) (at-store-colours .store-colours .last .0)
+    (at-store-colours .store-colours .kept .0)
 
 same-length-2 : tie.Need-same-length-2
 same-length-2 c = search needs
@@ -77,21 +77,20 @@ same-length-3 c = search needs
 returns-2 : tie.Need-returns-2
 returns-2 c =
     let at-left = c .before .before in
-    let at-frame-points-due = at-left .before .before .before .before .before .before in
-    let at-status-in = at-frame-points-due .before .before .before .before in
-    let at-colours-of = at-status-in .before in
+    let at-store-colours = at-left .before .before .before .before in
+    let at-draw-in = at-store-colours .before .before .before .before .before in
+    let at-colours-of = at-draw-in .before .before .before .before in
     let at-frame-due = at-colours-of .before in
     let at-raster-in = at-frame-due .before in
     let at-registers = at-raster-in .before in
-    let at-if1 = at-registers .before .before in
+    let at-if1 = at-registers .before in
     let at-asked = at-if1 .before in
     let at-slice-known = at-asked .before .before .before .before in
     let at-start = at-slice-known .before in
     step-kept (at-start .args .state .now) (at-start .args .vram .now) (at-start .args .frame .now) (at-asked .asked .ensures) (at-if1 .if1 .left)
-    (λ i. omega (arith, at-slice-known .slice-known .given i)) (at-registers .registers .ensures) (at-raster-in .raster-in .ensures)
-    (status-is (at-start .args .state .now) (at-status-in .status-in .ensures))
-    (at-colours-of .colours-of .ensures) (at-frame-points-due .frame-points-due .ensures .0) (at-left .left .ensures .0) (at-left .left .ensures .1)
-    (at-frame-due .frame-due .ensures) (at-frame-points-due .frame-points-due .ensures .1 .0)
+    (λ i. omega (arith, at-slice-known .slice-known .given i)) (at-frame-due .frame-due .result) (at-registers .registers .ensures)
+    (at-raster-in .raster-in .ensures) (at-colours-of .colours-of .ensures) (at-draw-in .draw-in .ensures .0) (at-store-colours .store-colours .ensures)
+    (at-left .left .ensures .0) (at-left .left .ensures .1) (at-frame-due .frame-due .ensures) (at-draw-in .draw-in .ensures .1 .0)
 
 pub vdp-home-step-spec : {M : Type 1} → statement M
 vdp-home-step-spec =
@@ -104,9 +103,9 @@ vdp-home-step-spec =
     raster-in-requires
     frame-due-requires
     colours-of-requires
-    status-in-requires
-    slice-aggregate-frame-points-due
-    frame-points-due-requires
+    slice-aggregate-draw-in
+    draw-in-requires
+    store-colours-requires
     left-requires
     same-length-2
     same-length-3
