@@ -3,7 +3,6 @@ ghost use mathlib.Core.Path.{_≡_};
 ghost use Prim.Native.Nat.{_≤_, _<_};
 ghost use Rattle.laws.specs.Lists.{at};
 ghost use lib.ListN.{length};
-ghost use Rattle.block_parts.specs.Parts.{rasterStored, cacheStored};
 ghost use Rattle.block.specs.Block.{oldSize, markOf, fits, freshIn, stateOf, wellFormed};
 use fields::MARK;
 use fields::MARK_FIRST;
@@ -136,20 +135,4 @@ pub fn cached_colour(block: &[u8], n: usize) -> u32
     ensures { λ r. ⌜ r ≡ at (stateOf (now (block .entry)) .«color_cache») n ⌝ }
 {
     block_parts::colour_at(block, CACHE + 4 * n)
-}
-
-// A status and a raster into a block.
-pub fn store_raster(block: &mut [u8], status: u8, raster: Raster)
-    requires { ⌜ oldSize ≤ length (now block) ⌝ }
-    ensures { λ _. ⌜ now (block .exit) ≡ rasterStored 25 status raster (now (block .entry)) ⌝ }
-{
-    block_parts::store_raster(block, VERTICAL_SCROLL, status, raster);
-}
-
-// Colours into a block, which are not dirty then.
-pub fn store_cache(block: &mut [u8], colours: &[u32; 32])
-    requires { ⌜ oldSize ≤ length (now block) ⌝ }
-    ensures { λ _. ⌜ now (block .exit) ≡ cacheStored 91 26 (now (colours .entry)) (now (block .entry)) ⌝ }
-{
-    block_parts::store_cache(block, CACHE, DIRTY, colours);
 }

@@ -112,8 +112,6 @@ use Rattle.tile_codes.proofs.write_tile
 use Rattle.tile_codes.proofs.read_tile
 use Rattle.tile_codes.proofs.sheet
 use Rattle.fields.proofs.flag_of
-use Rattle.fields.proofs.chosen_of
-use Rattle.fields.proofs.chosen_from
 use Rattle.fields.proofs.latch_in
 use Rattle.fields.proofs.address_in
 use Rattle.fields.proofs.store_latch
@@ -132,8 +130,6 @@ use Rattle.block.proofs.raster_in
 use Rattle.block.proofs.palette_in
 use Rattle.block.proofs.cache_in
 use Rattle.block.proofs.cached_colour
-use Rattle.block.proofs.store_raster
-use Rattle.block.proofs.store_cache
 use Rattle.block_repair.proofs.repair
 use Rattle.program.proofs.same
 use Rattle.trace_record.proofs.record_at
@@ -622,21 +618,9 @@ cache-in-once κs a q z z′ w w′ e f = (e ∙ sym f, refl)
 pub cached-colour-once : OneOutcome 1 cached_colour.Kinds.ps cached_colour.Kinds.r cached_colour.Reads.Asked cached_colour.Reads.Learnt
 cached-colour-once κs a q z z′ w w′ e f = (e ∙ sym f, refl)
 
-pub store-raster-once : OneOutcome 1 store_raster.Kinds.ps store_raster.Kinds.r store_raster.Reads.Asked store_raster.Reads.Learnt
-store-raster-once κs a q z z′ w w′ e f = (refl, λ i. ((e ∙ sym f) i, w .1))
-
-pub store-cache-once : OneOutcome 2 store_cache.Kinds.ps store_cache.Kinds.r store_cache.Reads.Asked store_cache.Reads.Learnt
-store-cache-once κs a q z z′ w w′ e f = (refl, λ i. ((e ∙ sym f) i, w .1))
-
 -- ---- the fields of a block, and the ports in place
 pub flag-of-once : OneOutcome 0 flag_of.Kinds.ps flag_of.Kinds.r flag_of.Reads.Asked flag_of.Reads.Learnt
 flag-of-once κs a q z z′ w w′ e f = (e ∙ sym f, refl)
-
-pub chosen-of-once : OneOutcome 0 chosen_of.Kinds.ps chosen_of.Kinds.r chosen_of.Reads.Asked chosen_of.Reads.Learnt
-chosen-of-once κs a q z z′ w w′ e f = (e ∙ sym f, refl)
-
-pub chosen-from-once : OneOutcome 0 chosen_from.Kinds.ps chosen_from.Kinds.r chosen_from.Reads.Asked chosen_from.Reads.Learnt
-chosen-from-once κs a q z z′ w w′ e f = (e ∙ sym f, refl)
 
 pub latch-in-once : OneOutcome 1 latch_in.Kinds.ps latch_in.Kinds.r latch_in.Reads.Asked latch_in.Reads.Learnt
 latch-in-once κs a q z z′ w w′ e f = (e ∙ sym f, refl)

@@ -18,8 +18,6 @@ use Rattle.home_block.proofs.raster_in as home-raster-in
 use Rattle.home_block.proofs.palette_in as home-palette-in
 use Rattle.home_block.proofs.cache_in as home-cache-in
 use Rattle.home_block.proofs.cached_colour as home-cached-colour
-use Rattle.home_block.proofs.store_raster as home-store-raster
-use Rattle.home_block.proofs.store_cache as home-store-cache
 use Rattle.home_block.proofs.out as home-block-out
 use Rattle.home_block.proofs.input as home-block-input
 use Rattle.face.proofs.home_calls.vdp_home_new_table as vdp-home-new-table
@@ -83,12 +81,6 @@ home-cache-in-once κs a q z z′ w w′ e f = (e ∙ sym f, refl)
 
 pub home-cached-colour-once : OneOutcome 1 home-cached-colour.Kinds.ps home-cached-colour.Kinds.r home-cached-colour.Reads.Asked home-cached-colour.Reads.Learnt
 home-cached-colour-once κs a q z z′ w w′ e f = (e ∙ sym f, refl)
-
-pub home-store-raster-once : OneOutcome 1 home-store-raster.Kinds.ps home-store-raster.Kinds.r home-store-raster.Reads.Asked home-store-raster.Reads.Learnt
-home-store-raster-once κs a q z z′ w w′ e f = (refl, λ i. ((e ∙ sym f) i, w .1))
-
-pub home-store-cache-once : OneOutcome 2 home-store-cache.Kinds.ps home-store-cache.Kinds.r home-store-cache.Reads.Asked home-store-cache.Reads.Learnt
-home-store-cache-once κs a q z z′ w w′ e f = (refl, λ i. ((e ∙ sym f) i, w .1))
 
 pub home-block-out-once : OneOutcome 2 home-block-out.Kinds.ps home-block-out.Kinds.r home-block-out.Reads.Asked home-block-out.Reads.Learnt
 home-block-out-once κs a q z z′ w w′ e f =

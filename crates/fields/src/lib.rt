@@ -4,10 +4,9 @@ ghost use mathlib.Core.Path.{_≡_};
 ghost use Prim.Native.Nat.{_+_, _≤_, _<_};
 ghost use lib.ListN.{length, set};
 ghost use Rattle.laws.specs.Lists.{at};
-ghost use Rattle.fields.specs.Fields.{flagOf, chosenOf, chosenFrom, latchFrom};
+ghost use Rattle.fields.specs.Fields.{flagOf, latchFrom};
 ghost use Rattle.fields.specs.Stored.{frontEnd, addressIn, latchStored, addressStored, colourStored};
 use front::Latch;
-use front::WriteDest;
 
 // The places that are the same in either machine's block, by the names that include/vdp.h has for them; of two bytes the second has one of its own.
 pub const MARK: usize = 0;
@@ -45,26 +44,6 @@ pub fn flag_of(b: bool) -> u8
     ensures { λ r. ⌜ r ≡ flagOf b ⌝ }
 {
     if b { 1 } else { 0 }
-}
-
-pub fn chosen_of(d: WriteDest) -> u8
-    ensures { λ r. ⌜ r ≡ chosenOf d ⌝ }
-{
-    match d {
-        WriteDest::None => 0,
-        WriteDest::Vram => 1,
-        WriteDest::Cram => 2,
-    }
-}
-
-pub fn chosen_from(n: u8) -> WriteDest
-    ensures { λ r. ⌜ r ≡ chosenFrom n ⌝ }
-{
-    match n {
-        0 => WriteDest::None,
-        1 => WriteDest::Vram,
-        _ => WriteDest::Cram,
-    }
 }
 
 // ---- what stands in a block, read

@@ -6,7 +6,6 @@ ghost use Prim.Native.Nat.{_≤_, _<_};
 ghost use lib.ListN.{length};
 ghost use Rattle.laws.specs.Lists.{at};
 ghost use Rattle.fields.specs.Stored.{addressIn};
-ghost use Rattle.block_parts.specs.Parts.{rasterStored, cacheStored};
 ghost use Rattle.home.specs.declared.HomeState.{HomeState};
 ghost use Rattle.home.specs.Home.{paletteSize, made};
 ghost use Rattle.home.specs.Ports.{paletteWrite};
@@ -98,22 +97,6 @@ pub fn cached_colour(block: &[u8], n: usize) -> u32
     ensures { λ r. ⌜ r ≡ at (stateOf (now (block .entry)) .«color_cache») n ⌝ }
 {
     block_parts::colour_at(block, CACHE + 4 * n)
-}
-
-// A status and a raster into a block.
-pub fn store_raster(block: &mut [u8], status: u8, raster: Raster)
-    requires { ⌜ length (now block) ≡ blockSize ⌝ }
-    ensures { λ _. ⌜ now (block .exit) ≡ rasterStored 23 status raster (now (block .entry)) ⌝ }
-{
-    block_parts::store_raster(block, VERTICAL_SCROLL, status, raster);
-}
-
-// Colours into a block, which are not dirty then.
-pub fn store_cache(block: &mut [u8], colours: &[u32; 32])
-    requires { ⌜ length (now block) ≡ blockSize ⌝ }
-    ensures { λ _. ⌜ now (block .exit) ≡ cacheStored 58 24 (now (colours .entry)) (now (block .entry)) ⌝ }
-{
-    block_parts::store_cache(block, CACHE, DIRTY, colours);
 }
 
 // ---- the ports
