@@ -58,7 +58,7 @@ damage "one pixel on its own: the fill is nine columns wide" pixel::home_number 
 damage "a ninth column has layer 2" row::cover 's/(icmp ult i64 %r[0-9]+), 8$/\1, 9/'
 damage "a filled column has layer 3 and not 2" row::cover 's/store i8 2,/store i8 3,/'
 damage "the fill's colour is register 7 mod 8" row::fill_over 's/(urem i64 %r[0-9]+), 16$/\1, 8/'
-damage "a home row sets no status" row::render_line_home 's/store i8 %r[0-9]+, ptr %r0,/store i8 0, ptr %r0,/'
+damage "a row sets no status" row::render_line 's/store i8 %r[0-9]+, ptr %r0,/store i8 0, ptr %r0,/'
 damage "palette addresses go on to 63" home_block::write_palette 's/(urem i16 %r[0-9]+), 32$/\1, 64/'
 damage "dirty and table bytes of 2 are taken" home_block::well_formed 's/(icmp ule i8 %r[0-9]+), 1$/\1, 2/' 2
 

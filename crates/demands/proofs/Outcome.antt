@@ -82,8 +82,6 @@ use Rattle.points.proofs.layer_due
 use Rattle.points.proofs.finish
 use Rattle.points_run.proofs.draw
 use Rattle.points_run.proofs.draw_in
-use Rattle.points_run.proofs.row_points_due
-use Rattle.points_run.proofs.frame_points_due
 use Rattle.points_run.proofs.row_points
 use Rattle.points_run.proofs.frame_points
 use Rattle.points_run.proofs.layer_row_points
@@ -474,19 +472,6 @@ pub draw-in-once : OneOutcome 4 draw_in.Kinds.ps draw_in.Kinds.r draw_in.Reads.A
 draw-in-once κs a q z z′ w w′ e f = (
   e .0 ∙ sym (f .0),
   λ i. (tt, (tt, (tt, (tt, ((e .1 .0 ∙ sym (f .1 .0)) i, ((e .1 .1 ∙ sym (f .1 .1)) i, w .1 .1 .1 .1 .1 .1)))))),
-)
-
-pub row-points-due-once : OneOutcome 4 row_points_due.Kinds.ps row_points_due.Kinds.r row_points_due.Reads.Asked row_points_due.Reads.Learnt
-row-points-due-once κs a q z z′ w w′ e f = (
-  e .0 ∙ sym (f .0),
-  λ i. (tt, (tt, (tt, (tt, (tt, ((e .1 .0 ∙ sym (f .1 .0)) i, ((e .1 .1 ∙ sym (f .1 .1)) i, w .1 .1 .1 .1 .1 .1 .1))))))),
-)
-
-pub frame-points-due-once : OneOutcome 4 frame_points_due.Kinds.ps frame_points_due.Kinds.r frame_points_due.Reads.Asked
-    frame_points_due.Reads.Learnt
-frame-points-due-once κs a q z z′ w w′ e f = (
-  e .0 ∙ sym (f .0),
-  λ i. (tt, (tt, (tt, (tt, (tt, ((e .1 .0 ∙ sym (f .1 .0)) i, ((e .1 .1 ∙ sym (f .1 .1)) i, w .1 .1 .1 .1 .1 .1 .1))))))),
 )
 
 pub row-points-once : OneOutcome 3 row_points.Kinds.ps row_points.Kinds.r row_points.Reads.Asked row_points.Reads.Learnt

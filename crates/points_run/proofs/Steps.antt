@@ -108,6 +108,11 @@ module _ (ls : List Line) (s : Screen) (vram : List ℕ) (k : Reading) {d : Due}
   answered e = e ∙ rw ed
       (due-map s (k .reg) (k .raster) (λ (x : Due). pointsBy (k .reg) (k .status) (bitsOf (x .row) (duePicture s vram (k .reg) x)) x) ls)
 
+  -- the same by the status bits that the drawing answers
+  pub finished : {p : Points} {bits : ℕ} → p ≡ pointsBy (k .reg) (k .status) bits d → bits ≡ bitsOf (d .row) (duePicture s vram (k .reg) d)
+      → p ≡ pointsWith ls s vram k
+  finished e b = answered (e ∙ ap (λ (x : ℕ). pointsBy (k .reg) (k .status) x d) b)
+
   pub owned : (layers : List ℕ) {layers′ : List ℕ} → layers′ ≡ layersBy (d .row) s (dueLayers s vram (k .reg) d) layers
       → layers′ ≡ under ls (λ r. layers) (layersBy (takenDue s (k .reg) (k .raster) .row) s
       (dueLayers s vram (k .reg) (takenDue s (k .reg) (k .raster))) layers)

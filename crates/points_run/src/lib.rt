@@ -4,7 +4,7 @@ ghost use lib.ListN.{length};
 ghost use Rattle.picture.specs.Screen.{rowSize, frameSize};
 ghost use Rattle.points.specs.Points.{reading, bitsOf};
 ghost use Rattle.points.specs.Bytes.{rowWith, frameWith, layersBy, RowPointsLeave, FramePointsLeave, RowLayerPointsLeave, FrameLayerPointsLeave};
-ghost use Rattle.points.specs.Due.{Fits, duePicture, dueLayers, pointsBy};
+ghost use Rattle.points.specs.Due.{Fits, duePicture, dueLayers};
 use picture::Screen;
 use points::DrawnRow;
 use points::Due;
@@ -77,48 +77,6 @@ pub fn draw_in(
     )
 }
 
-// The points of a step that is due, of a machine with these registers, this status and these colours, which are read only where a row is drawn. The row
-// goes to the first bytes of the row buffer, and its layers to the first bytes of `layers`; a layer buffer with fewer bytes than the row has columns asks
-// for none.
-pub fn row_points_due(
-    due: Due,
-    reg: [u8; 11],
-    status: u8,
-    colours: &[u32; 32],
-    vram: &[u8],
-    row: &mut [u8],
-    layers: &mut [u8],
-    screen: Screen,
-) -> Points
-    requires { ⌜ Fits screen (now vram) (rowSize screen) (length (now row)) (due .row) ⌝ }
-    ensures { λ r. ⌜ r ≡ pointsBy reg status (bitsOf (due .row) (duePicture screen (now (vram .entry)) reg due)) due ⌝ }
-    ensures { λ r. ⌜ now (row .exit) ≡ rowWith (due .row) screen (now (colours .entry)) (duePicture screen (now (vram .entry)) reg due) (now (row .entry)) ⌝ }
-    ensures { λ r. ⌜ now (layers .exit) ≡ layersBy (due .row) screen (dueLayers screen (now (vram .entry)) reg due) (now (layers .entry)) ⌝ }
-{
-    let bits = draw(due, reg, colours, vram, row, layers, screen);
-    points::finish(due, reg, status, bits)
-}
-
-// The same on a frame.
-pub fn frame_points_due(
-    due: Due,
-    reg: [u8; 11],
-    status: u8,
-    colours: &[u32; 32],
-    vram: &[u8],
-    frame: &mut [u8],
-    layers: &mut [u8],
-    screen: Screen,
-) -> Points
-    requires { ⌜ Fits screen (now vram) (frameSize screen) (length (now frame)) (due .row) ⌝ }
-    ensures { λ r. ⌜ r ≡ pointsBy reg status (bitsOf (due .row) (duePicture screen (now (vram .entry)) reg due)) due ⌝ }
-    ensures { λ r. ⌜ now (frame .exit) ≡ frameWith (due .row) screen (now (colours .entry)) (duePicture screen (now (vram .entry)) reg due) (now (frame .entry)) ⌝ }
-    ensures { λ r. ⌜ now (layers .exit) ≡ layersBy (due .row) screen (dueLayers screen (now (vram .entry)) reg due) (now (layers .entry)) ⌝ }
-{
-    let bits = draw_in(due, reg, colours, vram, frame, layers, screen);
-    points::finish(due, reg, status, bits)
-}
-
 // Points 1 to 5 of a step of a machine with these registers, raster, status and colours: its row goes to the row buffer.
 pub fn row_points(
     reg: [u8; 11],
@@ -133,7 +91,8 @@ pub fn row_points(
 {
     let due = points::row_due(reg, raster, vram, row.len(), screen);
     let mut none = [0u8; 0];
-    row_points_due(due, reg, status, colours, vram, row, &mut none, screen)
+    let bits = draw(due, reg, colours, vram, row, &mut none, screen);
+    points::finish(due, reg, status, bits)
 }
 
 // The same, with the row's layers.
@@ -151,7 +110,8 @@ pub fn layer_row_points(
 {
     let plain = points::row_due(reg, raster, vram, row.len(), screen);
     let due = points::layer_due(plain, raster, layers.len(), screen);
-    row_points_due(due, reg, status, colours, vram, row, layers, screen)
+    let bits = draw(due, reg, colours, vram, row, layers, screen);
+    points::finish(due, reg, status, bits)
 }
 
 // The points on a frame.
@@ -168,7 +128,8 @@ pub fn frame_points(
 {
     let due = points::frame_due(reg, raster, vram, frame.len(), screen);
     let mut none = [0u8; 0];
-    frame_points_due(due, reg, status, colours, vram, frame, &mut none, screen)
+    let bits = draw_in(due, reg, colours, vram, frame, &mut none, screen);
+    points::finish(due, reg, status, bits)
 }
 
 // The same, with the row's layers.
@@ -186,5 +147,6 @@ pub fn layer_frame_points(
 {
     let plain = points::frame_due(reg, raster, vram, frame.len(), screen);
     let due = points::layer_due(plain, raster, layers.len(), screen);
-    frame_points_due(due, reg, status, colours, vram, frame, layers, screen)
+    let bits = draw_in(due, reg, colours, vram, frame, layers, screen);
+    points::finish(due, reg, status, bits)
 }

@@ -5,7 +5,7 @@ use lib.ListN.{length}
 use Rattle.points.specs.Points.{reading, frameLines}
 use Rattle.picture.specs.Screen.{columns}
 use Rattle.points.specs.Bytes.{alsoLayers}
-use Rattle.points_run.proofs.Steps.{answered, owned, frame-filled, frame-layers-fit}
+use Rattle.points_run.proofs.Steps.{finished, owned, frame-filled, frame-layers-fit}
 use Rattle.points_run.proofs.layer_frame_points.Statement.{statement}
 use Rattle.points_run.proofs.layer_frame_points.Tie as tie
 
@@ -15,8 +15,8 @@ frame-due-requires c κs = search needs
 layer-due-requires : tie.Need-layer-due-requires
 layer-due-requires c κs = search needs
 
-frame-points-due-requires : tie.Need-frame-points-due-requires
-frame-points-due-requires c κs =
+draw-in-requires : tie.Need-draw-in-requires
+draw-in-requires c κs =
     let at-layer-due = c .before .before in
     let at-frame-due = at-layer-due .before in
     let at-start = at-frame-due .before .before .before .before in
@@ -24,6 +24,9 @@ frame-points-due-requires c κs =
     (columns (at-start .args .screen)) (length (at-start .args .layers .now))
     (at-layer-due .layer-due .ensures .1 (frameLines (at-start .args .screen) (at-start .args .vram .now) (length (at-start .args .frame .now)))
     (at-start .args .reg) (at-frame-due .frame-due .ensures))
+
+finish-requires : tie.Need-finish-requires
+finish-requires c κs = search needs
 
 same-length : tie.Need-same-length
 same-length c = search needs
@@ -33,8 +36,8 @@ same-length-2 c = search needs
 
 returns : tie.Need-returns
 returns c =
-    let at-frame-points-due = c .before .before .before .before in
-    let at-layer-due = at-frame-points-due .before .before .before in
+    let at-draw-in = c .before .before .before .before .before in
+    let at-layer-due = at-draw-in .before .before .before in
     let at-frame-due = at-layer-due .before in
     let at-start = at-frame-due .before .before .before .before in
     let e = at-layer-due .layer-due .ensures .1 (frameLines (at-start .args .screen) (at-start .args .vram .now) (length (at-start .args .frame .now)))
@@ -44,12 +47,12 @@ returns c =
     let k = (reading (at-start .args .reg) (at-start .args .raster) (at-start .args .status) (at-start .args .colours .now)) in
     record {
       points = record {
-        answer = answered also (at-start .args .screen) (at-start .args .vram .now) k e (at-frame-points-due .frame-points-due .ensures .0);
+        answer = finished also (at-start .args .screen) (at-start .args .vram .now) k e (c .finish .ensures) (at-draw-in .draw-in .ensures .0);
         bytes = frame-filled also (at-start .args .screen) (at-start .args .vram .now) k e (λ y z. refl) (at-start .args .frame .now)
-            (at-frame-points-due .frame-points-due .ensures .1 .0);
+            (at-draw-in .draw-in .ensures .1 .0);
       };
       owners = owned also (at-start .args .screen) (at-start .args .vram .now) k e (at-start .args .layers .now)
-          (at-frame-points-due .frame-points-due .ensures .1 .1);
+          (at-draw-in .draw-in .ensures .1 .1);
     }
 
 pub layer-frame-points-spec : {M : Type 1} → statement M
@@ -58,7 +61,8 @@ layer-frame-points-spec =
     (tie.spec
     frame-due-requires
     layer-due-requires
-    frame-points-due-requires
+    draw-in-requires
+    finish-requires
     same-length
     same-length-2
     returns)

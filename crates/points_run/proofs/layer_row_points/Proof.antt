@@ -5,7 +5,7 @@ use lib.ListN.{length}
 use Rattle.points.specs.Points.{reading, rowLines}
 use Rattle.picture.specs.Screen.{columns}
 use Rattle.points.specs.Bytes.{alsoLayers}
-use Rattle.points_run.proofs.Steps.{answered, owned, row-filled, row-layers-fit}
+use Rattle.points_run.proofs.Steps.{finished, owned, row-filled, row-layers-fit}
 use Rattle.points_run.proofs.layer_row_points.Statement.{statement}
 use Rattle.points_run.proofs.layer_row_points.Tie as tie
 
@@ -15,8 +15,8 @@ row-due-requires c κs = search needs
 layer-due-requires : tie.Need-layer-due-requires
 layer-due-requires c κs = search needs
 
-row-points-due-requires : tie.Need-row-points-due-requires
-row-points-due-requires c κs =
+draw-requires : tie.Need-draw-requires
+draw-requires c κs =
     let at-layer-due = c .before .before in
     let at-row-due = at-layer-due .before in
     let at-start = at-row-due .before .before .before .before in
@@ -24,6 +24,9 @@ row-points-due-requires c κs =
     (columns (at-start .args .screen)) (length (at-start .args .layers .now))
     (at-layer-due .layer-due .ensures .1 (rowLines (at-start .args .screen) (at-start .args .vram .now) (length (at-start .args .row .now)))
     (at-start .args .reg) (at-row-due .row-due .ensures))
+
+finish-requires : tie.Need-finish-requires
+finish-requires c κs = search needs
 
 same-length : tie.Need-same-length
 same-length c = search needs
@@ -33,8 +36,8 @@ same-length-2 c = search needs
 
 returns : tie.Need-returns
 returns c =
-    let at-row-points-due = c .before .before .before .before in
-    let at-layer-due = at-row-points-due .before .before .before in
+    let at-draw = c .before .before .before .before .before in
+    let at-layer-due = at-draw .before .before .before in
     let at-row-due = at-layer-due .before in
     let at-start = at-row-due .before .before .before .before in
     let e = at-layer-due .layer-due .ensures .1 (rowLines (at-start .args .screen) (at-start .args .vram .now) (length (at-start .args .row .now)))
@@ -44,12 +47,12 @@ returns c =
     let k = (reading (at-start .args .reg) (at-start .args .raster) (at-start .args .status) (at-start .args .colours .now)) in
     record {
       points = record {
-        answer = answered also (at-start .args .screen) (at-start .args .vram .now) k e (at-row-points-due .row-points-due .ensures .0);
+        answer = finished also (at-start .args .screen) (at-start .args .vram .now) k e (c .finish .ensures) (at-draw .draw .ensures .0);
         bytes = row-filled also (at-start .args .screen) (at-start .args .vram .now) k e (λ y z. refl) (at-start .args .row .now)
-            (at-row-points-due .row-points-due .ensures .1 .0);
+            (at-draw .draw .ensures .1 .0);
       };
       owners = owned also (at-start .args .screen) (at-start .args .vram .now) k e (at-start .args .layers .now)
-          (at-row-points-due .row-points-due .ensures .1 .1);
+          (at-draw .draw .ensures .1 .1);
     }
 
 pub layer-row-points-spec : {M : Type 1} → statement M
@@ -58,7 +61,8 @@ layer-row-points-spec =
     (tie.spec
     row-due-requires
     layer-due-requires
-    row-points-due-requires
+    draw-requires
+    finish-requires
     same-length
     same-length-2
     returns)
