@@ -26,6 +26,8 @@ use Rattle.laws.proofs.Sweep as sweep
 use Rattle.picture.specs.Tile.{codeOf, codeAt, turned}
 use Rattle.picture.specs.Picture.{solid}
 use Rattle.picture.proofs.Laws.{code-at-lt}
+use Rattle.tile.specs.declared.Four.{Four}
+use Rattle.tile.specs.Fours.{fours}
 use Rattle.tile.specs.Lanes.{lanes, lane}
 use Rattle.tile.specs.Line.{colourBytes, coloursIn, lineSolid, lineMarked, lineDrawn, lineHeld}
 use Rattle.tile.proofs.Marks.{marked-past, drawn-past, held-past}
@@ -102,6 +104,12 @@ module _ (table : List ℕ) (p codes : ℕ) (n : length table ≡ 128) (hp : p �
       (p + lane codes k)
   place-four k l =
       ap (fourAt (take (4 * p + 64 - 4 * p) (drop (4 * p) table))) (lane-bytes codes f h k l) ∙ part-four table p (lane codes k) hp (h k l)
+
+-- four numbers are the four that f has from k on
+pub fours-are : (f : ℕ → ℕ) (k : ℕ) {a b c d : ℕ} → a ≡ f k → b ≡ f (k + 1) → c ≡ f (k + 2) → d ≡ f (k + 3)
+    → _≡_ {A = Four} (record { a = a; b = b; c = c; d = d }) (fours f k)
+unfolding fours
+fours-are f k p q r t = rw (p, q, r, t)
 
 -- ---- a line by the four bytes x that stand at addr
 abbrev pub all : ℕ → ℕ

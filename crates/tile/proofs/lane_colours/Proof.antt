@@ -2,9 +2,11 @@
 use borrow.Author.Needs.{needs}
 use native.Mathlib.Omega.{arith}
 use mathlib.Core.Path.{_∙_}
-use Prim.Native.Nat.{_+_}
-use Rattle.tile.specs.Fours.{fours}
-use Rattle.tile.proofs.Whole.{place-fits, place-four}
+use Prim.Native.Nat.{_+_, _<_}
+use Rattle.laws.specs.Lists.{at}
+use Rattle.tile.specs.Line.{coloursIn}
+use Rattle.tile.specs.Lanes.{lane}
+use Rattle.tile.proofs.Whole.{place-fits, place-four, fours-are}
 use Rattle.tile.proofs.lane_colours.Statement.{statement}
 use Rattle.tile.proofs.lane_colours.Tie as tie
 
@@ -57,18 +59,17 @@ lane-colour-requires-4 c κs =
     (omega arith, place-fits (a .table .now) (a .palette) (a .codes) (at-start .pre .2) (at-start .pre .1) (at-start .fits .codes .fits) (at-start .pre .3))
 
 returns : tie.Need-returns
-unfolding fours
 returns c =
     let at-lane-colour2 = c .before .before in
     let at-lane-colour = at-lane-colour2 .before in
-    let at-start = c .before .before .before .before .before .before in
+    let at-start = at-lane-colour .before .before .before in
     let a = at-start .args in
+    let k = a .k in
     let q = place-four (a .table .now) (a .palette) (a .codes) (at-start .pre .2) (at-start .pre .1) (at-start .fits .codes .fits) (at-start .pre .3) in
-    let e4 = c .lane-colour4 .ensures ∙ q (a .k + 3) (omega arith) in
-    let e3 = c .before .lane-colour3 .ensures ∙ q (a .k + 2) (omega arith) in
-    let e2 = at-lane-colour2 .lane-colour2 .ensures ∙ q (a .k + 1) (omega arith) in
-    let e1 = at-lane-colour .lane-colour .ensures ∙ q (a .k) (omega arith) in
-    rw (e4, e3, e2, e1)
+    let l : k < 5 = at-start .pre .0 in
+    fours-are (λ i. at (coloursIn (a .table .now)) (a .palette + lane (a .codes) i)) k
+    (at-lane-colour .lane-colour .ensures ∙ q k (omega arith)) (at-lane-colour2 .lane-colour2 .ensures ∙ q (k + 1) (omega arith))
+    (c .before .lane-colour3 .ensures ∙ q (k + 2) (omega arith)) (c .lane-colour4 .ensures ∙ q (k + 3) (omega arith))
 
 pub lane-colours-spec : {M : Type 1} → statement M
 lane-colours-spec =
