@@ -47,7 +47,7 @@ damage "status bit 7 is set at C2 and not at C1" points::ended 's/(icmp eq i8 %[
 damage "the screen's end is reported at C2 and not at C1" points::report_of 's/(icmp ne i8 %[ar][0-9]+), -63$/\1, -62/'
 damage "a sprite's layer is 65 + n and not 64 + n" column::owner_of 's/(add nuw i64) 64,/\1 65,/'
 damage "a pixel that is held back takes its column from a sprite that was drawn there" column::owner_of 's/icmp eq i8 (%[ar][0-9]+), 0$/icmp ne i8 \1, 1/'
-damage "128 bytes are enough for the layers of a row of 160" points::layer_due 's/(udiv i64 %r[0-9]+), 4$/\1, 5/'
+damage "159 bytes are enough for the layers of any row" points::layer_due 's/udiv i64 %r[0-9]+, 4$/udiv i64 639, 4/'
 
 # The home machine's calls, beside their second writing.
 beside=docks-here

@@ -39,7 +39,7 @@ caught() {
     [ $status -eq 0 ] || { echo "$changed lines changed"; cat $out/said; }
     tell "caught: $1" $status
 }
-caught "128 bytes are enough for the layers of a visible row" points::layer_due 's/(udiv i64 %r[0-9]+), 4$/\1, 5/' '^fuzz: call [0-9]+, vdp_layer_(row_)?step: '
+caught "159 bytes are enough for the layers of any row" points::layer_due 's/udiv i64 %r[0-9]+, 4$/udiv i64 639, 4/' '^fuzz: call [0-9]+, vdp_layer_(row_)?step: '
 caught "the counter jumps a line late" raster::jump_line 's/store i8 -37,/store i8 -36,/' '^fuzz: call [0-9]+, .*step: sets another line'
 caught "a block of the first version has table 1" block::table_byte 's/store i8 0,/store i8 1,/' '^fuzz: call [0-9]+, '
 # One that is not refused, and stores behind its buffer: the page there stops it.
