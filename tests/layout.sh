@@ -56,15 +56,19 @@ grep -rInE 'document 0[0-9]|the[ ]papers?\b|scope[ ](paper|document)' $texts
 [ $? -eq 1 ]
 tell "no text is cited that is not here" $?
 
-# A library's public functions: those of src/lib.rt, and those that it hands on from modules of its own.
+# A library's public functions: those of src/lib.rt, those that it hands on from modules of its own, and those of the modules that are public.
 bare=
 for lib in crates/*/src/lib.rt; do
     crate=$(basename "$(dirname "$(dirname "$lib")")")
-    for f in $(sed -nE 's/^ *pub (extern "C" )?fn ([a-z0-9_]+).*/\2/p; s/^pub use [a-z_]+::([a-z0-9_]+);/\1/p' "$lib"); do
-        grep -q "^Exceptions: .*\`$crate::$f\`" docs/CONTRACTS.md && continue
-        name=$(sed -nE "s/^use Rattle\.$crate\.proofs\.([A-Za-z]+\.)?$f( as ([a-z_-]+))?\$/\3/p" crates/demands/proofs/Outcome*.antt)
-        grep -qE "^use Rattle\.$crate\.proofs\.([A-Za-z]+\.)?$f( |\$)" crates/demands/proofs/Outcome*.antt &&
-            grep -qE " ${name:-$f}\.(Reads\.Learnt|clauses )" crates/demands/proofs/Outcome*.antt || bare="$bare $crate::$f"
+    for file in "$lib" $(sed -nE "s|^pub mod ([a-z_]+);|${lib%lib.rt}\1.rt|p" "$lib"); do
+        in='([A-Za-z]+\.)?'
+        [ "$file" = "$lib" ] || in="($(basename "$file" .rt)\.)"
+        for f in $(sed -nE 's/^ *pub (extern "C" )?fn ([a-z0-9_]+).*/\2/p; s/^pub use [a-z_]+::([a-z0-9_]+);/\1/p' "$file"); do
+            grep -q "^Exceptions: .*\`$crate::$f\`" docs/CONTRACTS.md && continue
+            name=$(sed -nE "s/^use Rattle\.$crate\.proofs\.$in$f( as ([a-z_-]+))?\$/\3/p" crates/demands/proofs/Outcome*.antt)
+            grep -qE "^use Rattle\.$crate\.proofs\.$in$f( |\$)" crates/demands/proofs/Outcome*.antt &&
+                grep -qE " ${name:-$f}\.(Reads\.Learnt|clauses )" crates/demands/proofs/Outcome*.antt || bare="$bare $crate::$f"
+        done
     done
 done
 [ -z "$bare" ] || printf 'no theorem of one outcome:%s\n' "$bare"
@@ -82,18 +86,18 @@ tell "docs/CONTRACTS.md has two wrong answers for each function that it tells of
 # constructors FILE TYPE: those of a data type, as the code writes them. named FILE WORDS: the names behind `-- WORDS: `, up to the full stop.
 constructors() { awk -v type="$2" '/^[^ ]/ { on = $0 ~ "^pub data " type " " } on && /^  [a-z]/ { print $1 }' "$1" | tr - _; }
 named() { sed -nE "s/^-- $2: ([a-z0-9_, ]+)\..*/\1/p" "$1" | tr -d ' ' | tr , '\n'; }
-# calls_of MACHINE CRATE...: what is public in these crates is a call of this machine, or is named in its file as none.
+# calls_of MACHINE FILE...: what is public in these files, each as CRATE/FILE, is a call of this machine, or is named in its file as none.
 calls_of() {
     local file=crates/demands/specs/$1.antt calls
     shift
     calls=$(constructors "$file" Call)
-    [ -n "$calls" ] && diff <(for crate; do
-        sed -nE 's/^ *pub fn ([a-z0-9_]+).*/\1/p; s/^pub use [a-z_]+::([a-z0-9_]+);/\1/p' "crates/$crate/src/lib.rt"
+    [ -n "$calls" ] && diff <(for source; do
+        sed -nE 's/^ *pub fn ([a-z0-9_]+).*/\1/p; s/^pub use [a-z_]+::([a-z0-9_]+);/\1/p' "crates/${source%/*}/src/${source#*/}.rt"
     done | sort) <({ printf '%s\n' "$calls"; named "$file" 'No calls of [a-z_]+'; } | sort)
 }
-calls_of Handheld vdp step tile_codes
+calls_of Handheld vdp/lib step/lib look/lib tile_codes/lib
 tell "the theorem on refusal 7 speaks of every call of a device, and what else is public is named there" $?
-calls_of Home home tile_codes
+calls_of Home home/lib look/home_look tile_codes/lib
 tell "and of every call of a home device" $?
 
 # face_calls FILE TYPE WORDS..: the functions of the C face that `grep WORDS` finds are the constructors of this type.

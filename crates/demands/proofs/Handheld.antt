@@ -38,15 +38,16 @@ use Rattle.points.specs.declared.VdpInt.the-variants.{InterruptGenerated}
 use Rattle.points.specs.declared.DisplayRefresh.{DisplayRefresh}
 use Rattle.points.specs.declared.DisplayRefresh.the-variants.{NoDisplay}
 use Rattle.points.specs.declared.DrawnRow.the-variants.{Drawn}
-use Rattle.step.specs.Step.{register, lineOf, counterUp, rowOn, stepped, refusedStep, rowLines, frameLines, stepWith, rowStep, frameStep}
+use Rattle.step.specs.Step.{register, lineOf, readingOf, counterUp, rowOn, stepped, refusedStep, rowLines, frameLines, stepWith, rowStep, frameStep}
 use Rattle.step.specs.Frame.{frameAfter, FrameStepLeaves}
 use Rattle.points.specs.Bytes.{alsoLayers}
 use Rattle.dump.specs.Sheet.{dumpLines}
+use Rattle.dump.proofs.Sheets.{dump-exact}
 use Rattle.step.proofs.Kept.{write-keeps, read-keeps}
-use Rattle.step.proofs.Laws.{stepped-row, stepped-report, stepped-raster, stepped-addr, stepped-dest, stepped-interrupt, step-accepted, step-exact, dump-exact}
+use Rattle.step.proofs.Laws.{stepped-row, stepped-report, stepped-raster, stepped-addr, stepped-dest, stepped-interrupt, step-accepted, step-exact}
 use Rattle.step.proofs.Laws.{frame-step-length, frame-step-other, frame-step-here}
 use Rattle.points.proofs.Laws.{row-refusing, frame-refusing, frame-fits, frame-memory}
-use Rattle.step.proofs.Pixels.{pixel-exact}
+use Rattle.pixel.proofs.Spots.{pixel-exact}
 use Rattle.face.proofs.Exact.{none}
 use Rattle.tile_codes.specs.Calls.{readTileLines, writeTileLines, readTileRefusal, writeTileRefusal}
 use Rattle.passes.specs.Machine.{Told}
@@ -185,7 +186,7 @@ not-seven (row-step a vram n) d h = step-not (rowLines a vram n) a vram d refl
 not-seven (layer-frame-step a vram n l) d h = step-not (alsoLayers (columns a) l (frameLines a vram n)) a vram d refl
 not-seven (layer-row-step a vram n l) d h = step-not (alsoLayers (columns a) l (rowLines a vram n)) a vram d refl
 not-seven (dump-tileset vram n) d h = rw (dump-exact vram n) (without (dumpLines vram n) refl)
-not-seven (pixel-at a vram y x) d h = rw (pixel-exact a vram d y x) (without (pixelLines vram) refl)
+not-seven (pixel-at a vram y x) d h = rw (pixel-exact (screenOf a) vram (readingOf d) y x) (without (pixelLines vram) refl)
 not-seven (write-tile vram n codes) d h = without (writeTileLines vram n codes) refl
 not-seven (read-tile vram n k) d h = without (readTileLines vram n k) refl
 

@@ -29,7 +29,7 @@ use Rattle.points.specs.declared.DrawnRow.the-variants.{Drawn}
 use Rattle.points.specs.Points.{rowOn, rowLines, frameLines}
 use Rattle.dump.specs.Sheet.{dumpLines}
 use Rattle.points.proofs.Laws.{row-refusing, frame-refusing}
-use Rattle.step.proofs.Laws.{dump-exact}
+use Rattle.dump.proofs.Sheets.{dump-exact}
 use Rattle.home.specs.declared.HomeState.{HomeState}
 use Rattle.home.specs.declared.HomeStepped.{HomeStepped}
 use Rattle.home.specs.Home.{made}

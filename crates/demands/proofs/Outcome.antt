@@ -77,6 +77,7 @@ use Rattle.points.proofs.interrupt_number
 use Rattle.points.proofs.report_number
 use Rattle.points.proofs.row_size
 use Rattle.points.proofs.row_due
+use Rattle.points.proofs.row_count
 use Rattle.points.proofs.frame_due
 use Rattle.points.proofs.layer_due
 use Rattle.points.proofs.finish
@@ -85,27 +86,29 @@ use Rattle.points_run.proofs.draw_in
 use Rattle.points_run.proofs.row_points
 use Rattle.points_run.proofs.frame_points
 use Rattle.points_run.proofs.layer_row_points
-use Rattle.points_run.proofs.layer_frame_points
+use Rattle.look.proofs.layer_frame_points
 use Rattle.step.proofs.row_step
 use Rattle.step.proofs.frame_step
 use Rattle.step.proofs.layer_row_step
-use Rattle.step.proofs.layer_frame_step
-use Rattle.step.proofs.row_view
-use Rattle.points.proofs.screen_row
+use Rattle.step.proofs.colours_of
+use Rattle.step.proofs.join
+use Rattle.look.proofs.layer_frame_step
+use Rattle.look.proofs.row_view
+use Rattle.look.proofs.screen_row
 use Rattle.sprites.proofs.render_sprites_line
 use Rattle.dump.proofs.dump_tileset as dump-sheet
 use Rattle.raster.proofs.Raster.with_table as raster-with-table
 use Rattle.front.proofs.Front.new as front-new
-use Rattle.step.proofs.dump_tileset
-use Rattle.step.proofs.pixel_at
+use Rattle.look.proofs.dump_tileset
+use Rattle.look.proofs.pixel_at
 use Rattle.home.proofs.HomeState.new as home-new
 use Rattle.home.proofs.HomeState.with_table as home-with-table
 use Rattle.home.proofs.HomeState.out as home-out
 use Rattle.home.proofs.HomeState.input as home-input
 use Rattle.home.proofs.row_step as home-row-step
 use Rattle.home.proofs.frame_step as home-frame-step
-use Rattle.home.proofs.row_view as home-row-view
-use Rattle.home.proofs.dump_tileset as home-dump-tileset
+use Rattle.look.proofs.home_look.row_view as home-row-view
+use Rattle.look.proofs.home_look.dump_tileset as home-dump-tileset
 use Rattle.tile_codes.proofs.write_tile
 use Rattle.tile_codes.proofs.read_tile
 use Rattle.tile_codes.proofs.sheet
@@ -135,8 +138,9 @@ use Rattle.trace_record.proofs.record_on
 use Rattle.trace_record.proofs.area_number
 use Rattle.trace_record.proofs.put_all
 use Rattle.trace_record.proofs.put_record
-use Rattle.trace_record.proofs.past_record
-use Rattle.trace_record.proofs.at_end
+use Rattle.trace_record.proofs.size_of
+use Rattle.trace_reader.proofs.past_record
+use Rattle.trace_reader.proofs.at_end
 use Rattle.face.proofs.vdp_new
 use Rattle.face.proofs.vdp_repair
 use Rattle.face.proofs.vdp_new_table
@@ -450,6 +454,9 @@ report-number-once κs a q z z′ w w′ e f = (e .0 ∙ sym (f .0), refl)
 pub row-size-once : OneOutcome 0 row_size.Kinds.ps row_size.Kinds.r row_size.Reads.Asked row_size.Reads.Learnt
 row-size-once κs a q z z′ w w′ e f = (e ∙ sym f, refl)
 
+pub row-count-once : OneOutcome 0 row_count.Kinds.ps row_count.Kinds.r row_count.Reads.Asked row_count.Reads.Learnt
+row-count-once κs a q z z′ w w′ e f = (e ∙ sym f, refl)
+
 pub finish-once : OneOutcome 0 finish.Kinds.ps finish.Kinds.r finish.Reads.Asked finish.Reads.Learnt
 finish-once κs a q z z′ w w′ e f = (e ∙ sym f, refl)
 
@@ -488,12 +495,11 @@ layer-row-points-once κs a q z z′ w w′ e f = (
   λ i. (tt, (tt, (tt, (tt, (tt, ((e .points .bytes ∙ sym (f .points .bytes)) i, ((e .owners ∙ sym (f .owners)) i, w .1 .1 .1 .1 .1 .1 .1))))))),
 )
 
-pub layer-frame-points-once : OneOutcome 4 layer_frame_points.Kinds.ps layer_frame_points.Kinds.r layer_frame_points.Reads.Asked
-    layer_frame_points.Reads.Learnt
-layer-frame-points-once κs a q z z′ w w′ e f = (
-  e .points .answer ∙ sym (f .points .answer),
-  λ i. (tt, (tt, (tt, (tt, (tt, ((e .points .bytes ∙ sym (f .points .bytes)) i, ((e .owners ∙ sym (f .owners)) i, w .1 .1 .1 .1 .1 .1 .1))))))),
-)
+pub colours-of-once : OneOutcome 0 colours_of.Kinds.ps colours_of.Kinds.r colours_of.Reads.Asked colours_of.Reads.Learnt
+colours-of-once κs a q z z′ w w′ e f = (e ∙ sym f, refl)
+
+pub join-once : OneOutcome 0 join.Kinds.ps join.Kinds.r join.Reads.Asked join.Reads.Learnt
+join-once κs a q z z′ w w′ e f = (e ∙ sym f, refl)
 
 pub row-step-once : OneOutcome 2 row_step.Kinds.ps row_step.Kinds.r row_step.Reads.Asked row_step.Reads.Learnt
 row-step-once κs a q z z′ w w′ e f = (e .answer ∙ sym (f .answer), λ i. (tt, (tt, ((e .bytes ∙ sym (f .bytes)) i, w .1 .1 .1))))
@@ -504,23 +510,6 @@ frame-step-once κs a q z z′ w w′ e f = (e .answer ∙ sym (f .answer), λ i
 pub layer-row-step-once : OneOutcome 3 layer_row_step.Kinds.ps layer_row_step.Kinds.r layer_row_step.Reads.Asked layer_row_step.Reads.Learnt
 layer-row-step-once κs a q z z′ w w′ e f =
     (e .answer ∙ sym (f .answer), λ i. (tt, (tt, ((e .bytes ∙ sym (f .bytes)) i, ((e .owners ∙ sym (f .owners)) i, w .1 .1 .1 .1)))))
-
-pub layer-frame-step-once : OneOutcome 3 layer_frame_step.Kinds.ps layer_frame_step.Kinds.r layer_frame_step.Reads.Asked layer_frame_step.Reads.Learnt
-layer-frame-step-once κs a q z z′ w w′ e f =
-    (e .answer ∙ sym (f .answer), λ i. (tt, (tt, ((e .bytes ∙ sym (f .bytes)) i, ((e .owners ∙ sym (f .owners)) i, w .1 .1 .1 .1)))))
-
-pub dump-tileset-once : OneOutcome 2 dump_tileset.Kinds.ps dump_tileset.Kinds.r dump_tileset.Reads.Asked dump_tileset.Reads.Learnt
-dump-tileset-once κs a q z z′ w w′ e f = (e .refusal ∙ sym (f .refusal), λ i. (tt, (tt, ((e .bytes ∙ sym (f .bytes)) i, tt))))
-
-pub pixel-at-once : OneOutcome 1 pixel_at.Kinds.ps pixel_at.Kinds.r pixel_at.Reads.Asked pixel_at.Reads.Learnt
-pixel-at-once κs a q z z′ w w′ e f = (e ∙ sym f, refl)
-
--- its answer is a part of the frame that it is lent: the bytes are told, and no contract tells an address
-pub row-view-once : OneOutcomeSeen 1 row_view.Kinds.ps row_view.Kinds.r row_view.Reads.Asked row_view.Reads.Learnt (λ κs z. now z)
-row-view-once κs a q z z′ w w′ e f = (e ∙ sym f, refl)
-
-pub screen-row-once : OneOutcomeSeen 1 screen_row.Kinds.ps screen_row.Kinds.r screen_row.Reads.Asked screen_row.Reads.Learnt (λ κs z. now z)
-screen-row-once κs a q z z′ w w′ e f = (e ∙ sym f, refl)
 
 -- ---- home
 pub home-new-once : OneOutcome 0 home-new.Kinds.ps home-new.Kinds.r home-new.Reads.Asked home-new.Reads.Learnt
@@ -540,6 +529,31 @@ home-row-step-once κs a q z z′ w w′ e f = (e .answer ∙ sym (f .answer), �
 
 pub home-frame-step-once : OneOutcome 2 home-frame-step.Kinds.ps home-frame-step.Kinds.r home-frame-step.Reads.Asked home-frame-step.Reads.Learnt
 home-frame-step-once κs a q z z′ w w′ e f = (e .answer ∙ sym (f .answer), λ i. (tt, (tt, ((e .bytes ∙ sym (f .bytes)) i, w .1 .1 .1))))
+
+-- ---- look
+pub layer-frame-points-once : OneOutcome 4 layer_frame_points.Kinds.ps layer_frame_points.Kinds.r layer_frame_points.Reads.Asked
+    layer_frame_points.Reads.Learnt
+layer-frame-points-once κs a q z z′ w w′ e f = (
+  e .points .answer ∙ sym (f .points .answer),
+  λ i. (tt, (tt, (tt, (tt, (tt, ((e .points .bytes ∙ sym (f .points .bytes)) i, ((e .owners ∙ sym (f .owners)) i, w .1 .1 .1 .1 .1 .1 .1))))))),
+)
+
+pub layer-frame-step-once : OneOutcome 3 layer_frame_step.Kinds.ps layer_frame_step.Kinds.r layer_frame_step.Reads.Asked layer_frame_step.Reads.Learnt
+layer-frame-step-once κs a q z z′ w w′ e f =
+    (e .answer ∙ sym (f .answer), λ i. (tt, (tt, ((e .bytes ∙ sym (f .bytes)) i, ((e .owners ∙ sym (f .owners)) i, w .1 .1 .1 .1)))))
+
+pub dump-tileset-once : OneOutcome 2 dump_tileset.Kinds.ps dump_tileset.Kinds.r dump_tileset.Reads.Asked dump_tileset.Reads.Learnt
+dump-tileset-once κs a q z z′ w w′ e f = (e .refusal ∙ sym (f .refusal), λ i. (tt, (tt, ((e .bytes ∙ sym (f .bytes)) i, tt))))
+
+pub pixel-at-once : OneOutcome 1 pixel_at.Kinds.ps pixel_at.Kinds.r pixel_at.Reads.Asked pixel_at.Reads.Learnt
+pixel-at-once κs a q z z′ w w′ e f = (e ∙ sym f, refl)
+
+-- its answer is a part of the frame that it is lent: the bytes are told, and no contract tells an address
+pub row-view-once : OneOutcomeSeen 1 row_view.Kinds.ps row_view.Kinds.r row_view.Reads.Asked row_view.Reads.Learnt (λ κs z. now z)
+row-view-once κs a q z z′ w w′ e f = (e ∙ sym f, refl)
+
+pub screen-row-once : OneOutcomeSeen 1 screen_row.Kinds.ps screen_row.Kinds.r screen_row.Reads.Asked screen_row.Reads.Learnt (λ κs z. now z)
+screen-row-once κs a q z z′ w w′ e f = (e ∙ sym f, refl)
 
 pub home-row-view-once : OneOutcomeSeen 1 home-row-view.Kinds.ps home-row-view.Kinds.r home-row-view.Reads.Asked home-row-view.Reads.Learnt
     (λ κs z. now z)
@@ -666,6 +680,10 @@ put-record-once κs a q z z′ w w′ e f = (
   λ i. ((e .0 .recording ∙ sym (f .0 .recording)) i, w .1),
 )
 
+pub size-of-once : OneOutcome 0 size_of.Kinds.ps size_of.Kinds.r size_of.Reads.Asked size_of.Reads.Learnt
+size-of-once κs a q z z′ w w′ e f = (e .0 ∙ sym (f .0), refl)
+
+-- ---- reader
 pub past-record-once : OneOutcome 1 past_record.Kinds.ps past_record.Kinds.r past_record.Reads.Asked past_record.Reads.Learnt
 past-record-once κs a q z z′ w w′ e f = (e ∙ sym f, refl)
 

@@ -7,11 +7,11 @@ use denote.Ref.{now}
 use Rattle.trace_record.specs.Record.{recordAt}
 use Rattle.trace_record.specs.Reader.{past}
 use Rattle.demands.specs.Outcome.{OneOutcomeSaid}
-use Rattle.trace_record.proofs.Reader.new as reader-new
-use Rattle.trace_record.proofs.Reader.next_record as reader-next
-use Rattle.trace_record.proofs.Reader.past as reader-past
-use Rattle.trace_record.proofs.Reader.ended as reader-ended
-use Rattle.trace_record.proofs.Reader.place as reader-place
+use Rattle.trace_reader.proofs.Reader.new as reader-new
+use Rattle.trace_reader.proofs.Reader.next_record as reader-next
+use Rattle.trace_reader.proofs.Reader.past as reader-past
+use Rattle.trace_reader.proofs.Reader.ended as reader-ended
+use Rattle.trace_reader.proofs.Reader.place as reader-place
 
 pub reader-new-once : OneOutcomeSaid reader-new.ended (λ m. reader-new.clauses (m .𝓤) (m .H) (m .𝓖 .A) (m .𝓜 .mem) (m .𝓡 .run))
 reader-new-once = record {

@@ -13,11 +13,11 @@ use Rattle.vdp.specs.Device.{made}
 use Rattle.vdp.specs.Refusals.{size}
 use Rattle.vdp.specs.Ports.{portWrite, portRead}
 use Rattle.step.specs.declared.Stepped.{Stepped}
-use Rattle.step.specs.Step.{rowLines, frameLines, stepWith, rowStep, frameStep}
+use Rattle.step.specs.Step.{readingOf, rowLines, frameLines, stepWith, rowStep, frameStep}
 use Rattle.step.specs.Frame.{frameAfter}
 use Rattle.points.specs.Bytes.{alsoLayers}
 use Rattle.dump.specs.Sheet.{dumpRefusal}
-use Rattle.step.specs.Pixel.{pixelOf}
+use Rattle.pixel.specs.Pixel.{pixelOf}
 use Rattle.tile_codes.specs.Calls.{readTileRefusal, writeTileRefusal}
 use Rattle.passes.specs.Machine.{Told, Machine}
 
@@ -26,7 +26,8 @@ use Rattle.passes.specs.Machine.{Told, Machine}
 -- It has the name of its function. The other public functions of these crates make a device, give a number, are parts that the calls are made of, or take no
 -- device and give no refusal; the test suite `layout` holds both lists to the code:
 -- No calls of vdp: new, with_table, with_raster, with_cache.
--- No calls of step: row_view.
+-- No calls of step: colours_of, join.
+-- No calls of look: screen_row, layer_frame_points, row_view.
 -- No calls of tile_codes: sheet.
 pub data Call : Type 0 where
   out : (port value : ℕ) (vram : List ℕ) → Call
@@ -69,7 +70,7 @@ refusalOf (row-step a vram size) d = rowStep a vram size d .refusal
 refusalOf (layer-frame-step a vram size layers) d = layerFrameStep a vram size layers d .refusal
 refusalOf (layer-row-step a vram size layers) d = layerRowStep a vram size layers d .refusal
 refusalOf (dump-tileset vram size) d = dumpRefusal vram size
-refusalOf (pixel-at a vram row column) d = pixelOf a vram d row column .refusal
+refusalOf (pixel-at a vram row column) d = pixelOf (screenOf a) vram (readingOf d) row column .refusal
 refusalOf (write-tile vram tile codes) d = writeTileRefusal vram tile codes
 refusalOf (read-tile vram tile size) d = readTileRefusal vram tile size
 

@@ -21,7 +21,8 @@ use Rattle.passes.specs.Machine.{Told, Machine}
 
 -- R20.8: a call, said as the handheld's are (Handheld.antt), in the one area that there is: it tells no layers, and is asked for no single pixel. The other
 -- public functions:
--- No calls of home: new, with_table, row_view.
+-- No calls of home: new, with_table.
+-- No calls of look: row_view.
 -- No calls of tile_codes: sheet.
 pub data Call : Type 0 where
   out : (port value : ℕ) (vram : List ℕ) → Call

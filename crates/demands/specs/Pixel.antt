@@ -21,14 +21,13 @@ use Rattle.vdp.specs.declared.VdpState.{VdpState}
 use Rattle.refusal.specs.declared.Refusal.the-variants.{Accepted, VramLength}
 use Rattle.points.specs.declared.DrawnRow.the-variants.{Drawn}
 use Rattle.pixel.specs.declared.Pixel.{Pixel}
+use Rattle.pixel.specs.Pixel.{pixelOf}
 use Rattle.step.specs.declared.Stepped.{Stepped}
-use Rattle.step.specs.Step.{coloursNow, rowPicture}
+use Rattle.step.specs.Step.{coloursNow, rowPicture, readingOf}
 use Rattle.step.specs.Frame.{RowStepLeaves}
-use Rattle.step.specs.Pixel.{pixelOf}
 use Rattle.home.specs.declared.HomeState.{HomeState}
 use Rattle.home.specs.declared.HomeStepped.{HomeStepped}
 use Rattle.home.specs.Step as home
-use Rattle.home.specs.Pixel as home-pixel
 
 -- R16.5, on any screen, in any colours, for a memory, a row and a column, whatever they are: `pixel` is what the engine of one pixel gives, where `picture`
 -- is the picture of each row
@@ -45,14 +44,14 @@ pub record PixelIsRow (s : Screen) (colours vram : List ℕ) (picture : ℕ → 
 
 -- of a handheld's record d in an area, now, and of the row that a step has drawn, asked of the device that the step left
 pub record HandheldPixel (a : RenderArea) (vram : List ℕ) (d : VdpState) (y x : ℕ) : Type 0 where
-  pub now : PixelIsRow (screenOf a) (coloursNow d) vram (rowPicture a vram d) y x (pixelOf a vram d y x)
+  pub now : PixelIsRow (screenOf a) (coloursNow d) vram (rowPicture a vram d) y x (pixelOf (screenOf a) vram (readingOf d) y x)
   pub after-step :
       x < columns (screenOf a) → (buffer buffer′ : List ℕ) (r : Stepped) (b : ℕ) → b < 4 → RowStepLeaves a vram d buffer r buffer′ →
-      r .row ≡ Drawn y → byteOfColour (pixelOf a vram (r .vdp) y x .colour) b ≡ at buffer′ (4 * x + b)
+      r .row ≡ Drawn y → byteOfColour (pixelOf (screenOf a) vram (readingOf (r .vdp)) y x .colour) b ≡ at buffer′ (4 * x + b)
 
 -- the same of a home machine's record h
 pub record HomePixel (vram : List ℕ) (h : HomeState) (y x : ℕ) : Type 0 where
-  pub now : PixelIsRow Home (home.coloursNow h) vram (home.rowPicture vram h) y x (home-pixel.pixelOf vram h y x)
+  pub now : PixelIsRow Home (home.coloursNow h) vram (home.rowPicture vram h) y x (pixelOf Home vram (home.readingOf h) y x)
   pub after-step :
       x < columns Home → (buffer buffer′ : List ℕ) (r : HomeStepped) (b : ℕ) → b < 4 → home.RowStepLeaves vram h buffer r buffer′ → r .row ≡ Drawn y →
-      byteOfColour (home-pixel.pixelOf vram (r .home) y x .colour) b ≡ at buffer′ (4 * x + b)
+      byteOfColour (pixelOf Home vram (home.readingOf (r .home)) y x .colour) b ≡ at buffer′ (4 * x + b)

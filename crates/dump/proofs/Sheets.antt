@@ -4,11 +4,19 @@ use mathlib.Core.Path.{_≡_}
 use mathlib.Core.Logic.{_≢_}
 use mathlib.Core.List.{List}
 use Prim.Native.Nat.{ℕ}
+use lib.Dec.{eqb}
 use lib.ListN.{length}
 use borrow.Author.Tests.{eq-eqb, ne-eqb}
+use Rattle.laws.proofs.Tests.{split}
 use Rattle.refusal.specs.declared.Refusal.the-variants.{Accepted, VramLength, PixelLength}
-use Rattle.dump.specs.Dump.{dumped}
-use Rattle.dump.specs.Sheet.{dumpRefusal, sheetAfter, SheetLeaves}
+use Rattle.refusal.specs.Refusals.{whole, first}
+use Rattle.dump.specs.Dump.{dumpSize, dumped}
+use Rattle.dump.specs.Sheet.{dumpRefusal, dumpLines, sheetAfter, SheetLeaves}
+
+-- a dump is refused by the first line of its table that holds
+pub dump-exact : (vram : List ℕ) (size : ℕ) → dumpRefusal vram size ≡ first (dumpLines vram size)
+unfolding dumpRefusal
+dump-exact vram size = split (whole vram) (λ e. split (eqb size dumpSize) (λ f. simp (e, f)) (λ f. simp (e, f))) (λ e. simp e)
 
 module _ (reg colours vram pixels : List ℕ) where
   pub dump-refuses-8 : length vram ≢ 16384 → SheetLeaves reg colours vram pixels VramLength pixels

@@ -23,6 +23,7 @@ use Rattle.vdp.proofs.Exact.{write-exact, read-exact}
 use Rattle.block.specs.Block.{fits, wellFormed, stateOf}
 use Rattle.step.specs.declared.Stepped.{Stepped}
 use Rattle.dump.specs.Sheet.{dumpRefusal, dumpLines}
+use Rattle.dump.proofs.Sheets as Sheets
 use Rattle.step.specs.Step.{rowLines, frameLines, stepWith, rowStep, frameStep}
 use Rattle.step.proofs.Laws as Steps
 use Rattle.picture.specs.Area.{areaFrom}
@@ -97,7 +98,7 @@ pub dump-exact : (b m pixels : List ℕ) → refusalIn (dumpCall b m pixels .wor
 unfolding dumpCall
 dump-exact b m pixels =
     split (wellFormed b)
-    (λ e. simp e (alone (dumpRefusal m (length pixels)) ∙ ap refusalNumber (Steps.dump-exact m (length pixels))))
+    (λ e. simp e (alone (dumpRefusal m (length pixels)) ∙ ap refusalNumber (Sheets.dump-exact m (length pixels))))
     (λ e. simp e)
 
 -- ---- 10 exactly where the block is malformed

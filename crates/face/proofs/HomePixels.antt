@@ -18,14 +18,13 @@ use Rattle.refusal.specs.Refusals.{refusalNumber, first, whole}
 use Rattle.picture.specs.declared.Screen.the-variants.{Home}
 use Rattle.raster.specs.declared.Raster.{Raster}
 use Rattle.pixel.specs.declared.Spot.{Spot}
-use Rattle.pixel.specs.Pixel.{pixelLines, spotOf}
+use Rattle.pixel.specs.Pixel.{pixelLines, spotOf, pixelOf}
+use Rattle.pixel.proofs.Spots.{pixel-exact, pixel-refused}
 use Rattle.word.specs.Word.{refusalIn, pixelBits}
 use Rattle.word.specs.Called.{askedLines}
 use Rattle.word.proofs.Words.{pixel-byte}
 use Rattle.word.proofs.Calls.{asked-both}
-use Rattle.home.specs.Step.{coloursNow}
-use Rattle.home.specs.Pixel.{pixelOf}
-use Rattle.home.proofs.Pixels.{pixel-exact, pixel-refused}
+use Rattle.home.specs.Step.{coloursNow, readingOf}
 use Rattle.home_block.specs.HomeBlock.{stateOf, wellFormed}
 use Rattle.face.specs.HomePixel.{pixelCall}
 use Rattle.face.specs.HomeRefused.{callLines}
@@ -60,8 +59,8 @@ unfolding pixelCall
 pixel-call-exact b m y x =
     split (wellFormed b)
     (λ e.
-    let p = pixelOf m (stateOf b) y x in
-    simp e (pixel-byte (p .refusal) (p .there) (p .colour) ∙ ap refusalNumber (pixel-exact m (stateOf b) y x)))
+    let p = pixelOf Home m (readingOf (stateOf b)) y x in
+    simp e (pixel-byte (p .refusal) (p .there) (p .colour) ∙ ap refusalNumber (pixel-exact Home m (readingOf (stateOf b)) y x)))
     (λ e. simp e)
 
 -- R16.6: and then its word is the refusal alone, with no pixel and four zero bytes
@@ -72,7 +71,7 @@ pixel-call-alone b m y x =
     (λ e.
     split (whole m)
     (λ f.
-    let p = pixelOf m (stateOf b) y x in
-    simp e (λ h. absurd (h (pixel-byte (p .refusal) (p .there) (p .colour) ∙ ap refusalNumber (pixel-exact m (stateOf b) y x) ∙ rw f))))
-    (λ f. simp e (λ h. rw (pixel-refused m (stateOf b) y x (eqb-false (length m) vramSize f)) (omega arith))))
+    let p = pixelOf Home m (readingOf (stateOf b)) y x in
+    simp e (λ h. absurd (h (pixel-byte (p .refusal) (p .there) (p .colour) ∙ ap refusalNumber (pixel-exact Home m (readingOf (stateOf b)) y x) ∙ rw f))))
+    (λ f. simp e (λ h. rw (pixel-refused Home m (readingOf (stateOf b)) y x (eqb-false (length m) vramSize f)) (omega arith))))
     (λ e. simp e (λ h. omega arith))

@@ -21,10 +21,9 @@ use Rattle.raster.specs.declared.Raster.{Raster}
 use Rattle.refusal.specs.Refusals.{refusalNumber, first, whole}
 use Rattle.block.specs.Block.{wellFormed, stateOf}
 use Rattle.pixel.specs.declared.Spot.{Spot}
-use Rattle.pixel.specs.Pixel.{pixelLines, spotOf}
-use Rattle.step.specs.Step.{coloursNow}
-use Rattle.step.specs.Pixel.{pixelOf}
-use Rattle.step.proofs.Pixels.{pixel-exact, pixel-refused}
+use Rattle.pixel.specs.Pixel.{pixelLines, spotOf, pixelOf}
+use Rattle.pixel.proofs.Spots.{pixel-exact, pixel-refused}
+use Rattle.step.specs.Step.{coloursNow, readingOf}
 use Rattle.face.specs.Refused.{refusalIn, stepCallLines}
 use Rattle.face.specs.Pixel.{pixelCall}
 use Rattle.word.specs.Word.{pixelBits}
@@ -72,9 +71,8 @@ module _ (b m : List ℕ) (n y x : ℕ) where
       split (leb n 2)
       (λ l.
       simp (e, l)
-      (pixel-byte (pixelOf (areaFrom n) m (stateOf b) y x .refusal) (pixelOf (areaFrom n) m (stateOf b) y x .there)
-      (pixelOf (areaFrom n) m (stateOf b) y x .colour)
-      ∙ ap refusalNumber (pixel-exact (areaFrom n) m (stateOf b) y x)))
+      (let p = pixelOf (screenOf (areaFrom n)) m (readingOf (stateOf b)) y x in
+      pixel-byte (p .refusal) (p .there) (p .colour) ∙ ap refusalNumber (pixel-exact (screenOf (areaFrom n)) m (readingOf (stateOf b)) y x)))
       (λ l. simp (e, l)))
       (λ e. simp e)
 
@@ -87,9 +85,10 @@ module _ (b m : List ℕ) (n y x : ℕ) where
       (λ l.
       split (whole m)
       (λ f.
-      let p = pixelOf (areaFrom n) m (stateOf b) y x in
+      let p = pixelOf (screenOf (areaFrom n)) m (readingOf (stateOf b)) y x in
       simp (e, l)
-      (λ h. absurd (h (pixel-byte (p .refusal) (p .there) (p .colour) ∙ ap refusalNumber (pixel-exact (areaFrom n) m (stateOf b) y x) ∙ rw f))))
-      (λ f. simp (e, l) (λ h. rw (pixel-refused (areaFrom n) m (stateOf b) y x (eqb-false (length m) vramSize f)) (omega arith))))
+      (λ h. absurd (h (pixel-byte (p .refusal) (p .there) (p .colour) ∙ ap refusalNumber (pixel-exact (screenOf (areaFrom n)) m (readingOf (stateOf b)) y x)
+      ∙ rw f))))
+      (λ f. simp (e, l) (λ h. rw (pixel-refused (screenOf (areaFrom n)) m (readingOf (stateOf b)) y x (eqb-false (length m) vramSize f)) (omega arith))))
       (λ l. simp (e, l) (λ h. omega arith)))
       (λ e. simp e (λ h. omega arith))

@@ -18,8 +18,7 @@ use Rattle.block.specs.Block.{fits, wellFormed, stateOf, blockOf}
 use Rattle.word.specs.Word.{answerWord, byteWord}
 use Rattle.step.specs.declared.Stepped.{Stepped}
 use Rattle.step.specs.Step.{rowStep, frameStep}
-use Rattle.dump.specs.Sheet.{dumpRefusal}
-use Rattle.step.specs.Dump.{dumpAfter}
+use Rattle.dump.specs.Sheet.{dumpRefusal, sheetAfter}
 use Rattle.step.specs.Frame.{rowAfter, frameAfter}
 -- what a call answers and leaves, and what it promises, is said of either machine's block
 pub use Rattle.word.specs.Called.{Called, Leaves, refused, onDevice}
@@ -85,7 +84,7 @@ rowStepCall b m row n = onBlock b row (λ s. onArea n b row (rowStepOn m row (le
 
 -- the dump only reads the block
 abbrev pub dumpOn : List ℕ → List ℕ → List ℕ → VdpState → Called
-dumpOn b m pixels s = record { word = refusalNumber (dumpRefusal m (length pixels)); block = b; lent = dumpAfter s m pixels }
+dumpOn b m pixels s = record { word = refusalNumber (dumpRefusal m (length pixels)); block = b; lent = sheetAfter (s .reg) (s .«color_cache») m pixels }
 
 unfoldable pub dumpCall : List ℕ → List ℕ → List ℕ → Called
 dumpCall b m pixels = onBlock b pixels (dumpOn b m pixels)

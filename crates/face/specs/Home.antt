@@ -8,7 +8,7 @@ use lib.ListN.{length}
 use Rattle.raster.specs.Raster.{lineTableFrom}
 use Rattle.refusal.specs.declared.Refusal.the-variants.{Accepted, BlockMalformed}
 use Rattle.refusal.specs.Refusals.{refusalNumber}
-use Rattle.dump.specs.Sheet.{dumpRefusal}
+use Rattle.dump.specs.Sheet.{dumpRefusal, sheetAfter}
 use Rattle.word.specs.Word.{answerWord, byteWord}
 use Rattle.word.specs.Called.{Called, refused, onDevice}
 use Rattle.home.specs.declared.HomeState.{HomeState}
@@ -16,7 +16,6 @@ use Rattle.home.specs.declared.HomeStepped.{HomeStepped}
 use Rattle.home.specs.Home.{made}
 use Rattle.home.specs.Ports.{portWrite, portRead}
 use Rattle.home.specs.Step.{rowStep, frameStep, rowAfter, frameAfter}
-use Rattle.home.specs.Dump.{dumpAfter}
 use Rattle.home_block.specs.HomeBlock.{blockSize, blockOf, stateOf, wellFormed}
 
 -- R2.4, its beginning: first the block b is read; x is the buffer that a refusal leaves as it was
@@ -72,7 +71,7 @@ rowStepCall b m row = onBlock b row (rowStepOn m row)
 
 -- ---- the dump only reads the block
 abbrev pub dumpOn : List ℕ → List ℕ → List ℕ → HomeState → Called
-dumpOn b m pixels h = record { word = refusalNumber (dumpRefusal m (length pixels)); block = b; lent = dumpAfter h m pixels }
+dumpOn b m pixels h = record { word = refusalNumber (dumpRefusal m (length pixels)); block = b; lent = sheetAfter (h .front .reg) (h .«color_cache») m pixels }
 
 unfoldable pub dumpCall : List ℕ → List ℕ → List ℕ → Called
 dumpCall b m pixels = onBlock b pixels (dumpOn b m pixels)

@@ -5,10 +5,12 @@ use mathlib.Core.List.{List}
 use Prim.Native.Nat.{ℕ}
 use Rattle.refusal.specs.declared.Refusal.the-variants.{BlockMalformed}
 use Rattle.refusal.specs.Refusals.{refusalNumber}
-use Rattle.home.specs.Pixel.{pixelOf}
+use Rattle.picture.specs.declared.Screen.the-variants.{Home}
+use Rattle.pixel.specs.Pixel.{pixelOf}
+use Rattle.home.specs.Step.{readingOf}
 use Rattle.home_block.specs.HomeBlock.{stateOf, wellFormed}
 use Rattle.face.specs.Pixel.{pixelWord}
 
 -- the block, then video memory
 unfoldable pub pixelCall : List ℕ → List ℕ → ℕ → ℕ → ℕ
-pixelCall b m y x = cond (wellFormed b) (pixelWord (pixelOf m (stateOf b) y x)) (refusalNumber BlockMalformed)
+pixelCall b m y x = cond (wellFormed b) (pixelWord (pixelOf Home m (readingOf (stateOf b)) y x)) (refusalNumber BlockMalformed)

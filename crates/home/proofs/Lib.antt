@@ -2,5 +2,4 @@
 pub mod Exact
 pub mod Kept
 pub mod Laws
-pub mod Pixels
 pub mod Steps

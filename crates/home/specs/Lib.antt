@@ -3,6 +3,4 @@ pub mod Home
 pub mod Ports
 pub mod Step
 pub mod Layers
-pub mod Dump
-pub mod Pixel
 pub mod Promises

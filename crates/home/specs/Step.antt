@@ -1,4 +1,4 @@
--- R20.1, R20.8: a step of the home machine: what it answers, the device that it leaves, and what it leaves in a row buffer and in a frame; and the row view.
+-- R20.1, R20.8: a step of the home machine: what it answers, the device that it leaves, and what it leaves in a row buffer and in a frame.
 -- It is the five points of R4.1 to R4.5, for the home screen.
 -- Assumes nothing.
 use mathlib.Core.Path.{_≡_}
@@ -20,7 +20,6 @@ use Rattle.points.specs.declared.DrawnRow.the-variants.{NoRow, Drawn}
 use Rattle.points.specs.declared.Points.{Points}
 use Rattle.points.specs.Points.{Reading, reading, risen, rowLines, frameLines, pointsOf}
 use Rattle.points.specs.Bytes.{rowFilled, frameFilled}
-use Rattle.points.specs.View.{screenRow}
 use Rattle.home.specs.declared.HomeState.{HomeState}
 use Rattle.home.specs.declared.HomeStepped.{HomeStepped}
 use Rattle.home.specs.Home.{withStatus, withRaster, withCache}
@@ -102,7 +101,3 @@ pub record RowStepLeaves (vram : List ℕ) (h : HomeState) (buffer : List ℕ) (
 pub record FrameStepLeaves (vram : List ℕ) (h : HomeState) (frame : List ℕ) (r : HomeStepped) (frame′ : List ℕ) : Type 0 where
   pub answer : r ≡ frameStep vram (length frame) h
   pub bytes : frame′ ≡ frameAfter vram h frame
-
--- R7.3: a row that the screen has, of a frame of its size; else nothing
-abbrev pub rowView : List ℕ → ℕ → List ℕ
-rowView frame y = screenRow frame Home y

@@ -1,13 +1,10 @@
 // The home machine (R20.8): a record of its own kind, the front of a device with a palette of 32 bytes. Its ports are the front's, but for the palette; its
-// step is the five points for the home screen. Video memory is lent by the caller.
+// step is the five points for the home screen. Video memory is lent by the caller. (What else is asked of its record: crate `look`.)
 ghost use mathlib.Core.Path.{_≡_};
-ghost use mathlib.Core.Bool.{cond};
 ghost use Prim.Native.Nat.{_<_};
-ghost use Rattle.colour.specs.Home.{homeColoursOf};
 ghost use Rattle.home.specs.Home.{paletteSize, made, fresh, withFront, withRaster, withCache};
 ghost use Rattle.home.specs.Ports.{paletteWrite, WriteLeaves, portRead};
-ghost use Rattle.home.specs.Step.{coloursNow, cleaned, joined, RowStepLeaves, FrameStepLeaves, rowView};
-ghost use Rattle.home.specs.Dump.{DumpLeaves};
+ghost use Rattle.home.specs.Step.{coloursNow, cleaned, joined, RowStepLeaves, FrameStepLeaves};
 use front::Front;
 use picture::Screen;
 use points::DisplayRefresh;
@@ -175,13 +172,13 @@ impl HomeState {
     }
 }
 
-// The colours to draw with: made anew from the palette, or the cache as it stands.
-fn colours_of(home: HomeState, rebuilt: bool) -> [u32; 32]
-    ensures { λ r. ⌜ r ≡ cond rebuilt (homeColoursOf (home .cram)) (home .«color_cache») ⌝ }
+// The colours that a row is drawn with (R4.2): made anew from the palette where they are dirty, else the cache as it stands.
+fn colours_of(home: HomeState) -> [u32; 32]
+    ensures { λ r. ⌜ r ≡ coloursNow home ⌝ }
 {
     let cram = home.cram;
     let color_cache = home.color_cache;
-    if rebuilt {
+    if home.cram_dirty {
         return colour::home_palette_recompute(cram);
     }
     color_cache
@@ -225,7 +222,7 @@ pub fn row_step(home: HomeState, vram: &[u8], row: &mut [u8]) -> HomeStepped
     let front = home.front;
     let reg = front.reg;
     let raster = home.raster;
-    let colours = colours_of(home, home.cram_dirty);
+    let colours = colours_of(home);
     let points = points_run::row_points(
         reg,
         raster,
@@ -245,7 +242,7 @@ pub fn frame_step(home: HomeState, vram: &[u8], frame: &mut [u8]) -> HomeStepped
     let front = home.front;
     let reg = front.reg;
     let raster = home.raster;
-    let colours = colours_of(home, home.cram_dirty);
+    let colours = colours_of(home);
     let points = points_run::frame_points(
         reg,
         raster,
@@ -256,21 +253,4 @@ pub fn frame_step(home: HomeState, vram: &[u8], frame: &mut [u8]) -> HomeStepped
         Screen::Home,
     );
     join(home, points, colours)
-}
-
-// A row of a frame, as a part of the caller's own frame; the empty part where it does not fit.
-pub fn row_view<'a>(frame: &'a [u8], row: usize) -> &'a [u8]
-    ensures { λ r. ⌜ now r ≡ rowView (now (frame .entry)) row ⌝ }
-{
-    points::screen_row(frame, Screen::Home, row)
-}
-
-// All tiles, side by side. It draws with the cache as it stands, and leaves the device.
-pub fn dump_tileset(home: HomeState, vram: &[u8], pixels: &mut [u8]) -> Refusal
-    ensures { λ r. ⌜ DumpLeaves home (now (vram .entry)) (now (pixels .entry)) r (now (pixels .exit)) ⌝ }
-{
-    let front = home.front;
-    let reg = front.reg;
-    let colours = colours_of(home, false);
-    dump::dump_tileset(reg, &colours, vram, pixels)
 }

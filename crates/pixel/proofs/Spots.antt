@@ -15,58 +15,64 @@ use Rattle.laws.specs.Sizes.{vramSize}
 use Rattle.laws.specs.Paint.{byteOfColour}
 use Rattle.laws.proofs.Tests.{split}
 use Rattle.picture.specs.declared.Screen.{Screen}
+use Rattle.picture.specs.Picture.{Row}
 use Rattle.picture.specs.Screen.{columns, rows, rowSize, pictureOf, rowBytes}
 use Rattle.picture.proofs.Laws.{length-rowBytes, row-size, pixel-byte}
 use Rattle.refusal.specs.declared.Refusal.the-variants.{Accepted, VramLength}
 use Rattle.refusal.specs.Refusals.{whole, first}
+use Rattle.points.specs.Points.{Reading}
 use Rattle.pixel.specs.declared.Spot.{Spot}
 use Rattle.pixel.specs.declared.Pixel.{Pixel}
-use Rattle.pixel.specs.Pixel.{onScreen, noSpot, pixelLines, spotOf, inColours}
+use Rattle.pixel.specs.Pixel.{onScreen, noSpot, pixelLines, spotOf, pixelOf}
 
 same-refusal : (t : Bool) (c : ℕ) → cond {A = Spot} t (record { refusal = Accepted; there = true; colour = c }) (noSpot Accepted) .refusal ≡ Accepted
 same-refusal true c = refl
 same-refusal false c = refl
 
-module _ (s : Screen) (reg : List ℕ) (scroll : ℕ) (vram colours : List ℕ) (y x : ℕ) where
-  abbrev here : Pixel
-  here = inColours colours (spotOf s reg scroll vram y x)
+module _ (s : Screen) (vram : List ℕ) (k : Reading) (y x : ℕ) where
+  abbrev picture : Row
+  picture = pictureOf s (k .reg) (k .raster .«vertical_scroll») vram y
 
-  pub spot-inside : length vram ≡ vramSize → y < rows s → x < columns s
-      → here ≡ record { refusal = Accepted; there = true; colour = at colours (pictureOf s reg scroll vram y .colour x) }
-  unfolding spotOf
-  spot-inside m h l = rw (eq-eqb (length vram) vramSize m, lt-ltb y (rows s) h, lt-ltb x (columns s) l)
+  pub pixel-inside : length vram ≡ vramSize → y < rows s → x < columns s → pixelOf s vram k y x ≡ record
+      { refusal = Accepted; there = true; colour = at (k .colours) (pictureOf s (k .reg) (k .raster .«vertical_scroll») vram y .colour x) }
+  unfolding pixelOf spotOf
+  pixel-inside m h l = rw (eq-eqb (length vram) vramSize m, lt-ltb y (rows s) h, lt-ltb x (columns s) l)
 
-  pub spot-outside : length vram ≡ vramSize → (rows s ≤ y) ⊎ (columns s ≤ x) → here ≡ record { refusal = Accepted; there = false; colour = 0 }
-  unfolding spotOf
-  spot-outside m o =
+  pub pixel-outside : length vram ≡ vramSize → (rows s ≤ y) ⊎ (columns s ≤ x) → pixelOf s vram k y x ≡ record
+      { refusal = Accepted; there = false; colour = 0 }
+  unfolding pixelOf spotOf
+  pixel-outside m o =
       rw (eq-eqb (length vram) vramSize m)
       (⊎-elim (λ h. rw (le-ltb y (rows s) h)) (λ l. rw (le-ltb x (columns s) l, and-false (ltb y (rows s)))) o)
 
-  pub spot-refused : length vram ≢ vramSize → here ≡ record { refusal = VramLength; there = false; colour = 0 }
-  unfolding spotOf
-  spot-refused n = rw (ne-eqb (length vram) vramSize n)
+  pub pixel-refused : length vram ≢ vramSize → pixelOf s vram k y x ≡ record { refusal = VramLength; there = false; colour = 0 }
+  unfolding pixelOf spotOf
+  pixel-refused n = rw (ne-eqb (length vram) vramSize n)
 
   -- R16.3: refused by the first line of its table that holds
-  pub spot-exact : here .refusal ≡ first (pixelLines vram)
-  unfolding spotOf
-  spot-exact = split (whole vram) (λ e. simp e (same-refusal (onScreen s y x) (pictureOf s reg scroll vram y .colour x))) (λ e. simp e)
+  pub pixel-exact : pixelOf s vram k y x .refusal ≡ first (pixelLines vram)
+  unfolding pixelOf spotOf
+  pixel-exact = split (whole vram) (λ e. simp e (same-refusal (onScreen s y x) (picture .colour x))) (λ e. simp e)
 
   -- the bytes of the row, at the pixel
   module _ (b : ℕ) (bl : b < 4) (m : length vram ≡ vramSize) (h : y < rows s) (l : x < columns s) where
     abbrev bytes : List ℕ
-    bytes = rowBytes colours (columns s) (pictureOf s reg scroll vram y)
+    bytes = rowBytes (k .colours) (columns s) picture
 
-    shown : byteOfColour (here .colour) b ≡ at bytes (4 * x + b)
+    shown : byteOfColour (pixelOf s vram k y x .colour) b ≡ at bytes (4 * x + b)
     shown =
-        ap (λ (p : Pixel). byteOfColour (p .colour) b) (spot-inside m h l)
-        ∙ sym (pixel-byte colours (columns s) (pictureOf s reg scroll vram y) x b l bl)
+        ap (λ (p : Pixel). byteOfColour (p .colour) b) (pixel-inside m h l) ∙ sym (pixel-byte (k .colours) (columns s) picture x b l bl)
 
-    pub spot-drawn : {row : List ℕ} (rest : List ℕ) → row ≡ bytes ++ rest → byteOfColour (here .colour) b ≡ at row (4 * x + b)
-    spot-drawn rest e =
-        let k : 4 * x + b < length bytes = omega (arith, length-rowBytes colours (columns s) (pictureOf s reg scroll vram y)) in
-        shown ∙ sym (ap (λ (r : List ℕ). at r (4 * x + b)) e ∙ List·getD-append bytes rest 0 (4 * x + b) k)
+    pub pixel-drawn : {row : List ℕ} (rest : List ℕ) → row ≡ rowBytes (k .colours) (columns s)
+        (pictureOf s (k .reg) (k .raster .«vertical_scroll») vram y) ++ rest
+        → byteOfColour (pixelOf s vram k y x .colour) b ≡ at row (4 * x + b)
+    pixel-drawn rest e =
+        let n : 4 * x + b < length bytes = omega (arith, length-rowBytes (k .colours) (columns s) picture) in
+        shown ∙ sym (ap (λ (r : List ℕ). at r (4 * x + b)) e ∙ List·getD-append bytes rest 0 (4 * x + b) n)
 
-    pub spot-taken : (row : List ℕ) → take (rowSize s) row ≡ bytes → byteOfColour (here .colour) b ≡ at row (4 * x + b)
-    spot-taken row e =
-        let k : 4 * x + b < rowSize s = omega (arith, row-size s) in
-        shown ∙ sym (sym (getD-take (rowSize s) row (4 * x + b) 0 k) ∙ ap (λ (r : List ℕ). at r (4 * x + b)) e)
+    pub pixel-taken : (row : List ℕ) → take (rowSize s) row ≡ rowBytes (k .colours) (columns s)
+        (pictureOf s (k .reg) (k .raster .«vertical_scroll») vram y)
+        → byteOfColour (pixelOf s vram k y x .colour) b ≡ at row (4 * x + b)
+    pixel-taken row e =
+        let n : 4 * x + b < rowSize s = omega (arith, row-size s) in
+        shown ∙ sym (sym (getD-take (rowSize s) row (4 * x + b) 0 n) ∙ ap (λ (r : List ℕ). at r (4 * x + b)) e)

@@ -10,6 +10,7 @@ use Rattle.picture.specs.Screen.{columns, rows, pictureOf}
 use Rattle.refusal.specs.declared.Refusal.{Refusal}
 use Rattle.refusal.specs.declared.Refusal.the-variants.{Accepted, VramLength}
 use Rattle.refusal.specs.Refusals.{whole, Line, line, under}
+use Rattle.points.specs.Points.{Reading}
 use Rattle.pixel.specs.declared.Spot.{Spot}
 use Rattle.pixel.specs.declared.Pixel.{Pixel}
 
@@ -34,3 +35,7 @@ spotOf s reg scroll vram y x =
 -- R16.1, R16.4: the same in these colours; its four bytes are those of the colour, all 0 where there is no pixel
 abbrev pub inColours : List ℕ → Spot → Pixel
 inColours colours s = record { refusal = s .refusal; there = s .there; colour = cond (s .there) (at colours (s .colour)) 0 }
+
+-- R16.1, R16.4: of a machine, by what a step reads of it: the registers, the latched scroll and the colours that it has now, whatever its counter reads
+unfoldable pub pixelOf : Screen → List ℕ → Reading → ℕ → ℕ → Pixel
+pixelOf s vram k y x = inColours (k .colours) (spotOf s (k .reg) (k .raster .«vertical_scroll») vram y x)

@@ -1,5 +1,5 @@
 -- The laws of the five points.
 pub mod Rows
-pub mod Views
+pub mod Sizes
 pub mod Laws
 pub mod Order

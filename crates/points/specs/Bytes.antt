@@ -75,7 +75,3 @@ pub record LayerPointsLeave (lines : List Line) (s : Screen) (vram : List ℕ) (
 abbrev pub RowLayerPointsLeave : Screen → List ℕ → Reading → List ℕ → List ℕ → Points → List ℕ → List ℕ → Type 0
 RowLayerPointsLeave s vram k row layers r row′ layers′ =
     LayerPointsLeave (rowLines s vram (length row)) s vram k row (rowFilled s vram k row) layers r row′ layers′
-
-abbrev pub FrameLayerPointsLeave : Screen → List ℕ → Reading → List ℕ → List ℕ → Points → List ℕ → List ℕ → Type 0
-FrameLayerPointsLeave s vram k frame layers r frame′ layers′ =
-    LayerPointsLeave (frameLines s vram (length frame)) s vram k frame (frameFilled s vram k frame) layers r frame′ layers′

@@ -2,4 +2,3 @@
 pub mod Points
 pub mod Bytes
 pub mod Due
-pub mod View

@@ -1,4 +1,4 @@
-// The five points of a step but for the drawing of its row: what the coming step is to do, its row or its refusal; the screen's end, the interrupt, the line count; and the view of a frame's row.
+// The five points of a step but for the drawing of its row: what the coming step is to do, its row or its refusal; the screen's end, the interrupt and the line count.
 ghost use mathlib.Core.Path.{_≡_};
 ghost use mathlib.Core.Bool.{cond, _&&_};
 ghost use mathlib.Core.List.{List};
@@ -10,7 +10,6 @@ ghost use Rattle.points.specs.declared.DrawnRow.the-variants.{NoRow, Dra
 ghost use Rattle.points.specs.Points.{interruptNumber, reportNumber, rowOn, endedBy, reportBy, interruptBy, rowLines, frameLines};
 ghost use Rattle.points.specs.Bytes.{alsoLayers};
 ghost use Rattle.points.specs.Due.{refusedDue, takenDue, layerDue, dueOf, pointsBy};
-ghost use Rattle.points.specs.View.{screenRow};
 use picture::Screen;
 use raster::Raster;
 use refusal::Refusal;
@@ -137,7 +136,7 @@ fn interrupt_of(reg: [u8; 11], status: u8, raster: Raster) -> VdpInt
 }
 
 // How many rows a frame has, and the bytes of a row; of them each column has four.
-fn row_count(screen: Screen) -> usize
+pub fn row_count(screen: Screen) -> usize
     ensures { λ r. ⌜ r ≡ rows screen ⌝ }
 {
     match screen {
@@ -264,18 +263,4 @@ pub fn finish(due: Due, reg: [u8; 11], status: u8, bits: u8) -> Points
         status: last,
         raster: up.line_interrupt_update(reg),
     }
-}
-
-// A row of a frame, as a part of the caller's own frame; the empty part where it does not fit.
-pub fn screen_row<'a>(frame: &'a [u8], screen: Screen, row: usize) -> &'a [u8]
-    ensures { λ r. ⌜ now r ≡ screenRow (now (frame .entry)) screen row ⌝ }
-{
-    let rows = row_count(screen);
-    let size = row_size(screen);
-    if (rows <= row) | (frame.len() != rows * size) {
-        return &frame[0..0];
-    }
-    let start = row * size;
-    let end = start + size;
-    &frame[start..end]
 }

@@ -3,7 +3,7 @@ ghost use mathlib.Core.Path.{_≡_};
 ghost use lib.ListN.{length};
 ghost use Rattle.picture.specs.Screen.{rowSize, frameSize};
 ghost use Rattle.points.specs.Points.{reading, bitsOf};
-ghost use Rattle.points.specs.Bytes.{rowWith, frameWith, layersBy, RowPointsLeave, FramePointsLeave, RowLayerPointsLeave, FrameLayerPointsLeave};
+ghost use Rattle.points.specs.Bytes.{rowWith, frameWith, layersBy, RowPointsLeave, FramePointsLeave, RowLayerPointsLeave};
 ghost use Rattle.points.specs.Due.{Fits, duePicture, dueLayers};
 use picture::Screen;
 use points::DrawnRow;
@@ -129,24 +129,5 @@ pub fn frame_points(
     let due = points::frame_due(reg, raster, vram, frame.len(), screen);
     let mut none = [0u8; 0];
     let bits = draw_in(due, reg, colours, vram, frame, &mut none, screen);
-    points::finish(due, reg, status, bits)
-}
-
-// The same, with the row's layers.
-pub fn layer_frame_points(
-    reg: [u8; 11],
-    raster: Raster,
-    status: u8,
-    colours: &[u32; 32],
-    vram: &[u8],
-    frame: &mut [u8],
-    layers: &mut [u8],
-    screen: Screen,
-) -> Points
-    ensures { λ r. ⌜ FrameLayerPointsLeave screen (now (vram .entry)) (reading reg raster status (now (colours .entry))) (now (frame .entry)) (now (layers .entry)) r (now (frame .exit)) (now (layers .exit)) ⌝ }
-{
-    let plain = points::frame_due(reg, raster, vram, frame.len(), screen);
-    let due = points::layer_due(plain, raster, layers.len(), screen);
-    let bits = draw_in(due, reg, colours, vram, frame, layers, screen);
     points::finish(due, reg, status, bits)
 }

@@ -6,15 +6,10 @@ use mathlib.Core.Bool.{Bool, true, false, cond, _&&_, _||_, or-false}
 use mathlib.Core.List.{List}
 use Prim.Native.Nat.{ℕ, _+_, _≤_}
 use lib.Bits.{bitOr, or-zero-r}
-use lib.Dec.{eqb}
 use lib.ListN.{length, take, drop}
-use borrow.Author.Tests.{eq-eqb, eqb-true}
 use Rattle.laws.specs.Bits.{bit}
 use Rattle.laws.specs.Lists.{rowOf}
 use Rattle.laws.proofs.Bits.{bit-or}
-use Rattle.laws.proofs.Tables.{length-table}
-use Rattle.laws.proofs.Tests.{either, split, both}
-use Rattle.dump.specs.Dump.{dumpSize, dumped}
 use Rattle.picture.specs.declared.RenderArea.{RenderArea}
 use Rattle.picture.specs.Screen.{rowSize, frameSize, statusBits}
 use Rattle.picture.specs.Area.{screenOf}
@@ -23,7 +18,7 @@ use Rattle.raster.specs.Raster.{advanced, lineInterrupt, counted, ticked}
 use Rattle.vdp.specs.declared.VdpState.{VdpState}
 use Rattle.refusal.specs.declared.Refusal.the-variants.{Accepted}
 use Rattle.vdp.specs.Device.{device, withRaster, withStatus}
-use Rattle.refusal.specs.Refusals.{whole, Line, first}
+use Rattle.refusal.specs.Refusals.{Line, first}
 use Rattle.refusal.proofs.Tables.{Passed, under-either, under-passed, under-refused, under-told}
 use Rattle.points.specs.declared.VdpInt.the-variants.{NoInterrupt, InterruptGenerated}
 use Rattle.points.specs.declared.DrawnRow.{DrawnRow}
@@ -32,8 +27,6 @@ use Rattle.step.specs.declared.Stepped.{Stepped}
 use Rattle.points.specs.Points.{risen, rowOn, comingPicture, bitsOf, atEnd, endedBy, reportBy, interruptBy, pointsOf, rowLines, frameLines}
 use Rattle.step.specs.Step.{register, lineOf, coloursNow, rowPicture, readingOf, counterUp, cleaned, stepped, refusedStep, stepWith}
 use Rattle.step.specs.Frame.{drawnBytes, rowAfter, frameAfter}
-use Rattle.dump.specs.Sheet.{dumpRefusal, sheetAfter, dumpLines}
-use Rattle.step.specs.Dump.{dumpAfter}
 use Rattle.points.proofs.Laws.{row-points-length, row-points-past, row-points-none, row-points-here}
 use Rattle.points.proofs.Laws.{frame-points-length, frame-points-other, frame-points-none, frame-points-here}
 
@@ -239,30 +232,3 @@ module _ (a : RenderArea) (vram : List ℕ) (d : VdpState) (f : List ℕ) where
       → rowOf (rowSize (screenOf a)) y (frameAfter a vram d f) ≡ drawnBytes a vram (counterUp d) y
   unfolding frameAfter
   frame-step-here y m h e = frame-points-here (screenOf a) vram (readingOf d) f y m h e
-
--- ---- the tile dump
-module _ (vram : List ℕ) (size : ℕ) where
-  -- a dump is refused by the first line of its table that holds
-  pub dump-exact : dumpRefusal vram size ≡ first (dumpLines vram size)
-  unfolding dumpRefusal
-  dump-exact = split (whole vram) (λ e. split (eqb size dumpSize) (λ f. simp (e, f)) (λ f. simp (e, f))) (λ e. simp e)
-
-module _ (d : VdpState) (vram pixels : List ℕ) where
-  abbrev dumpTest : Bool
-  dumpTest = whole vram && eqb (length pixels) dumpSize
-
-  -- the pixels that a refused dump leaves, and those of an accepted one
-  pub dump-refused : (whole vram && eqb (length pixels) dumpSize) ≡ false → dumpAfter d vram pixels ≡ pixels
-  unfolding sheetAfter
-  dump-refused t = rw t
-
-  pub dump-accepted : length vram ≡ 16384 → length pixels ≡ 131072 → dumpAfter d vram pixels ≡ dumped vram (d .reg) (d .«color_cache») pixels
-  unfolding sheetAfter
-  dump-accepted m n = rw (eq-eqb (length vram) 16384 m, eq-eqb (length pixels) 131072 n)
-
-  pub dump-length : length (dumpAfter d vram pixels) ≡ length pixels
-  unfolding sheetAfter dumped
-  dump-length =
-      either (λ (l : List ℕ). length l ≡ length pixels) dumpTest
-      (λ t. length-table 131072 _ ∙ sym (eqb-true (length pixels) 131072 (both (whole vram) (eqb (length pixels) 131072) t .1)))
-      (λ t. refl)

@@ -2,4 +2,3 @@
 pub mod Steps
 pub mod Laws
 pub mod Kept
-pub mod Pixels

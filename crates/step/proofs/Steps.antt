@@ -14,9 +14,9 @@ use Rattle.refusal.proofs.Tables.{under-map}
 use Rattle.points.specs.declared.Points.{Points}
 use Rattle.step.specs.declared.Stepped.{Stepped}
 use Rattle.points.specs.Points.{Reading, reading, rowLines, refusedPoints, pointsOf, pointsWith}
-use Rattle.points.specs.Bytes.{rowFilled, RowPointsLeave, FramePointsLeave, alsoLayers, RowLayerPointsLeave, FrameLayerPointsLeave}
+use Rattle.points.specs.Bytes.{rowFilled, RowPointsLeave, FramePointsLeave, alsoLayers, RowLayerPointsLeave}
 use Rattle.step.specs.Step.{coloursNow, readingOf, joined, stepped, refusedStep, stepWith, rowStep}
-use Rattle.step.specs.Layers.{layersAfter, RowLayersLeave, FrameLayersLeave}
+use Rattle.step.specs.Layers.{layersAfter, RowLayersLeave}
 use Rattle.step.specs.Frame.{rowAfter, frameAfter, RowStepLeaves, FrameStepLeaves}
 use Rattle.points.proofs.Order.{under-also}
 
@@ -35,7 +35,7 @@ pub reading-of :
 reading-of d e f g h = λ i. reading (e i) (f i) (g i) (h i)
 
 module _ (a : RenderArea) (vram : List ℕ) (d : VdpState) {k : Reading} (ek : k ≡ readingOf d) {s : Stepped} {p : Points} (es : s ≡ joined d p) where
-  answered : (ls : List Line) → p ≡ pointsWith ls (screenOf a) vram k → s ≡ stepWith ls a vram d
+  pub answered : (ls : List Line) → p ≡ pointsWith ls (screenOf a) vram k → s ≡ stepWith ls a vram d
   answered ls e = es ∙ ap (λ (x : Points). joined d x) (e ∙ ap (pointsWith ls (screenOf a) vram) ek) ∙ joined-with ls a vram d
 
   module _ (b : List ℕ) {b′ : List ℕ} where
@@ -52,11 +52,6 @@ module _ (a : RenderArea) (vram : List ℕ) (d : VdpState) {k : Reading} (ek : k
           s b′ layers′
       unfolding layersAfter
       row-layers-joined e = record { answer = answered _ (e .points .answer); bytes = e .points .bytes ∙ rw ek; owners = e .owners ∙ rw ek }
-
-      pub frame-layers-joined : FrameLayerPointsLeave (screenOf a) vram k b layers p b′ layers′ → FrameLayersLeave (columns (screenOf a)) a vram d b
-          layers s b′ layers′
-      unfolding layersAfter
-      frame-layers-joined e = record { answer = answered _ (e .points .answer); bytes = e .points .bytes ∙ rw ek; owners = e .owners ∙ rw ek }
 
 -- with room for its layers, a row step answers and leaves in its pixels what it does without
 pub aside :

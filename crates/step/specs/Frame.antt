@@ -1,4 +1,4 @@
--- R7.1 to R7.3: what a step of the device leaves in a row buffer and in a frame, and the view of a frame's row.
+-- R7.1, R7.2: what a step of the device leaves in a row buffer and in a frame.
 -- Assumes nothing.
 use mathlib.Core.Path.{_≡_}
 use mathlib.Core.List.{List}
@@ -11,7 +11,6 @@ use Rattle.refusal.specs.Refusals.{under}
 use Rattle.step.specs.declared.Stepped.{Stepped}
 use Rattle.points.specs.Bytes.{rowFilled, frameFilled}
 use Rattle.step.specs.Step.{coloursNow, rowPicture, readingOf, rowLines, frameLines, rowStep, frameStep}
-use Rattle.points.specs.View.{screenRow}
 
 -- the bytes of row y, as a step draws it on the device d with its counter up
 abbrev pub drawnBytes : RenderArea → List ℕ → VdpState → ℕ → List ℕ
@@ -32,7 +31,3 @@ pub record RowStepLeaves (a : RenderArea) (vram : List ℕ) (d : VdpState) (buff
 pub record FrameStepLeaves (a : RenderArea) (vram : List ℕ) (d : VdpState) (frame : List ℕ) (r : Stepped) (frame′ : List ℕ) : Type 0 where
   pub answer : r ≡ frameStep a vram (length frame) d
   pub bytes : frame′ ≡ frameAfter a vram d frame
-
--- R7.3: the row of an area
-abbrev pub rowView : List ℕ → RenderArea → ℕ → List ℕ
-rowView frame a y = screenRow frame (screenOf a) y

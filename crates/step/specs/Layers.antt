@@ -1,4 +1,4 @@
--- R15.3, R15.4: a step that tells the layers of its row too: the row step and the frame step with one buffer more.
+-- R15.3, R15.4: a step that tells the layers of its row too: it has one buffer more.
 -- Assumes nothing.
 use mathlib.Core.Path.{_≡_}
 use mathlib.Core.List.{List}
@@ -9,8 +9,8 @@ use Rattle.picture.specs.Area.{screenOf, layersOf}
 use Rattle.vdp.specs.declared.VdpState.{VdpState}
 use Rattle.refusal.specs.Refusals.{Line, under}
 use Rattle.step.specs.declared.Stepped.{Stepped}
-use Rattle.points.specs.Bytes.{alsoLayers, rowFilled, frameFilled, layersUnder}
-use Rattle.step.specs.Step.{readingOf, rowLines, frameLines, stepWith}
+use Rattle.points.specs.Bytes.{alsoLayers, rowFilled, layersUnder}
+use Rattle.step.specs.Step.{readingOf, rowLines, stepWith}
 
 -- the layers of row y, for the device's registers and latched scroll and the video memory
 abbrev pub rowLayers : RenderArea → List ℕ → VdpState → ℕ → ℕ → ℕ
@@ -28,11 +28,7 @@ pub record LayersLeave (least : ℕ) (lines : List Line) (a : RenderArea) (vram 
   pub bytes : pixels′ ≡ under (alsoLayers least (length layers) lines) (λ q. pixels) filled
   pub owners : layers′ ≡ layersAfter (alsoLayers least (length layers) lines) a vram d layers
 
--- the same of a row buffer and of a frame
+-- the same of a row buffer
 abbrev pub RowLayersLeave : ℕ → RenderArea → List ℕ → VdpState → List ℕ → List ℕ → Stepped → List ℕ → List ℕ → Type 0
 RowLayersLeave least a vram d row layers r row′ layers′ =
     LayersLeave least (rowLines a vram (length row)) a vram d row (rowFilled (screenOf a) vram (readingOf d) row) layers r row′ layers′
-
-abbrev pub FrameLayersLeave : ℕ → RenderArea → List ℕ → VdpState → List ℕ → List ℕ → Stepped → List ℕ → List ℕ → Type 0
-FrameLayersLeave least a vram d frame layers r frame′ layers′ =
-    LayersLeave least (frameLines a vram (length frame)) a vram d frame (frameFilled (screenOf a) vram (readingOf d) frame) layers r frame′ layers′

@@ -2,5 +2,3 @@
 pub mod Step
 pub mod Frame
 pub mod Layers
-pub mod Dump
-pub mod Pixel

@@ -1,4 +1,4 @@
-// The records of a recording (R7.9): what stands at an offset, a record put behind those that are there, and a reader that goes from one to the next.
+// The records of a recording (R7.9): what stands at an offset, and a record put behind those that are there. (A reader of them: crate `trace_reader`.)
 ghost use mathlib.Core.Path.{_≡_};
 ghost use Prim.Native.Nat.{_+_, _≤_};
 ghost use lib.ListN.{length, take};
@@ -7,7 +7,6 @@ ghost use Rattle.laws.specs.Lists.{written};
 ghost use Rattle.trace_record.specs.Record.{recordAt, marked};
 ghost use Rattle.trace_record.specs.Machine.{hasArea, recordOn};
 ghost use Rattle.trace_record.specs.Writer.{areaNumber, recordBytes, size, RecordLeaves};
-ghost use Rattle.trace_record.specs.Reader.{past};
 use picture::RenderArea;
 use refusal::Refusal;
 
@@ -115,7 +114,7 @@ pub fn area_number(area: RenderArea) -> u8
 }
 
 // How many bytes a record has; a bad one and the end have none.
-fn size_of(call: Record) -> u8
+pub fn size_of(call: Record) -> u8
     ensures { λ n. ⌜ n ≡ size call ⌝ }
     ensures { λ n. ⌜ n ≤ 4 ⌝ }
 {
@@ -182,68 +181,5 @@ pub fn put_record(recording: &mut [u8], used: usize, call: Record) -> Recorded
     Recorded {
         refusal: Refusal::Accepted,
         count: count,
-    }
-}
-
-// ---- one record after another
-
-// The offset behind the record at this offset; of a bad record and of the end, the offset itself.
-pub fn past_record(s: &[u8], at: usize) -> usize
-    ensures { λ r. ⌜ r ≡ past (now (s .entry)) at ⌝ }
-{
-    let call = record_at(s, at);
-    at + size_of(call) as usize
-}
-
-// Whether this offset is at the end, or past it.
-pub fn at_end(s: &[u8], at: usize) -> bool
-    ensures { λ r. ⌜ r ≡ leb (length (now (s .entry))) at ⌝ }
-{
-    s.len() <= at
-}
-
-// R19.3: a recording and a place in it.
-pub struct Reader<'a> {
-    pub recording: &'a [u8],
-    pub at: usize,
-}
-
-impl<'a> Reader<'a> {
-    // At the first byte.
-    pub fn new(recording: &'a [u8]) -> Reader<'a>
-        ensures { λ r. ⌜ (r .recording ≡ recording .entry) × (r .at ≡ 0) ⌝ }
-    {
-        Reader { recording, at: 0 }
-    }
-
-    // The record that it hands out next, which is the one that it stands at.
-    pub fn next_record(self) -> Record
-        ensures { λ r. ⌜ r ≡ recordAt (now (self .entry .recording)) (self .entry .at) ⌝ }
-    {
-        record_at(self.recording, self.at)
-    }
-
-    // The reader behind that record, where it is a call; else the same reader.
-    pub fn past(self) -> Reader<'a>
-        ensures { λ r. ⌜ (r .recording ≡ self .entry .recording) × (r .at ≡ past (now (self .entry .recording)) (self .entry .at)) ⌝ }
-    {
-        Reader {
-            recording: self.recording,
-            at: past_record(self.recording, self.at),
-        }
-    }
-
-    // Whether it has come to the end.
-    pub fn ended(self) -> bool
-        ensures { λ r. ⌜ r ≡ leb (length (now (self .entry .recording))) (self .entry .at) ⌝ }
-    {
-        at_end(self.recording, self.at)
-    }
-
-    // The offset that it stands at.
-    pub fn place(self) -> usize
-        ensures { λ r. ⌜ r ≡ self .entry .at ⌝ }
-    {
-        self.at
     }
 }

@@ -3,7 +3,7 @@ use borrow.Author.Needs.{needs}
 use mathlib.Core.Path.{_∙_}
 use native.Mathlib.Omega.{arith}
 use Rattle.points.proofs.Order.{frame-due-8, frame-due-9, frame-due-12, frame-due-taken}
-use Rattle.points.proofs.Views.{frame-is, frame-low}
+use Rattle.points.proofs.Sizes.{frame-is, frame-low}
 use Rattle.points.proofs.frame_due.Statement.{statement}
 use Rattle.points.proofs.frame_due.Tie as tie
 

@@ -6,7 +6,7 @@ use native.Mathlib.Omega.{arith}
 use Rattle.picture.specs.Screen.{columns}
 use Rattle.points.specs.declared.Due.{Due}
 use Rattle.points.proofs.Order.{also-refused, also-16, also-taken}
-use Rattle.points.proofs.Views.{quarter}
+use Rattle.points.proofs.Sizes.{quarter}
 use Rattle.points.proofs.layer_due.Statement.{statement}
 use Rattle.points.proofs.layer_due.Tie as tie
 

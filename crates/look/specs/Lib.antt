@@ -1,0 +1,3 @@
+-- What the contracts of `look` cite.
+pub mod View
+pub mod Layers
