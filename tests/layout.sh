@@ -75,6 +75,22 @@ done
 [ -z "$bare" ]
 tell "every public function has its theorem of one outcome, or is an exception of docs/CONTRACTS.md" $?
 
+# `make` proves what it builds. (The marks that a bitmap has are asked for by nobody yet; it is the Rust's, and small.)
+idle=$(for crate in $(sh tools/crates.sh programs face); do find "crates/$crate/src" -name '*.rt'; done | xargs awk '
+    { sub(/\/\/.*/, "") }
+    match($0, /pub fn [a-z0-9_]+/) { public[substr($0, RSTART + 7, RLENGTH - 7)] }
+    {
+        gsub(/fn [a-z0-9_]+/, "")
+        while (match($0, /[a-z0-9_]+\(/)) {
+            called[substr($0, RSTART, RLENGTH - 1)]
+            $0 = substr($0, RSTART + RLENGTH)
+        }
+    }
+    END { for (f in public) if (!(f in called) && f != "get") print f }' | sort)
+[ -z "$idle" ] || printf 'public, and called by nothing that make builds: %s\n' $idle
+[ -z "$idle" ]
+tell "every public function that make proves is called by what it builds" $?
+
 # Of each row of a table of functions the column "Rules out" has two wrong answers or more, with a semicolon between them.
 few=$(awk -F ' [|] ' '/^[|] Function/ { for (k = 1; k <= NF; k++) if ($k == "Rules out") column = k; next }
     !/^[|]/ { column = 0 } column && !/^[|]---/ && $column !~ /;/ { print FILENAME ": " $1 }' docs/CONTRACTS.md)

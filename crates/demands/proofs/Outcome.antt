@@ -59,8 +59,8 @@ use Rattle.sprites.proofs.height
 use Rattle.sprites.proofs.line_at as sprite-line-at
 use Rattle.sprites.proofs.next_sprite
 use Rattle.picture.specs.Tile.{mapColour}
-use Rattle.pixel_column.specs.Column.{lineAt}
-use Rattle.pixel_column.proofs.column_at
+use Rattle.pixel.specs.Column.{lineAt}
+use Rattle.pixel.proofs.one_column.column_at
 use Rattle.pixel.proofs.spot_at
 use Rattle.row.proofs.render_line
 use Rattle.refusal.proofs.refusal_number
@@ -68,9 +68,7 @@ use Rattle.front.proofs.Front.write as front_write
 use Rattle.front.proofs.Front.read as front_read
 use Rattle.vdp.specs.Device.{fresh}
 use Rattle.vdp.proofs.VdpState.new
-use Rattle.vdp.proofs.VdpState.with_raster
 use Rattle.vdp.proofs.VdpState.with_table
-use Rattle.vdp.proofs.VdpState.with_cache
 use Rattle.vdp.proofs.VdpState.out
 use Rattle.vdp.proofs.VdpState.input
 use Rattle.points.proofs.interrupt_number
@@ -81,11 +79,11 @@ use Rattle.points.proofs.row_count
 use Rattle.points.proofs.frame_due
 use Rattle.points.proofs.layer_due
 use Rattle.points.proofs.finish
-use Rattle.points_run.proofs.draw
-use Rattle.points_run.proofs.draw_in
-use Rattle.points_run.proofs.row_points
-use Rattle.points_run.proofs.frame_points
-use Rattle.points_run.proofs.layer_row_points
+use Rattle.row.proofs.points_run.draw
+use Rattle.row.proofs.points_run.draw_in
+use Rattle.row.proofs.points_run.row_points
+use Rattle.row.proofs.points_run.frame_points
+use Rattle.row.proofs.points_run.layer_row_points
 use Rattle.look.proofs.layer_frame_points
 use Rattle.step.proofs.row_step
 use Rattle.step.proofs.frame_step
@@ -161,12 +159,11 @@ use Rattle.face.proofs.vdp_record_step
 use Rattle.face.proofs.vdp_record_next
 use Rattle.trace_run.proofs.Device.handheld as device-handheld
 use Rattle.trace_run.proofs.Device.home as device-home
-use Rattle.trace_end.proofs.put_last
-use Rattle.trace_end.proofs.pixel_count
-use Rattle.trace_end.proofs.put_picture
+use Rattle.trace_text.proofs.end.put_last
+use Rattle.trace_text.proofs.end.pixel_count
+use Rattle.trace_text.proofs.end.put_picture
 use Rattle.trace_run.proofs.output.trace
 use Rattle.trace_run.proofs.output.snapshot
-use Rattle.trace_run.proofs.output.layers
 use Rattle.trace_run.specs.Run.{World}
 use Rattle.trace_text.proofs.put_numbered
 use Rattle.trace_text.proofs.put_answer
@@ -425,12 +422,6 @@ new-once κs a q z z′ w w′ e f = (e ∙ sym f, refl)
 
 pub with-table-once : OneOutcome 0 with_table.Kinds.ps with_table.Kinds.r with_table.Reads.Asked with_table.Reads.Learnt
 with-table-once κs a q z z′ w w′ e f = (e ∙ sym f, refl)
-
-pub with-raster-once : OneOutcome 0 with_raster.Kinds.ps with_raster.Kinds.r with_raster.Reads.Asked with_raster.Reads.Learnt
-with-raster-once κs a q z z′ w w′ e f = (e ∙ sym f, refl)
-
-pub with-cache-once : OneOutcome 0 with_cache.Kinds.ps with_cache.Kinds.r with_cache.Reads.Asked with_cache.Reads.Learnt
-with-cache-once κs a q z z′ w w′ e f = (e ∙ sym f, refl)
 
 pub front-write-once : OneOutcome 1 front_write.Kinds.ps front_write.Kinds.r front_write.Reads.Asked front_write.Reads.Learnt
 front-write-once κs a q z z′ w w′ e f = (e .answer ∙ sym (f .answer), λ i. (tt, ((e .memory ∙ sym (f .memory)) i, w .1 .1)))
@@ -821,23 +812,11 @@ snapshot-once κs a q z z′ w w′ e f = (
     (
       tt,
       (
-        (e .0 .memory ∙ sym (f .0 .memory)) i,
-        ((e .0 .pixels ∙ sym (f .0 .pixels)) i, ((e .0 .picture ∙ sym (f .0 .picture)) i, ((e .0 .bytes ∙ sym (f .0 .bytes)) i, tt))),
-      ),
-    ),
-  ),
-)
-
-pub layers-once : OneOutcome 5 layers.Kinds.ps layers.Kinds.r layers.Reads.Asked layers.Reads.Learnt
-layers-once κs a q z z′ w w′ e f = (
-  e .0 .count ∙ sym (f .0 .count),
-  λ i. (
-    tt,
-    (
-      tt,
-      (
-        (e .0 .memory ∙ sym (f .0 .memory)) i,
-        ((e .0 .pixels ∙ sym (f .0 .pixels)) i, ((e .0 .picture ∙ sym (f .0 .picture)) i, ((e .0 .bytes ∙ sym (f .0 .bytes)) i, tt))),
+        tt,
+        (
+          (e .0 .memory ∙ sym (f .0 .memory)) i,
+          ((e .0 .pixels ∙ sym (f .0 .pixels)) i, ((e .0 .picture ∙ sym (f .0 .picture)) i, ((e .0 .bytes ∙ sym (f .0 .bytes)) i, tt))),
+        ),
       ),
     ),
   ),

@@ -25,7 +25,7 @@ use Rattle.passes.specs.Machine.{Told, Machine}
 -- `layers` that of the layer buffer. (Nothing is assumed of how the memory lent to one call is related to that lent to the next.)
 -- It has the name of its function. The other public functions of these crates make a device, give a number, are parts that the calls are made of, or take no
 -- device and give no refusal; the test suite `layout` holds both lists to the code:
--- No calls of vdp: new, with_table, with_raster, with_cache.
+-- No calls of vdp: new, with_table.
 -- No calls of step: colours_of, join.
 -- No calls of look: screen_row, layer_frame_points, row_view.
 -- No calls of tile_codes: sheet.

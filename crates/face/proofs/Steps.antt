@@ -12,7 +12,7 @@ use Rattle.points.specs.declared.Points.{Points}
 use Rattle.points.specs.Points.{Reading, bitsOf, pointsWith}
 use Rattle.points.specs.Bytes.{rowWith, frameWith, layersBy, rowFilled, frameFilled, layersUnder}
 use Rattle.points.specs.Due.{dueOf, duePicture, dueLayers, pointsBy}
-use Rattle.points_run.proofs.Steps.{due-row, answered, owned, row-filled, frame-filled}
+use Rattle.row.proofs.Steps.{due-row, answered, owned, row-filled, frame-filled}
 
 module _ (ls : List Line) (z : Screen) (m : List ℕ) (k : Reading) {reg : List ℕ} {raster : Raster} {status : ℕ} {d : Due} {colours : List ℕ} {p : Points}
     (eg : reg ≡ k .reg) (et : raster ≡ k .raster) (eu : status ≡ k .status) (ec : (y : ℕ) → d .row ≡ Drawn y → colours ≡ k .colours)

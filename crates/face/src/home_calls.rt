@@ -19,6 +19,7 @@ use picture::Screen;
 use points::DrawnRow;
 use points::Due;
 use refusal::Refusal;
+use row::points_run;
 
 // A fresh device of this table into the block.
 #[no_mangle]

@@ -29,6 +29,7 @@ use picture::Screen;
 use points::DrawnRow;
 use points::Due;
 use refusal::Refusal;
+use row::points_run;
 use trace_record::Record;
 use trace_record::Recorded;
 

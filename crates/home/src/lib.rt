@@ -2,7 +2,7 @@
 // step is the five points for the home screen. Video memory is lent by the caller. (What else is asked of its record: crate `look`.)
 ghost use mathlib.Core.Path.{_≡_};
 ghost use Prim.Native.Nat.{_<_};
-ghost use Rattle.home.specs.Home.{paletteSize, made, fresh, withFront, withRaster, withCache};
+ghost use Rattle.home.specs.Home.{paletteSize, made, fresh};
 ghost use Rattle.home.specs.Ports.{paletteWrite, WriteLeaves, portRead};
 ghost use Rattle.home.specs.Step.{coloursNow, cleaned, joined, RowStepLeaves, FrameStepLeaves};
 use front::Front;
@@ -14,6 +14,7 @@ use points::VdpInt;
 use raster::LineTable;
 use raster::Raster;
 use refusal::Refusal;
+use row::points_run;
 
 // The bytes of the palette.
 pub const PALETTE_SIZE: u16 = 32;
@@ -70,104 +71,54 @@ impl HomeState {
         }
     }
 
-    // The same device with another front.
-    fn with_front(self, front: Front) -> Self
-        ensures { λ r. ⌜ r ≡ withFront self front ⌝ }
-    {
-        let raster = self.raster;
-        let cram = self.cram;
-        let color_cache = self.color_cache;
-        HomeState {
-            front: front,
-            raster: raster,
-            cram: cram,
-            cram_dirty: self.cram_dirty,
-            color_cache: color_cache,
-        }
-    }
-
-    // The same device with another raster.
-    fn with_raster(self, raster: Raster) -> Self
-        ensures { λ r. ⌜ r ≡ withRaster self raster ⌝ }
-    {
-        let front = self.front;
-        let cram = self.cram;
-        let color_cache = self.color_cache;
-        HomeState {
-            front: front,
-            raster: raster,
-            cram: cram,
-            cram_dirty: self.cram_dirty,
-            color_cache: color_cache,
-        }
-    }
-
-    // The same device with another cache of colours, which is not dirty.
-    fn with_cache(self, colours: [u32; 32]) -> Self
-        ensures { λ r. ⌜ r ≡ withCache self colours ⌝ }
-    {
-        let front = self.front;
-        let raster = self.raster;
-        let cram = self.cram;
-        HomeState {
-            front: front,
-            raster: raster,
-            cram: cram,
-            cram_dirty: false,
-            color_cache: colours,
-        }
-    }
-
     // A byte for the palette (R20.3): it is stored at once.
-    fn write_palette(self, val: u8) -> HomeWritten
+    fn write_palette(mut self, val: u8) -> HomeWritten
         requires { ⌜ self .front .addr < paletteSize ⌝ }
         ensures { λ r. ⌜ r ≡ paletteWrite self val ⌝ }
     {
-        let mut front = self.front;
-        let addr = front.addr;
+        let addr = self.front.addr;
         let here = addr as usize;
-        front.addr = (addr + 1) % PALETTE_SIZE;
-        let mut home = self.with_front(front);
-        let was = home.cram[here];
-        home.cram_dirty = home.cram_dirty | (was != val);
-        home.cram[here] = val;
+        self.front.addr = (addr + 1) % PALETTE_SIZE;
+        let was = self.cram[here];
+        self.cram_dirty = self.cram_dirty | (was != val);
+        self.cram[here] = val;
         HomeWritten {
             refusal: Refusal::Accepted,
-            home: home,
+            home: self,
         }
     }
 
     // A port write: the palette is the device's own, and all else is its front's.
-    pub fn out(self, vram: &mut [u8], addr: u16, val: u8) -> HomeWritten
+    pub fn out(mut self, vram: &mut [u8], addr: u16, val: u8) -> HomeWritten
         ensures { λ r. ⌜ WriteLeaves self (now (vram .entry)) addr val r (now (vram .exit)) ⌝ }
     {
         let front = self.front;
         let sent = front.write(vram, PALETTE_SIZE, addr, val);
         let left = sent.front;
-        let home = self.with_front(left);
+        self.front = left;
         if sent.palette {
-            return home.write_palette(val);
+            return self.write_palette(val);
         }
         let refusal = sent.refusal;
         HomeWritten {
             refusal: refusal,
-            home: home,
+            home: self,
         }
     }
 
     // A port read, all of it the front's but for the line counter.
-    pub fn input(self, vram: &[u8], addr: u16) -> HomeRead
+    pub fn input(mut self, vram: &[u8], addr: u16) -> HomeRead
         ensures { λ r. ⌜ r ≡ portRead self (now (vram .entry)) addr ⌝ }
     {
-        let raster = self.raster;
         let front = self.front;
-        let got = front.read(vram, addr, raster.v_counter);
+        let got = front.read(vram, addr, self.raster.v_counter);
         let refusal = got.refusal;
         let left = got.front;
+        self.front = left;
         HomeRead {
             refusal: refusal,
             byte: got.byte,
-            home: self.with_front(left),
+            home: self,
         }
     }
 }
@@ -185,13 +136,15 @@ fn colours_of(home: HomeState) -> [u32; 32]
 }
 
 // The device after a step that drew this row: clean colours, if it drew one.
-fn clean(home: HomeState, row: DrawnRow, colours: [u32; 32]) -> HomeState
+fn clean(mut home: HomeState, row: DrawnRow, colours: [u32; 32]) -> HomeState
     ensures { λ r. ⌜ r ≡ cleaned row home colours ⌝ }
 {
-    match row {
-        DrawnRow::NoRow => home,
-        DrawnRow::Drawn(_) => home.with_cache(colours),
-    }
+    let DrawnRow::Drawn(_) = row else {
+        return home;
+    };
+    home.cram_dirty = false;
+    home.color_cache = colours;
+    home
 }
 
 // The answer of the device's own step, from what the points answer and leave.
@@ -206,12 +159,13 @@ fn join(home: HomeState, points: Points, colours: [u32; 32]) -> HomeStepped
     let raster = points.raster;
     let mut next = clean(home, row, colours);
     next.front.status = points.status;
+    next.raster = raster;
     HomeStepped {
         refusal: refusal,
         interrupt: interrupt,
         report: report,
         row: row,
-        home: next.with_raster(raster),
+        home: next,
     }
 }
 

@@ -16,6 +16,7 @@ use pixel::Pixel;
 use points::Points;
 use raster::Raster;
 use refusal::Refusal;
+use row::points_run;
 use step::Stepped;
 use vdp::VdpState;
 

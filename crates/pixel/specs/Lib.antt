@@ -1,2 +1,3 @@
 -- What the contracts of `pixel` cite.
 pub mod Pixel
+pub mod Column

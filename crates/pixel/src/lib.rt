@@ -1,4 +1,4 @@
-// One pixel on its own (R16.1 to R16.4): the screen's column of its row, by crate `pixel_column`. No row is drawn.
+// One pixel on its own (R16.1 to R16.4): the screen's column of its row (one_column.rt). No row is drawn.
 ghost use mathlib.Core.Path.{_≡_};
 ghost use Prim.Native.Nat.{ℕ, _<_};
 ghost use lib.ListN.{length};
@@ -6,6 +6,11 @@ ghost use Rattle.laws.specs.Sizes.{vramSize};
 ghost use Rattle.picture.specs.declared.Screen.the-variants.{VisibleOnly, EffectiveArea, Home};
 ghost use Rattle.picture.specs.Screen.{columns, rows, pictureOf};
 ghost use Rattle.pixel.specs.Pixel.{onScreen, spotOf};
+
+pub mod one_column;
+
+use one_column::Scene;
+use one_column::column_at;
 use picture::GG_VISIBLE_AREA_START_Y;
 use picture::GG_VISIBLE_MAP_X;
 use picture::GG_VISIBLE_PIXEL_HEIGHT;
@@ -15,8 +20,6 @@ use picture::HOME_PIXEL_WIDTH;
 use picture::SCROLL_PIXEL_HEIGHT;
 use picture::SCROLL_PIXEL_WIDTH;
 use picture::Screen;
-use pixel_column::Scene;
-use pixel_column::column_at;
 use refusal::Refusal;
 use small::VRAM_SIZE;
 

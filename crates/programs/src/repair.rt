@@ -1,25 +1,46 @@
 // The program that mends a damaged state block, or says `bad`; each byte that changes is told on standard error.
 ghost use mathlib.Core.Path.{_≡_};
+ghost use Prim.Native.Nat.{_≤_};
 ghost use lib.ListN.{length};
 use libc::STDERR_FILENO;
 
-// What stands at an offset of a block that a repair may change; answers as write_all does.
-fn tell_field(at: usize) -> bool {
+// Where the name of what stands at an offset that a repair may change ends in the names below, of which each has a row of 24 bytes.
+fn name_end(at: usize) -> usize
+    ensures { λ r. ⌜ r ≤ 288 ⌝ }
+{
     match at {
-        0 => io::write_all(STDERR_FILENO, b"mark"),
-        1 => io::write_all(STDERR_FILENO, b"mark"),
-        15 => io::write_all(STDERR_FILENO, b"jump flag"),
-        17 => io::write_all(STDERR_FILENO, b"address (low byte)"),
-        18 => io::write_all(STDERR_FILENO, b"address (high byte)"),
-        20 => io::write_all(STDERR_FILENO, b"chosen memory"),
-        21 => io::write_all(STDERR_FILENO, b"command latch (flag)"),
-        22 => io::write_all(STDERR_FILENO, b"command latch (byte)"),
-        23 => io::write_all(STDERR_FILENO, b"palette latch (flag)"),
-        24 => io::write_all(STDERR_FILENO, b"palette latch (byte)"),
-        26 => io::write_all(STDERR_FILENO, b"dirty flag"),
-        219 => io::write_all(STDERR_FILENO, b"table"),
-        _ => io::write_all(STDERR_FILENO, b"other"),
+        0 | 1 => 4,
+        15 => 33,
+        17 => 66,
+        18 => 91,
+        20 => 109,
+        21 => 140,
+        22 => 164,
+        23 => 188,
+        24 => 212,
+        26 => 226,
+        219 => 245,
+        _ => 269,
     }
+}
+
+// What stands there; answers as write_all does.
+fn tell_field(at: usize) -> bool {
+    let to = name_end(at);
+    let from = to / 24 * 24;
+    let names = *b"mark                    \
+            jump flag               \
+            address (low byte)      \
+            address (high byte)     \
+            chosen memory           \
+            command latch (flag)    \
+            command latch (byte)    \
+            palette latch (flag)    \
+            palette latch (byte)    \
+            dirty flag              \
+            table                   \
+            other                   ";
+    io::write_all(STDERR_FILENO, &names[from..to])
 }
 
 // A hexadecimal digit, as the trace programs print it.
@@ -80,20 +101,7 @@ fn mended(block: &mut [u8]) -> bool {
     refusal::refusal_number(refusal) == 0
 }
 
-// Writes the block mended, and tells what has changed since it was `old`; where it cannot be written, that alone is told.
-fn mend(name: &[u8], old: &[u8], block: &mut [u8])
-    requires { ⌜ length (now old) ≡ length (now block) ⌝ }
-{
-    if mended(block) {
-        if program::output(name, block) {
-            tell_changes(old, block);
-        }
-        return;
-    }
-    program::output(name, b"bad\n");
-}
-
-// The program at work. It answers that it has run.
+// The program at work: it writes the block mended, and tells what has changed; where it cannot be written, that alone is told. It answers that it has run.
 fn run(name: &[u8], help: &[u8]) -> bool {
     // Room for the longest block and one byte more: where that is filled, there is too much, and nothing that follows could change it.
     let mut block = [0u8; 221];
@@ -101,7 +109,13 @@ fn run(name: &[u8], help: &[u8]) -> bool {
     if taken.ready {
         let n = taken.len;
         let old = block;
-        mend(name, &old[..n], &mut block[..n]);
+        if !mended(&mut block[..n]) {
+            program::output(name, b"bad\n");
+            return true;
+        }
+        if program::output(name, &block[..n]) {
+            tell_changes(&old[..n], &block[..n]);
+        }
     }
     true
 }

@@ -1,28 +1,16 @@
 // The programs that print what a recording does, call by call, on a fresh device: `trace` on one of the chart's line table, `trace-261` on one of the line table
 // with 261 steps, for recordings kept from before the chart, `home-trace` on a home device.
-use crate::recording::TEXT;
-use trace_run::Device;
-
-// The trace program. Its video memory and its row buffer come first (R11.3), then its input. It answers that it has run.
-pub fn run(device: Device, name: &[u8], help: &[u8]) -> bool {
-    let mut vram = [0u8; 16384];
-    let mut row = [0u8; 1024];
-    let mut input = io::large_buffer();
-    let mut text = program::text_room();
-    let taken = program::input(name, help, &mut input);
-    if taken.ready {
-        let n = taken.len;
-        let k = trace_run::output::trace(device, &input[..n], &mut vram, &mut row, &mut text);
-        program::output(name, &text[..k]);
-    }
-    true
-}
+use crate::recording::HOME;
+use crate::recording::STEPS_261;
+use crate::recording::STEPS_262;
+use trace_run::Shown;
 
 // Each answers whether it is the one that is called so; it has then run.
 pub fn trace_261(called: &[u8]) -> bool {
     if program::same(called, b"trace-261") {
-        return crate::recording::on_261(
-            TEXT,
+        return crate::recording::run(
+            Shown::Nothing,
+            STEPS_261,
             called,
             b"usage: trace-261 [FILE]\n\
                 Runs the trace in FILE, or on standard input (no FILE, or -), on a fresh device (261 steps to a pass; trace has 262), and prints a line for each call.\n\
@@ -36,8 +24,9 @@ pub fn trace_261(called: &[u8]) -> bool {
 
 pub fn home_trace(called: &[u8]) -> bool {
     if program::same(called, b"home-trace") {
-        return crate::recording::on_home(
-            TEXT,
+        return crate::recording::run(
+            Shown::Nothing,
+            HOME,
             called,
             b"usage: home-trace [FILE]\n\
                 Runs the trace in FILE, or on standard input (no FILE, or -), on a fresh home device (262 steps to a pass), and prints a line for each call.\n\
@@ -51,8 +40,9 @@ pub fn home_trace(called: &[u8]) -> bool {
 
 // The one that runs by any other name.
 pub fn trace() {
-    crate::recording::on_262(
-        TEXT,
+    crate::recording::run(
+        Shown::Nothing,
+        STEPS_262,
         b"trace",
         b"usage: trace [FILE]\n\
             Runs the trace in FILE, or on standard input (no FILE, or -), on a fresh device (262 steps to a pass; trace-261 has 261), and prints a line for each call.\n\

@@ -13,6 +13,9 @@ ghost use Rattle.picture.specs.Screen.{columns, rows, rowSize, pictureOf};
 ghost use Rattle.picture.specs.Layers.{layersOf, layersIn};
 ghost use Rattle.background.specs.Background.{Room, backColour, shade, prioTo};
 ghost use Rattle.row.specs.Row.{Drawn, Backed};
+
+pub mod points_run;
+
 use bitmap::Bitmap;
 use picture::GG_VISIBLE_AREA_START_Y;
 use picture::GG_VISIBLE_MAP_X;

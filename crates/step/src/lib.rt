@@ -11,6 +11,7 @@ use points::DrawnRow;
 use points::Points;
 use points::VdpInt;
 use refusal::Refusal;
+use row::points_run;
 use vdp::VdpState;
 
 // What a step answers, with the device that it leaves.
@@ -35,13 +36,15 @@ pub fn colours_of(vdp: VdpState) -> [u32; 32]
 }
 
 // The device after a step that drew this row: clean colours, if it drew one.
-fn clean(vdp: VdpState, row: DrawnRow, colours: [u32; 32]) -> VdpState
+fn clean(mut vdp: VdpState, row: DrawnRow, colours: [u32; 32]) -> VdpState
     ensures { λ r. ⌜ r ≡ cleaned row vdp colours ⌝ }
 {
-    match row {
-        DrawnRow::NoRow => vdp,
-        DrawnRow::Drawn(_) => vdp.with_cache(colours),
-    }
+    let DrawnRow::Drawn(_) = row else {
+        return vdp;
+    };
+    vdp.cram_dirty = false;
+    vdp.color_cache = colours;
+    vdp
 }
 
 // The answer of the device's own step, from what its points answer and leave, and the colours that they drew with.
@@ -56,12 +59,13 @@ pub fn join(vdp: VdpState, points: Points, colours: [u32; 32]) -> Stepped
     let raster = points.raster;
     let mut next = clean(vdp, row, colours);
     next.status = points.status;
+    next.raster = raster;
     Stepped {
         refusal: refusal,
         interrupt: interrupt,
         report: report,
         row: row,
-        vdp: next.with_raster(raster),
+        vdp: next,
     }
 }
 

@@ -17,8 +17,8 @@ use Rattle.picture.specs.Screen.{frameSize}
 use Rattle.trace_run.specs.declared.Device.{Device}
 use Rattle.trace_text.specs.Text.{longLine}
 use Rattle.trace_run.specs.Run.{World, Turn, start, rowTurn, after, lines, ran}
-use Rattle.trace_end.specs.End.{lastLine, pixels, pixelCount, pictureRoom, drawn}
-use Rattle.trace_end.proofs.End.{frame-bytes, many-pixels}
+use Rattle.trace_text.specs.End.{lastLine, pixels, pixelCount, pictureRoom, drawn}
+use Rattle.trace_text.proofs.Endings.{frame-bytes, many-pixels}
 use Rattle.trace_run.specs.Output.{text, printed, screenFor, pictured, Left, left, leaves, traced, snapped, TraceLeaves, RunLeaves, PictureLeaves}
 use Rattle.trace_text.proofs.Lines.{grow}
 

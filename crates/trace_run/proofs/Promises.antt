@@ -23,7 +23,7 @@ use Rattle.trace_run.specs.Device.{handheld}
 use Rattle.trace_text.specs.Text.{lineOf, endLine, badLine}
 use Rattle.trace_record.specs.Machine.{hasArea, takenBy}
 use Rattle.trace_run.specs.Run.{World, Turn, start, turnBy, turnOf, after, lines, ran}
-use Rattle.trace_end.specs.End.{lastLine}
+use Rattle.trace_text.specs.End.{lastLine}
 use Rattle.trace_run.specs.Output.{text}
 use Rattle.trace_run.specs.Promises.{ranAll, linesAll, ReadsAlong, Runs, ReaderRuns, runBy, MachineRuns}
 use Rattle.trace_run.proofs.Runs.{write-machine, read-machine, Moves, row-moves, moves-for}

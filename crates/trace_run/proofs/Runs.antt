@@ -12,7 +12,6 @@ use Rattle.laws.proofs.Tests.{either}
 use Rattle.picture.specs.declared.RenderArea.{RenderArea}
 use Rattle.picture.specs.declared.RenderArea.the-variants.{VisibleOnly, EffectiveArea, TrueEdges}
 use Rattle.picture.specs.Area.{frameSize}
-use Rattle.refusal.specs.declared.Refusal.{Refusal}
 use Rattle.refusal.specs.Refusals.{refusalNumber}
 use Rattle.points.specs.declared.VdpInt.{VdpInt}
 use Rattle.points.specs.declared.VdpInt.the-variants.{NoInterrupt, InterruptGenerated}
@@ -41,13 +40,13 @@ use Rattle.trace_run.specs.Run.{turnOf, after, lines, TurnLeaves}
 use Rattle.trace_text.proofs.Lines.{decimal-short, one, grow}
 
 -- ---- how long a line is
-pub wrote-short : (f : Refusal) → length (lineOf (Says.Wrote f)) ≤ 8
+pub wrote-short : (n : ℕ) → length (lineOf (Says.Wrote n)) ≤ 8
 unfolding lineOf
-wrote-short f = simp length-append (omega (arith, decimal-short (refusalNumber f)))
+wrote-short n = simp length-append (omega (arith, decimal-short n))
 
-pub gave-short : (f : Refusal) (b : ℕ) → length (lineOf (Says.Gave f b)) ≤ 11
+pub gave-short : (n b : ℕ) → length (lineOf (Says.Gave n b)) ≤ 11
 unfolding lineOf
-gave-short f b = simp length-append (omega (arith, decimal-short (refusalNumber f)))
+gave-short n b = simp length-append (omega (arith, decimal-short n))
 
 interrupt-one : (i : VdpInt) → interruptNumber i < 10
 interrupt-one NoInterrupt = lit≤ tt
@@ -63,14 +62,13 @@ abbrev rest : ℕ → VdpInt → DisplayRefresh → List ℕ
 rest c i d = 0x20 ∷ hexDigit (c / 16) ∷ hexDigit (c % 16) ∷ 0x20 ∷ digitOf (interruptNumber i) ∷ 0x20 ∷ digitOf (reportNumber d) ∷ 0x0A ∷ []
 
 stepped-line :
-    (f : Refusal) (c : ℕ) (i : VdpInt) (d : DisplayRefresh) → lineOf (Says.Stepped f c i d) ≡ 0x73 ∷ 0x20 ∷ (decimal (refusalNumber f) ++ rest c i d)
+    (n c : ℕ) (i : VdpInt) (d : DisplayRefresh) → lineOf (Says.Stepped n c i d) ≡ 0x73 ∷ 0x20 ∷ (decimal n ++ rest c i d)
 unfolding lineOf
-stepped-line f c i d = rw (one (interruptNumber i) (interrupt-one i), one (reportNumber d) (report-one d))
+stepped-line n c i d = rw (one (interruptNumber i) (interrupt-one i), one (reportNumber d) (report-one d))
 
-pub stepped-short : (f : Refusal) (c : ℕ) (i : VdpInt) (d : DisplayRefresh) → length (lineOf (Says.Stepped f c i d)) ≤ 15
-stepped-short f c i d =
-    let n = refusalNumber f in
-    let k = ap length (stepped-line f c i d) ∙ ap (λ (m : ℕ). suc (suc m)) (length-append (decimal n) (rest c i d)) in
+pub stepped-short : (n c : ℕ) (i : VdpInt) (d : DisplayRefresh) → length (lineOf (Says.Stepped n c i d)) ≤ 15
+stepped-short n c i d =
+    let k = ap length (stepped-line n c i d) ∙ ap (λ (m : ℕ). suc (suc m)) (length-append (decimal n) (rest c i d)) in
     omega (arith, decimal-short n)
 
 -- ---- no call makes another machine of a device
@@ -102,7 +100,7 @@ abbrev pub Moves : (RenderArea → World → Turn) → Type 0
 Moves step = (a : RenderArea) (w : World) → Moved w (step a w)
 
 answer-short : (s : AfterStep) → length (lineOf (stepAnswer s)) ≤ 15
-answer-short s = stepped-short (s .refusal) (s .counter) (s .interrupt) (s .report)
+answer-short s = stepped-short (refusalNumber (s .refusal)) (s .counter) (s .interrupt) (s .report)
 
 pub row-moves : Moves rowTurn
 unfolding rowTurn
@@ -198,14 +196,14 @@ module _ {step : RenderArea → World → Turn} (moves : Moves step) where
         inside = omega arith;
         counted = omega arith;
         short = simp length-append
-            (omega (arith, wrote-short (deviceWrite (w .run .device) (w .vram) p v .refusal)));
+            (omega (arith, wrote-short (refusalNumber (deviceWrite (w .run .device) (w .vram) p v .refusal))));
       }
   small-by (Read p) n w t h g =
       let i = g .inside in
       let k = g .counted in
       let s = g .short in
       let a = deviceRead (w .run .device) (w .vram) p in
-      record { inside = omega arith; counted = omega arith; short = simp length-append (omega (arith, gave-short (a .refusal) (a .byte))) }
+      record { inside = omega arith; counted = omega arith; short = simp length-append (omega (arith, gave-short (refusalNumber (a .refusal)) (a .byte))) }
   small-by (Step a) n w t h g =
       let i = g .inside in
       let k = g .counted in

@@ -15,6 +15,7 @@ use Rattle.picture.specs.Screen.{rowSize, frameSize}
 use Rattle.picture.specs.Area.{screenOf, columns}
 use Rattle.vdp.specs.Device.{frontOf}
 use Rattle.vdp.specs.Ports.{portWrite}
+use Rattle.refusal.specs.Refusals.{refusalNumber}
 use Rattle.refusal.proofs.Tables.{Passed}
 use Rattle.front.proofs.Kept.{write-kept}
 use Rattle.points.specs.declared.DrawnRow.{DrawnRow}
@@ -231,7 +232,7 @@ module _ {t w : World} (h : Alike t w) where
   turn-by shown (Write p v) =
       let e : deviceWrite d (t .vram) p v ≡ deviceWrite d′ (w .vram) p v = λ i. deviceWrite (h .runs i .device) (h .memory i) p v in
       record {
-        answer = ap (λ (a : AfterWrite). Says.Wrote (a .refusal)) e;
+        answer = ap (λ (a : AfterWrite). Says.Wrote (refusalNumber (a .refusal))) e;
         world = record {
           runs = λ i. on (h .runs i) 4 (e i .device);
           memory = ap (λ (a : AfterWrite). a .vram) e;
@@ -244,7 +245,7 @@ module _ {t w : World} (h : Alike t w) where
   turn-by shown (Read p) =
       let e : deviceRead d (t .vram) p ≡ deviceRead d′ (w .vram) p = λ i. deviceRead (h .runs i .device) (h .memory i) p in
       record {
-        answer = ap (λ (a : AfterRead). Says.Gave (a .refusal) (a .byte)) e;
+        answer = ap (λ (a : AfterRead). Says.Gave (refusalNumber (a .refusal)) (a .byte)) e;
         world = record {
           runs = λ i. on (h .runs i) 3 (e i .device);
           memory = h .memory;

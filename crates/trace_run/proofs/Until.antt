@@ -22,7 +22,7 @@ use Rattle.trace_record.specs.Reader.{isCall}
 use Rattle.trace_text.specs.Text.{lineOf, endLine, badLine}
 use Rattle.trace_record.specs.Machine.{hasArea, takenBy, recordOn}
 use Rattle.trace_run.specs.Run.{World, Turn, rowTurn, turnBy, turnOf, after, lines, ran}
-use Rattle.trace_end.specs.End.{lastLine}
+use Rattle.trace_text.specs.End.{lastLine}
 use Rattle.trace_run.specs.Output.{text}
 use Rattle.trace_run.proofs.Runs.{Moves, row-moves}
 

@@ -18,7 +18,7 @@ use Rattle.trace_record.specs.Record.{recordAt, marked}
 use Rattle.trace_run.specs.Device.{handheld}
 use Rattle.trace_text.specs.Text.{decimal, lineOf, endLine, badLine, longLine}
 use Rattle.trace_run.specs.Run.{start, rowTurn, turnBy, turnOf, after, lines, ran}
-use Rattle.trace_end.specs.End.{lastLine}
+use Rattle.trace_text.specs.End.{lastLine}
 use Rattle.trace_run.specs.Output.{text, printed}
 
 -- its input: eight records

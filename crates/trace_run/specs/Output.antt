@@ -15,7 +15,7 @@ use Rattle.trace_record.specs.declared.Machine.{Machine}
 use Rattle.trace_record.specs.declared.Machine.the-variants.{Handheld, Home}
 use Rattle.trace_run.specs.declared.Device.{Device}
 use Rattle.trace_text.specs.Text.{longLine}
-use Rattle.trace_end.specs.End.{lastLine, drawn, pictureRoom}
+use Rattle.trace_text.specs.End.{lastLine, drawn, pictureRoom}
 use Rattle.trace_run.specs.Run.{World, Turn, rowTurn, lines, ran, start}
 
 -- R7.8: the longest recording that is run

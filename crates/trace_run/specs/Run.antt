@@ -19,6 +19,7 @@ use Rattle.trace_record.specs.declared.Record.the-variants.{Write, Read, Step, 
 use Rattle.trace_record.specs.declared.Machine.{Machine}
 use Rattle.trace_record.specs.declared.Machine.the-variants.{Handheld, Home}
 use Rattle.trace_run.specs.declared.Device.{Device}
+use Rattle.refusal.specs.Refusals.{refusalNumber}
 use Rattle.trace_text.specs.declared.Answer.{Answer}
 use Rattle.trace_text.specs.declared.Answer.the-variants as Says
 use Rattle.trace_run.specs.declared.Run.{Run}
@@ -54,7 +55,7 @@ on run k d = record { device = d; at = run .at + k; count = run .count + 1 }
 
 -- R7.10: what a step's line tells
 abbrev pub stepAnswer : AfterStep → Answer
-stepAnswer s = Says.Stepped (s .refusal) (s .counter) (s .interrupt) (s .report)
+stepAnswer s = Says.Stepped (refusalNumber (s .refusal)) (s .counter) (s .interrupt) (s .report)
 
 -- a step into the row buffer, as the trace makes all of its steps
 unfoldable pub rowTurn : RenderArea → World → Turn
@@ -127,10 +128,10 @@ shownOf shown TrueEdges = shown
 unfoldable pub turnBy : Record → (RenderArea → World → Turn) → World → Turn
 turnBy (Write port value) step w =
     let a = deviceWrite (w .run .device) (w .vram) port value in
-    record { answer = Says.Wrote (a .refusal); world = held (on (w .run) 4 (a .device)) (a .vram) (w .row) (w .frame) }
+    record { answer = Says.Wrote (refusalNumber (a .refusal)); world = held (on (w .run) 4 (a .device)) (a .vram) (w .row) (w .frame) }
 turnBy (Read port) step w =
     let a = deviceRead (w .run .device) (w .vram) port in
-    record { answer = Says.Gave (a .refusal) (a .byte); world = held (on (w .run) 3 (a .device)) (w .vram) (w .row) (w .frame) }
+    record { answer = Says.Gave (refusalNumber (a .refusal)) (a .byte); world = held (on (w .run) 3 (a .device)) (w .vram) (w .row) (w .frame) }
 turnBy (Step area) step w = step area w
 turnBy Bad step w = record { answer = Says.Nothing; world = w }
 turnBy End step w = record { answer = Says.Nothing; world = w }
@@ -162,10 +163,10 @@ abbrev pub turned : Answer → Run → Turned
 turned a run = record { answer = a; run = run }
 
 abbrev pub writeTurned : Run → AfterWrite → Turned
-writeTurned run a = turned (Says.Wrote (a .refusal)) (on run 4 (a .device))
+writeTurned run a = turned (Says.Wrote (refusalNumber (a .refusal))) (on run 4 (a .device))
 
 abbrev pub readTurned : Run → AfterRead → Turned
-readTurned run a = turned (Says.Gave (a .refusal) (a .byte)) (on run 3 (a .device))
+readTurned run a = turned (Says.Gave (refusalNumber (a .refusal)) (a .byte)) (on run 3 (a .device))
 
 abbrev pub stepTurned : Run → AfterStep → Turned
 stepTurned run s = turned (stepAnswer s) (on run 3 (s .device))

@@ -18,6 +18,7 @@ use home::HomeStepped;
 use picture::GG_VISIBLE_PIXEL_WIDTH;
 use picture::RenderArea;
 use points::DrawnRow;
+use refusal::refusal_number;
 use step::Stepped;
 use step::layer_row_step;
 use trace_record::Machine;
@@ -135,12 +136,12 @@ fn write_turn(run: Run, vram: &mut [u8], port: u8, value: u8) -> Turned
         Machine::Handheld => {
             let written = run.device.vdp.out(vram, port as u16, value);
             let refusal = written.refusal;
-            return handheld_turned(run, 4, Answer::Wrote(refusal), written.vdp);
+            return handheld_turned(run, 4, Answer::Wrote(refusal_number(refusal)), written.vdp);
         }
         Machine::Home => {
             let written = run.device.home.out(vram, port as u16, value);
             let refusal = written.refusal;
-            return home_turned(run, 4, Answer::Wrote(refusal), written.home);
+            return home_turned(run, 4, Answer::Wrote(refusal_number(refusal)), written.home);
         }
     }
 }
@@ -154,12 +155,22 @@ fn read_turn(run: Run, vram: &[u8], port: u8) -> Turned
         Machine::Handheld => {
             let back = run.device.vdp.input(vram, port as u16);
             let refusal = back.refusal;
-            return handheld_turned(run, 3, Answer::Gave(refusal, back.byte), back.vdp);
+            return handheld_turned(
+                run,
+                3,
+                Answer::Gave(refusal_number(refusal), back.byte),
+                back.vdp,
+            );
         }
         Machine::Home => {
             let back = run.device.home.input(vram, port as u16);
             let refusal = back.refusal;
-            return home_turned(run, 3, Answer::Gave(refusal, back.byte), back.home);
+            return home_turned(
+                run,
+                3,
+                Answer::Gave(refusal_number(refusal), back.byte),
+                back.home,
+            );
         }
     }
 }
@@ -176,7 +187,7 @@ fn handheld_stepped(run: Run, stepped: Stepped) -> Turned
     handheld_turned(
         run,
         3,
-        Answer::Stepped(refusal, counter, interrupt, report),
+        Answer::Stepped(refusal_number(refusal), counter, interrupt, report),
         stepped.vdp,
     )
 }
@@ -192,7 +203,7 @@ fn home_stepped(run: Run, stepped: HomeStepped) -> Turned
     home_turned(
         run,
         3,
-        Answer::Stepped(refusal, counter, interrupt, report),
+        Answer::Stepped(refusal_number(refusal), counter, interrupt, report),
         stepped.home,
     )
 }

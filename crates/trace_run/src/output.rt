@@ -6,10 +6,9 @@ ghost use lib.Dec.{leb, eqb};
 ghost use lib.ListN.{length, take};
 ghost use Rattle.laws.specs.Lists.{written};
 ghost use Rattle.picture.specs.Screen.{frameSize};
-ghost use Rattle.trace_end.specs.End.{pictureRoom};
-ghost use Rattle.trace_run.specs.Device.{handheld};
+ghost use Rattle.trace_text.specs.End.{pictureRoom};
 ghost use Rattle.trace_run.specs.Output.{longest, screenFor, RunLeaves, TraceLeaves, PictureLeaves};
-ghost use Rattle.trace_run.specs.Run.{frameTurn, layerTurn, frameFor, turnFor, start, ran};
+ghost use Rattle.trace_run.specs.Run.{frameFor, turnFor, start, ran};
 use crate::Device;
 use crate::Run;
 use crate::Shown;
@@ -18,7 +17,6 @@ use picture::Screen;
 use trace_record::Machine;
 use trace_record::put_all;
 use trace_text::put_answer;
-use vdp::VdpState;
 
 // The longest recording that is run, and the room that its text may take.
 const LONGEST: usize = 65535;
@@ -51,7 +49,7 @@ pub fn trace(device: Device, input: &[u8], vram: &mut [u8], row: &mut [u8], out:
         run = turned.run;
         i += 1;
     }
-    trace_end::put_last(out, len, input, run.at, run.count)
+    trace_text::end::put_last(out, len, input, run.at, run.count)
 }
 
 // The screen whose frame a machine's picture is made of.
@@ -68,7 +66,7 @@ fn screen_for(machine: Machine) -> Screen
 fn has_room(screen: Screen, frame: usize, out: usize) -> bool
     ensures { λ r. ⌜ r ≡ (leb (pictureRoom screen) out && eqb frame (frameSize screen)) ⌝ }
 {
-    let count = trace_end::pixel_count(screen);
+    let count = trace_text::end::pixel_count(screen);
     if out < 15 + 3 * count {
         return false;
     }
@@ -101,9 +99,9 @@ fn run_all(
     run.at
 }
 
-// What a recording's visible steps show in the frame, run on this device, at the start of out, and how long it is; of a bad or long recording, only
-// the line that says so. Without room for a picture, or with a frame of another length, nothing happens.
-fn pictured(
+// R7.13, R15.5, R20.9: the picture of what a recording's visible steps show in the frame, and the home machine's, run on this device, at the start of out, and how
+// long it is; of a bad or long recording, only the line that says so. Without room for a picture, or with a frame of another length, nothing happens.
+pub fn snapshot(
     device: Device,
     shown: Shown,
     input: &[u8],
@@ -124,43 +122,5 @@ fn pictured(
         return put_all(out, 0, b"long\n");
     }
     let at = run_all(device, shown, input, vram, row, frame);
-    trace_end::put_picture(out, screen, input, at, frame)
-}
-
-// R7.13, R20.9: the picture that the steps of the visible size draw, and those of the home machine.
-pub fn snapshot(
-    device: Device,
-    input: &[u8],
-    vram: &mut [u8],
-    row: &mut [u8],
-    frame: &mut [u8],
-    out: &mut [u8],
-) -> usize
-    ensures { λ n. ⌜ PictureLeaves frameTurn device (now (input .entry)) (now (vram .entry)) (now (row .entry)) (now (frame .entry)) (now (out .entry)) n (now (vram .exit)) (now (row .exit)) (now (frame .exit)) (now (out .exit)) ⌝ }
-    ensures { λ n. ⌜ (n ≤ length (now (out .exit))) × (n ≡ length (take n (now (out .exit)))) ⌝ }
-{
-    pictured(device, Shown::Colours, input, vram, row, frame, out)
-}
-
-// R15.5: which layer owns each of its pixels.
-pub fn layers(
-    vdp: VdpState,
-    input: &[u8],
-    vram: &mut [u8],
-    row: &mut [u8],
-    frame: &mut [u8],
-    out: &mut [u8],
-) -> usize
-    ensures { λ n. ⌜ PictureLeaves layerTurn (handheld vdp) (now (input .entry)) (now (vram .entry)) (now (row .entry)) (now (frame .entry)) (now (out .entry)) n (now (vram .exit)) (now (row .exit)) (now (frame .exit)) (now (out .exit)) ⌝ }
-    ensures { λ n. ⌜ (n ≤ length (now (out .exit))) × (n ≡ length (take n (now (out .exit)))) ⌝ }
-{
-    pictured(
-        Device::handheld(vdp),
-        Shown::Layers,
-        input,
-        vram,
-        row,
-        frame,
-        out,
-    )
+    trace_text::end::put_picture(out, screen, input, at, frame)
 }

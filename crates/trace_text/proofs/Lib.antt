@@ -1,2 +1,3 @@
 -- Numbers and lines, as the code writes them.
 pub mod Lines
+pub mod Endings

@@ -10,8 +10,6 @@ use lib.ListN.{length, take, drop, length-append}
 use Rattle.laws.specs.Lists.{written}
 use Rattle.laws.proofs.Lists.{written-on, written-nil}
 use Rattle.laws.proofs.Tests.{either}
-use Rattle.refusal.specs.declared.Refusal.{Refusal}
-use Rattle.refusal.specs.Refusals.{refusalNumber}
 use Rattle.points.specs.declared.VdpInt.{VdpInt}
 use Rattle.points.specs.declared.DisplayRefresh.{DisplayRefresh}
 use Rattle.points.specs.Points.{interruptNumber, reportNumber}
@@ -70,14 +68,14 @@ unfolding lineOf
 no-line o at e = line-done o at {x = []} e refl (omega arith, sym (written-nil o at))
 
 pub step-line :
-    (f : Refusal) (k : ℕ) (i : VdpInt) (d : DisplayRefresh) {h l x y : ℕ} → h ≡ hexDigit (k / 16) → l ≡ hexDigit (k % 16)
+    (f k : ℕ) (i : VdpInt) (d : DisplayRefresh) {h l x y : ℕ} → h ≡ hexDigit (k / 16) → l ≡ hexDigit (k % 16)
     → (x ≡ interruptNumber i) × (x < 2) → (y ≡ reportNumber d) × (y < 3)
-    → told 0x73 (refusalNumber f) (0x20 ∷ h ∷ l ∷ 0x20 ∷ (48 + x) ∷ 0x20 ∷ (48 + y) ∷ 0x0A ∷ []) ≡ lineOf (Stepped f k i d)
+    → told 0x73 f (0x20 ∷ h ∷ l ∷ 0x20 ∷ (48 + x) ∷ 0x20 ∷ (48 + y) ∷ 0x0A ∷ []) ≡ lineOf (Stepped f k i d)
 unfolding lineOf
 step-line f k i d eh el p q =
     let ei = as-digit (p .0) (omega (arith, p .1)) in
     let ed = as-digit (q .0) (omega (arith, q .1)) in
-    λ j. told 0x73 (refusalNumber f) (0x20 ∷ eh j ∷ el j ∷ 0x20 ∷ (ei j ++ (0x20 ∷ (ed j ++ (0x0A ∷ [])))))
+    λ j. told 0x73 f (0x20 ∷ eh j ∷ el j ∷ 0x20 ∷ (ei j ++ (0x20 ∷ (ed j ++ (0x0A ∷ [])))))
 
 -- a text from the start of o on, and one more piece of it
 pub grow :

@@ -4,7 +4,6 @@ use mathlib.Core.Bool.{cond}
 use mathlib.Core.List.{List, [], _∷_, _++_}
 use Prim.Native.Nat.{ℕ, _+_, _/_, _%_}
 use lib.Dec.{ltb}
-use Rattle.refusal.specs.Refusals.{refusalNumber}
 use Rattle.points.specs.Points.{interruptNumber, reportNumber}
 use Rattle.trace_text.specs.declared.Answer.{Answer}
 use Rattle.trace_text.specs.declared.Answer.the-variants.{Wrote, Gave, Stepped, Nothing}
@@ -54,12 +53,12 @@ bad = 0x62 ∷ 0x61 ∷ 0x64 ∷ []
 abbrev pub long : List ℕ
 long = 0x6C ∷ 0x6F ∷ 0x6E ∷ 0x67 ∷ []
 
--- R7.10: the line of a call's answer; no call prints nothing
+-- R7.10: the line of a call's answer, which has its refusal's number; no call prints nothing
 unfoldable pub lineOf : Answer → List ℕ
-lineOf (Wrote refusal) = line (w ∷ decimal (refusalNumber refusal) ∷ [])
-lineOf (Gave refusal byte) = line (r ∷ decimal (refusalNumber refusal) ∷ hex byte ∷ [])
+lineOf (Wrote refusal) = line (w ∷ decimal refusal ∷ [])
+lineOf (Gave refusal byte) = line (r ∷ decimal refusal ∷ hex byte ∷ [])
 lineOf (Stepped refusal counter interrupt report) =
-    line (s ∷ decimal (refusalNumber refusal) ∷ hex counter ∷ decimal (interruptNumber interrupt) ∷ decimal (reportNumber report) ∷ [])
+    line (s ∷ decimal refusal ∷ hex counter ∷ decimal (interruptNumber interrupt) ∷ decimal (reportNumber report) ∷ [])
 lineOf Nothing = []
 
 -- R7.11, R7.8: the lines of the end, of a bad record and of a long recording

@@ -4,18 +4,19 @@ ghost use mathlib.Core.List.{[], _∷_};
 ghost use Prim.Native.Nat.{_+_, _/_, _≤_, _<_};
 ghost use lib.ListN.{length};
 ghost use Rattle.laws.specs.Lists.{written};
-ghost use Rattle.refusal.specs.Refusals.{refusalNumber};
 ghost use Rattle.trace_text.specs.Text.{digitOf, decimal, hexDigit, numbered, told, lineOf};
+
+pub mod end;
+
 use points::DisplayRefresh;
 use points::VdpInt;
-use refusal::Refusal;
 use trace_record::put_all;
 
-// What a call answers, and its line says.
+// What a call answers, and its line says: first the number of its refusal.
 pub enum Answer {
-    Wrote(Refusal),
-    Gave(Refusal, u8),
-    Stepped(Refusal, u8, VdpInt, DisplayRefresh),
+    Wrote(u8),
+    Gave(u8, u8),
+    Stepped(u8, u8, VdpInt, DisplayRefresh),
     Nothing,
 }
 
@@ -89,18 +90,18 @@ pub fn put_numbered(out: &mut [u8], at: usize, word: &[u8], n: usize) -> usize
 }
 
 // The line of an answer: a letter, the number of the refusal, and the rest.
-fn put_line(out: &mut [u8], at: usize, letter: u8, refusal: Refusal, rest: &[u8]) -> usize
+fn put_line(out: &mut [u8], at: usize, letter: u8, refusal: u8, rest: &[u8]) -> usize
     requires { ⌜ at + 7 + length (now rest) ≤ length (now out) ⌝ }
-    ensures { λ r. ⌜ r ≡ at + length (told letter (refusalNumber refusal) (now (rest .entry))) ⌝ }
-    ensures { λ _. ⌜ now (out .exit) ≡ written (now (out .entry)) at (told letter (refusalNumber refusal) (now (rest .entry))) ⌝ }
+    ensures { λ r. ⌜ r ≡ at + length (told letter refusal (now (rest .entry))) ⌝ }
+    ensures { λ _. ⌜ now (out .exit) ≡ written (now (out .entry)) at (told letter refusal (now (rest .entry))) ⌝ }
 {
     let a = put_all(out, at, &[letter, b' ']);
-    let b = put_decimal(out, a, refusal::refusal_number(refusal) as usize);
+    let b = put_decimal(out, a, refusal as usize);
     put_all(out, b, rest)
 }
 
 // That of a read.
-fn put_read(out: &mut [u8], at: usize, refusal: Refusal, byte: u8) -> usize
+fn put_read(out: &mut [u8], at: usize, refusal: u8, byte: u8) -> usize
     requires { ⌜ at + 15 ≤ length (now out) ⌝ }
     ensures { λ r. ⌜ r ≡ at + length (lineOf (Answer.Gave refusal byte)) ⌝ }
     ensures { λ _. ⌜ now (out .exit) ≡ written (now (out .entry)) at (lineOf (Answer.Gave refusal byte)) ⌝ }
@@ -114,7 +115,7 @@ fn put_read(out: &mut [u8], at: usize, refusal: Refusal, byte: u8) -> usize
 fn put_step(
     out: &mut [u8],
     at: usize,
-    refusal: Refusal,
+    refusal: u8,
     counter: u8,
     interrupt: VdpInt,
     report: DisplayRefresh,

@@ -2,7 +2,7 @@
 ghost use mathlib.Core.Path.{_≡_};
 ghost use Prim.Native.Nat.{_+_, _-_, _%_, _<_};
 ghost use Rattle.laws.specs.Sizes.{cramSize};
-ghost use Rattle.vdp.specs.Device.{made, fresh, frontOf, withFront, withPaletteByte, withRaster, withCache};
+ghost use Rattle.vdp.specs.Device.{made, fresh, frontOf, withFront, withPaletteByte};
 ghost use Rattle.vdp.specs.Ports.{paletteWrite, WriteLeaves, portRead};
 use front::Front;
 use front::Latch;
@@ -138,56 +138,6 @@ impl VdpState {
             cram_byte1: latch,
             cram_dirty: self.cram_dirty,
             color_cache: color_cache,
-        }
-    }
-
-    // The same device with another raster.
-    pub fn with_raster(self, raster: Raster) -> Self
-        ensures { λ r. ⌜ r ≡ withRaster self raster ⌝ }
-    {
-        let reg = self.reg;
-        let dest = self.dest;
-        let cram = self.cram;
-        let cmd_byte1 = self.cmd_byte1;
-        let cram_byte1 = self.cram_byte1;
-        let color_cache = self.color_cache;
-        VdpState {
-            status: self.status,
-            reg: reg,
-            raster: raster,
-            addr: self.addr,
-            vram_buffer: self.vram_buffer,
-            dest: dest,
-            cram: cram,
-            cmd_byte1: cmd_byte1,
-            cram_byte1: cram_byte1,
-            cram_dirty: self.cram_dirty,
-            color_cache: color_cache,
-        }
-    }
-
-    // The same device with another cache of colours, which is not dirty.
-    pub fn with_cache(self, colours: [u32; 32]) -> Self
-        ensures { λ r. ⌜ r ≡ withCache self colours ⌝ }
-    {
-        let reg = self.reg;
-        let raster = self.raster;
-        let dest = self.dest;
-        let cram = self.cram;
-        let cmd_byte1 = self.cmd_byte1;
-        let cram_byte1 = self.cram_byte1;
-        VdpState {
-            status: self.status,
-            reg: reg,
-            raster: raster,
-            addr: self.addr,
-            vram_buffer: self.vram_buffer,
-            dest: dest,
-            cram: cram,
-            cmd_byte1: cmd_byte1,
-            cram_byte1: cram_byte1,
-            cram_dirty: false,
-            color_cache: colours,
         }
     }
 

@@ -4,7 +4,7 @@ use lib.ListN.{length}
 use native.Mathlib.Omega.{arith}
 use Rattle.picture.specs.Screen.{columns}
 use Rattle.points.specs.Points.{rowLines}
-use Rattle.points_run.proofs.Steps.{row-layers-fit}
+use Rattle.row.proofs.Steps.{row-layers-fit}
 use Rattle.face.proofs.Laws.{room, colours-room, points-room, layer-refused, layer-row-kept}
 use Rattle.face.proofs.vdp_layer_row_step.Statement.{statement}
 use Rattle.face.proofs.vdp_layer_row_step.Tie as tie

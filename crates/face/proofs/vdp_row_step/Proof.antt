@@ -2,7 +2,7 @@
 use borrow.Author.Needs.{needs}
 use lib.ListN.{length}
 use native.Mathlib.Omega.{arith}
-use Rattle.points_run.proofs.Steps.{row-due-fits}
+use Rattle.row.proofs.Steps.{row-due-fits}
 use Rattle.face.proofs.Laws.{room, colours-room, points-room, row-refused, row-kept}
 use Rattle.face.proofs.vdp_row_step.Statement.{statement}
 use Rattle.face.proofs.vdp_row_step.Tie as tie

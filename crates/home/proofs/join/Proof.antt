@@ -6,14 +6,11 @@ use Rattle.home.proofs.join.Tie as tie
 clean-requires : tie.Need-clean-requires
 clean-requires c κs = search needs
 
-with-raster-requires : tie.Need-with-raster-requires
-with-raster-requires c κs = search needs
-
 returns : tie.Need-returns
 returns c =
-    let at-clean = c .before .before in
+    let at-clean = c .before in
     let at-start = at-clean .before .before in
-    simp (c .with-raster .ensures, at-clean .clean .ensures, at-start .pre)
+    simp (at-clean .clean .ensures, at-start .pre)
 
 pub join-spec : {M : Type 1} → statement M
-join-spec = tie.close (tie.spec clean-requires with-raster-requires returns)
+join-spec = tie.close (tie.spec clean-requires returns)

@@ -5,7 +5,7 @@ use lib.ListN.{length}
 use Rattle.points.specs.Points.{reading, frameLines}
 use Rattle.picture.specs.Screen.{columns}
 use Rattle.points.specs.Bytes.{alsoLayers}
-use Rattle.points_run.proofs.Steps.{finished, owned, frame-filled, frame-layers-fit}
+use Rattle.row.proofs.Steps.{finished, owned, frame-filled, frame-layers-fit}
 use Rattle.look.proofs.layer_frame_points.Statement.{statement}
 use Rattle.look.proofs.layer_frame_points.Tie as tie
 

@@ -5,7 +5,7 @@ use Rattle.laws.specs.Lists.{at}
 use Rattle.picture.specs.View.{effective}
 use Rattle.picture.specs.Screen.{pictureOf}
 use Rattle.background.proofs.Views.{effective-x, effective-mark}
-use Rattle.pixel_column.proofs.Laws.{view-number}
+use Rattle.pixel.proofs.Laws.{view-number}
 use Rattle.pixel.proofs.effective_number.Statement.{statement}
 use Rattle.pixel.proofs.effective_number.Tie as tie
 

@@ -12,7 +12,7 @@ use Rattle.laws.specs.Bits.{bit}
 use Rattle.laws.specs.Lists.{at}
 use Rattle.laws.proofs.Tests.{either}
 use Rattle.picture.specs.Picture.{fills}
-use Rattle.pixel_column.proofs.Laws.{home-filled, home-number}
+use Rattle.pixel.proofs.Laws.{home-filled, home-number}
 use Rattle.pixel.proofs.home_number.Statement.{statement}
 use Rattle.pixel.proofs.home_number.Tie as tie
 

@@ -7,7 +7,7 @@ use Prim.Native.Nat.{ℕ, _-_, _%_}
 use lib.ListN.{getD}
 use mir.Syntax.{w8}
 use mir.Val.{Fits}
-use Rattle.pixel_column.proofs.Laws.{scrolled-number}
+use Rattle.pixel.proofs.Laws.{scrolled-number}
 use Rattle.pixel.proofs.visible_number.Statement.{statement}
 use Rattle.pixel.proofs.visible_number.Tie as tie
 

@@ -30,14 +30,14 @@ part-read-end c = omega arith
 read-requires : tie.Need-read-requires Inv-loop μ-loop
 read-requires c κs = search needs
 
-failed-requires : tie.Need-failed-requires Inv-loop μ-loop
-failed-requires c κs = search needs
+tell-requires : tie.Need-tell-requires Inv-loop μ-loop
+tell-requires c κs = search needs
 
 same-length : tie.Need-same-length Inv-loop μ-loop
 same-length c = omega arith
 
 returns : tie.Need-returns Inv-loop μ-loop
-returns c = counts _ _ (omega (arith, c .failed .ensures))
+returns c = search needs
 
 sub-count : tie.Need-sub-count Inv-loop μ-loop
 sub-count c = omega arith
@@ -83,7 +83,7 @@ read-from-spec =
     part-read-start
     part-read-end
     read-requires
-    failed-requires
+    tell-requires
     same-length
     returns
     sub-count

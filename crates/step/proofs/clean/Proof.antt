@@ -9,14 +9,11 @@ enum-told c = search needs
 enum-told-2 : tie.Need-enum-told-2
 enum-told-2 c = search needs
 
-with-cache-requires : tie.Need-with-cache-requires
-with-cache-requires c κs = search needs
-
 returns : tie.Need-returns
-returns c = rw (c .enum-told .given .1)
+returns c = rw (c .enum-told2 .given .1)
 
 returns-2 : tie.Need-returns-2
-returns-2 c = rw (c .before .enum-told2 .given .1) (c .with-cache .ensures)
+returns-2 c = rw (c .enum-told .given .1)
 
 pub clean-spec : {M : Type 1} → statement M
-clean-spec = tie.close (tie.spec enum-told enum-told-2 with-cache-requires returns returns-2)
+clean-spec = tie.close (tie.spec enum-told enum-told-2 returns returns-2)

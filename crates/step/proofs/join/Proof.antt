@@ -6,13 +6,10 @@ use Rattle.step.proofs.join.Tie as tie
 clean-requires : tie.Need-clean-requires
 clean-requires c κs = search needs
 
-with-raster-requires : tie.Need-with-raster-requires
-with-raster-requires c κs = search needs
-
 returns : tie.Need-returns
 returns c =
-    let at-start = c .before .before .before in
-    simp (c .with-raster .ensures, c .before .clean .ensures, at-start .pre)
+    let at-start = c .before .before in
+    simp (c .clean .ensures, at-start .pre)
 
 pub join-spec : {M : Type 1} → statement M
-join-spec = tie.close (tie.spec clean-requires with-raster-requires returns)
+join-spec = tie.close (tie.spec clean-requires returns)

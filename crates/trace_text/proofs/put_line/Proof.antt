@@ -5,7 +5,6 @@ use mathlib.Core.List.{[], _∷_}
 use Prim.Native.Nat.{_+_, _≤_}
 use lib.ListN.{length}
 use Rattle.trace_text.specs.Text.{decimal}
-use Rattle.refusal.specs.Refusals.{refusalNumber}
 use Rattle.trace_text.proofs.Lines.{three-writes}
 use Rattle.trace_text.proofs.put_line.Statement.{statement}
 use Rattle.trace_text.proofs.put_line.Tie as tie
@@ -15,12 +14,6 @@ slice-aggregate-put-all c = search needs
 
 put-all-requires : tie.Need-put-all-requires
 put-all-requires c κs = search needs
-
-refusal-number-requires : tie.Need-refusal-number-requires
-refusal-number-requires c κs = search needs
-
-cast-put-decimal : tie.Need-cast-put-decimal
-cast-put-decimal c = search needs
 
 put-decimal-requires : tie.Need-put-decimal-requires
 put-decimal-requires c κs = search needs
@@ -35,13 +28,12 @@ returns : tie.Need-returns
 returns c =
     let at-put-all2 = c .before .before in
     let at-put-decimal = at-put-all2 .before .before .before .before in
-    let at-refusal-number = at-put-decimal .before in
-    let at-put-all = at-refusal-number .before .before .before .before in
+    let at-put-all = at-put-decimal .before .before .before .before in
     let at-start = at-put-all .before .before .before .before .before in
     let a = at-start .args in
-    let n = refusalNumber (a .refusal) in
+    let n = a .refusal in
     let p = at-put-all .put-all .ensures in
-    let d = rw (at-refusal-number .refusal-number .ensures .0) at (at-put-decimal .put-decimal .ensures) in
+    let d = at-put-decimal .put-decimal .ensures in
     let q = at-put-all2 .put-all2 .ensures in
     let h : a .at + 2 + length (decimal n) + length (a .rest .now) ≤ length (a .out .now) = omega (arith, d .0 .1, at-start .pre) in
     three-writes (a .out .now) (a .at) (a .letter ∷ 0x20 ∷ []) (decimal n) (a .rest .now) h (p .1) (p .0) (d .1) (d .0 .0) (q .1) (q .0)
@@ -52,8 +44,6 @@ put-line-spec =
     (tie.spec
     slice-aggregate-put-all
     put-all-requires
-    refusal-number-requires
-    cast-put-decimal
     put-decimal-requires
     put-all-requires-2
     same-length

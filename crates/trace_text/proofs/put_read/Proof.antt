@@ -2,7 +2,6 @@
 use borrow.Author.Needs.{needs}
 use mathlib.Core.List.{[], _∷_}
 use Rattle.trace_text.specs.Text.{told, lineOf}
-use Rattle.refusal.specs.Refusals.{refusalNumber}
 use Rattle.trace_text.proofs.Lines.{put-as}
 use Rattle.trace_text.proofs.put_read.Statement.{statement}
 use Rattle.trace_text.proofs.put_read.Tie as tie
@@ -31,7 +30,7 @@ returns c =
     let at-start = at-hex-digit .before .before in
     let a = at-start .args in
     put-as (a .out .now) (a .at)
-    (λ i. told 0x72 (refusalNumber (a .refusal)) (0x20 ∷ at-hex-digit .hex-digit .ensures i ∷ at-hex-digit2 .hex-digit2 .ensures i ∷ 0x0A ∷ []))
+    (λ i. told 0x72 (a .refusal) (0x20 ∷ at-hex-digit .hex-digit .ensures i ∷ at-hex-digit2 .hex-digit2 .ensures i ∷ 0x0A ∷ []))
     (at-put-line .put-line .ensures)
 
 pub put-read-spec : {M : Type 1} → statement M

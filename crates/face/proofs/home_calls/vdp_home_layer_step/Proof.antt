@@ -5,7 +5,7 @@ use native.Mathlib.Omega.{arith}
 use Rattle.picture.specs.declared.Screen.the-variants.{Home}
 use Rattle.picture.specs.Screen.{columns}
 use Rattle.points.specs.Points.{frameLines}
-use Rattle.points_run.proofs.Steps.{frame-layers-fit}
+use Rattle.row.proofs.Steps.{frame-layers-fit}
 use Rattle.face.proofs.HomeLaws.{room, colours-room, points-room, layer-refused, layer-frame-kept}
 use Rattle.face.proofs.home_calls.vdp_home_layer_step.Statement.{statement}
 use Rattle.face.proofs.home_calls.vdp_home_layer_step.Tie as tie

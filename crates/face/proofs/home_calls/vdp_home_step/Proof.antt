@@ -3,7 +3,7 @@ use borrow.Author.Needs.{needs}
 use lib.ListN.{length}
 use native.Mathlib.Omega.{arith}
 use Rattle.picture.specs.declared.Screen.the-variants.{Home}
-use Rattle.points_run.proofs.Steps.{frame-due-fits}
+use Rattle.row.proofs.Steps.{frame-due-fits}
 use Rattle.face.proofs.HomeLaws.{room, colours-room, points-room, step-refused, step-kept}
 use Rattle.face.proofs.home_calls.vdp_home_step.Statement.{statement}
 use Rattle.face.proofs.home_calls.vdp_home_step.Tie as tie

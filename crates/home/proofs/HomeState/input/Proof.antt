@@ -7,14 +7,10 @@ use Rattle.home.proofs.HomeState.input.Tie as tie
 read-requires : tie.Need-read-requires
 read-requires c κs = search needs
 
-with-front-requires : tie.Need-with-front-requires
-with-front-requires c κs = search needs
-
 returns : tie.Need-returns
 unfolding portRead
 returns c =
-    let at-read = c .before .before in
-    simp (c .with-front .ensures, at-read .read .ensures)
+    simp (c .before .read .ensures)
 
 pub input-spec : {M : Type 1} → statement M
-input-spec = tie.close (tie.spec read-requires with-front-requires returns)
+input-spec = tie.close (tie.spec read-requires returns)

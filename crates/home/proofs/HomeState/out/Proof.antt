@@ -32,26 +32,22 @@ module _ (h : HomeState) (m : List ℕ) (p v : ℕ) {r : FrontWritten} (w : r �
 write-requires : tie.Need-write-requires
 write-requires c κs = search needs
 
-with-front-requires : tie.Need-with-front-requires
-with-front-requires c κs = search needs
-
 write-palette-requires : tie.Need-write-palette-requires
 write-palette-requires c κs =
-    let at-write = c .before .before .before .before .before in
-    rw (c .before .with-front .ensures) (inside 32 _ _ _ _ _ (at-write .write .ensures .answer) (c .if1 .taken))
+    let at-write = c .before .before .before .before in
+    inside 32 _ _ _ _ _ (at-write .write .ensures .answer) (c .if1 .taken)
 
 same-length : tie.Need-same-length
 same-length c = search needs
 
 returns : tie.Need-returns
 returns c =
-    let at-with-front = c .before .before in
-    let at-write = at-with-front .before .before .before .before in
+    let at-if1 = c .before in
+    let at-write = at-if1 .before .before .before .before in
     let at-start = at-write .before .before .before .before in
     let w = at-write .write .ensures in
     record {
-      answer = rw (c .write-palette .ensures, at-with-front .with-front .ensures)
-          (to-palette (at-start .args .self) _ _ _ (w .answer) (c .before .if1 .taken));
+      answer = rw (c .write-palette .ensures) (to-palette (at-start .args .self) _ _ _ (w .answer) (at-if1 .if1 .taken));
       memory = memory (at-start .args .self) _ _ _ (w .answer) (w .memory);
     }
 
@@ -60,11 +56,11 @@ same-length-2 c = search needs
 
 returns-2 : tie.Need-returns-2
 returns-2 c =
-    let at-write = c .before .before .before .before .before in
+    let at-write = c .before .before .before .before in
     let at-start = at-write .before .before .before .before in
     let w = at-write .write .ensures in
     record {
-      answer = rw (c .before .with-front .ensures) (to-front (at-start .args .self) _ _ _ (w .answer) (c .if1 .left));
+      answer = to-front (at-start .args .self) _ _ _ (w .answer) (c .if1 .left);
       memory = memory (at-start .args .self) _ _ _ (w .answer) (w .memory);
     }
 
@@ -73,7 +69,6 @@ out-spec =
     tie.close
     (tie.spec
     write-requires
-    with-front-requires
     write-palette-requires
     same-length
     returns

@@ -6,28 +6,24 @@ use Rattle.home.proofs.HomeState.write_palette.Tie as tie
 cast-here : tie.Need-cast-here
 cast-here c = search needs
 
-add-front : tie.Need-add-front
-add-front c = search needs
-
-with-front-requires : tie.Need-with-front-requires
-with-front-requires c κs = search needs
+add-self : tie.Need-add-self
+add-self c = search needs
 
 element-copy-out-was : tie.Need-element-copy-out-was
 element-copy-out-was c = search needs
 
-element-write-home : tie.Need-element-write-home
-element-write-home c = search needs
+element-write-self : tie.Need-element-write-self
+element-write-self c = search needs
 
 returns : tie.Need-returns
-returns c = simp (c .before .with-front .ensures)
+returns c = search needs
 
 pub write-palette-spec : {M : Type 1} → statement M
 write-palette-spec =
     tie.close
     (tie.spec
     cast-here
-    add-front
-    with-front-requires
+    add-self
     element-copy-out-was
-    element-write-home
+    element-write-self
     returns)

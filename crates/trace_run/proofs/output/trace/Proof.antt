@@ -9,7 +9,7 @@ use Rattle.laws.specs.Lists.{written}
 use Rattle.laws.proofs.Lists.{written-nil}
 use Rattle.trace_text.specs.Text.{longLine}
 use Rattle.trace_run.specs.Run.{held, start, rowTurn, after, lines}
-use Rattle.trace_end.proofs.End.{last-short}
+use Rattle.trace_text.proofs.Endings.{last-short}
 use Rattle.trace_run.proofs.Outputs.{text-whole, trace-no-room, trace-long, trace-whole, trace-leaves, lent, lent-behind}
 use Rattle.trace_run.proofs.Runs.{row-moves, ran-small, place-fits, count-fits, text-fits, line-fits, last-fits, world-more, text-more}
 use Rattle.trace_run.proofs.output.trace.Statement.{statement}

@@ -1,3 +1,0 @@
--- The laws of one column: a place of the priority mask, one column of a sprite, and the list of sprites on one column.
-pub mod Front
-pub mod Laws

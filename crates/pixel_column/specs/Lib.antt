@@ -1,2 +1,0 @@
--- What the contracts of `pixel_column` cite.
-pub mod Column

@@ -1,2 +1,0 @@
--- The laws of the points as they are run.
-pub mod Steps

@@ -1,2 +1,0 @@
--- Laws of the last line and the picture.
-pub mod End

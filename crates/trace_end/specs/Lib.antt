@@ -1,2 +1,0 @@
--- What the contracts of `trace_end` cite.
-pub mod End
