@@ -139,14 +139,14 @@ for stuck in programs face; do
     echo $stuck >"$work/stuck"
     : >"$work/calls"
     : >"$work/proved"
-    again='face programs' other=staticlib/libface.a
-    [ $stuck = programs ] || again=face other=stamp/programs
+    again='face programs' other=face
+    [ $stuck = programs ] || again=face other=programs
     set -m
     (cd "$copy" && PATH="$work/bin:$PATH" RT_JOBS=2 exec make --no-print-directory build </dev/null) >"$work/said" 2>&1 &
     group=$!
     set +m
     for _ in $(seq 300); do
-        ! grep -qx $stuck "$work/proved" || [ ! -e "$copy/target/$other" ] || break
+        ! grep -qx $stuck "$work/proved" || ! grep -q "^$other proved" "$work/said" || break
         sleep 0.1
     done
     kill -TERM -- "-$group"

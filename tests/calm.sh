@@ -217,8 +217,8 @@ tell "the longest way above it comes first, by the functions that are there, in 
 echo 'short 30' >"$small/tools/seconds.txt"
 rm -rf "$small/target/stamp"
 anew
-RT_JOBS=1 bash "$small/tools/plan.sh" >"$work/said" 2>&1 && [ "$(tr '\n' ' ' <"$work/proved")" = 'base deep short deeper deepest wide shown ' ]
-tell "and by the seconds that a crate has taken, where they are known" $?
+RT_JOBS=1 bash "$small/tools/plan.sh" >"$work/said" 2>&1 && [ "$(tr '\n' ' ' <"$work/proved")" = 'base deep deeper short deepest wide shown ' ]
+tell "and by the seconds that a crate has taken, where they are known, and a third of those of the crates right below it" $?
 # refused NAME LINE WORDS..: the plan says this line, and calls rt for nothing.
 refused() {
     local name=$1 line=$2 status

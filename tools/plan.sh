@@ -32,14 +32,19 @@ plan=$({
     [ ! -e tools/seconds.txt ] || sed 's/^/seconds /' tools/seconds.txt
 } | WANTED=$* NAMES=$names WORK=$work awk '
     function fail(words) { print "plan: crates.txt: " words > "/dev/stderr"; bad = 2; exit 2 }
-    # its own weight, and the longest way of those that stand on it
+    function weight(name) { return name in seconds ? seconds[name] : 5 + functions[name] }
+    # its own weight, the longest way of those that stand on it, and a third of what stands right below it: a crate waits for all of these, and with one
+    # that waits for much the last of them are not to be left for the end
     function way(name, list, k, count, most) {
         if (name in ways) return ways[name]
         if (name in visited) fail("the crates depend on each other in a cycle through " name)
         visited[name]
         count = split(above[name], list, " ")
         for (k = 1; k <= count; k++) if (way(list[k]) > most) most = way(list[k])
-        return ways[name] = most + (name in seconds ? seconds[name] : 5 + functions[name])
+        ways[name] = most + weight(name)
+        count = split(below[name], list, " ")
+        for (k = 1; k <= count; k++) ways[name] += weight(list[k]) / 3
+        return ways[name]
     }
     # whether it comes to a library of the kit
     function leads(name, list, k, count) {
