@@ -79,7 +79,7 @@ snapped step s w out =
     let screen = screenFor (w .run .device .machine) in
     leaves (leb (pictureRoom screen) (length out) && eqb (length (w .frame)) (frameSize screen)) step (pictured step s w) s w out
 
--- What `trace`, from device d on, promises of its answer n and of the buffers after it, and what `snapshot` and `layers` do.
+-- What `trace`, from device d on, promises of its answer n and of the buffers after it, and what `snapshot` does, by what its frame shows.
 pub record TraceLeaves (d : Device) (s vram row out : List ℕ) (n : ℕ) (vram′ row′ out′ : List ℕ) : Type 0 where
   pub count : n ≡ traced s (start d vram row []) out .len
   pub bytes : out′ ≡ traced s (start d vram row []) out .out
