@@ -3,36 +3,36 @@
 use Rattle.std.proofs.Common.{◌≡◌, ℕ, ◌+◌, ◌-◌, ◌%◌, ◌<◌, ◌≤◌, List, arith, le-ltb, lt-ltb}
 use native.Mathlib.Decide.{dec_lt}
 use Rattle.laws.specs.Lists.{at}
-use Rattle.laws.proofs.Any.{any-cong}
+use Rattle.laws.proofs.Any.{any_cong}
 use Rattle.picture.specs.Tile.{names_at}
-use Rattle.picture.specs.View.{View, cutMark}
+use Rattle.picture.specs.View.{View, cut_mark}
 use Rattle.picture.specs.Picture.{back, front}
-use Rattle.background.specs.Background.{backColour, backFront, prioTo}
+use Rattle.background.specs.Background.{back_colour, back_front, prio_to}
 
 -- ---- any view whose map columns are (sx + x) mod 256, whose map line is y, and whose first tile marks `cut` places to the left
 module _
-    (vram reg : List ℕ) (v : View) (names sx y : ℕ) (ne : names ≡ names_at (at reg)) (ex : (x : ℕ) → x < v.width → v.mapX x ≡ (sx + x) % 256)
-    (ey : (x : ℕ) → v.mapY x ≡ y) (cut : ℕ) (em : (x : ℕ) → x < v.width → v.markAt x ≡ cutMark cut x)
+    (vram reg : List ℕ) (v : View) (names sx y : ℕ) (ne : names ≡ names_at (at reg)) (ex : (x : ℕ) → x < v.width → v.map_x x ≡ (sx + x) % 256)
+    (ey : (x : ℕ) → v.map_y x ≡ y) (cut : ℕ) (em : (x : ℕ) → x < v.width → v.mark_at x ≡ cut_mark cut x)
   where
-    pub back_at : (x : ℕ) → x < v.width → backColour vram names sx y x ≡ back (at vram) (at reg) v x
-    unfolding back backColour
+    pub back_at : (x : ℕ) → x < v.width → back_colour vram names sx y x ≡ back (at vram) (at reg) v x
+    unfolding back back_colour
     back_at x l = rw (ex x l, ey x, ne)
 
-    pub front_at : (i : ℕ) → prioTo vram names sx y cut v.width i ≡ front (at vram) (at reg) v i
-    unfolding front prioTo backFront
-    front_at i = any-cong v.width _ _ (λ x l. rw (ex x l, ey x, em x l, ne))
+    pub front_at_lem : (i : ℕ) → prio_to vram names sx y cut v.width i ≡ front (at vram) (at reg) v i
+    unfolding front prio_to back_front
+    front_at_lem i = any_cong v.width _ _ (λ x l. rw (ex x l, ey x, em x l, ne))
 
 -- ---- the visible view
-pub visible-x : (r x : ℕ) → r < 256 → (x + 304 - r) % 256 ≡ ((304 - r) % 256 + x) % 256
-visible-x r x h = omega arith
+pub visible_x : (r x : ℕ) → r < 256 → (x + 304 - r) % 256 ≡ ((304 - r) % 256 + x) % 256
+visible_x r x h = omega arith
 
 -- ---- the effective view
-pub effective-x : (x : ℕ) → x < 256 → x ≡ (0 + x) % 256
-effective-x x h = omega arith
+pub effective_x : (x : ℕ) → x < 256 → x ≡ (0 + x) % 256
+effective_x x h = omega arith
 
-pub effective-mark : (x : ℕ) → x < 256 → x ≡ cutMark 0 x
-unfolding cutMark
-effective-mark x h =
+pub effective_mark : (x : ℕ) → x < 256 → x ≡ cut_mark 0 x
+unfolding cut_mark
+effective_mark x h =
     elim (dec_lt x 8) [
       | yes l ↦ rw (lt-ltb x 8 l) (omega arith)
       | no l ↦ let k : 8 ≤ x = omega arith in rw (le-ltb x 8 k)

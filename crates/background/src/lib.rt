@@ -3,11 +3,11 @@ ghost use Rattle.std.specs.Prelude.{◌≡◌, ◌+◌, ◌-◌, ◌*◌, ◌/�
 ghost use Rattle.laws.specs.Bits.{bit, number};
 ghost use Rattle.laws.specs.Lists.{at};
 ghost use Rattle.laws.specs.Paint.{painted};
-ghost use Rattle.laws.specs.Sizes.{vramSize};
-ghost use Rattle.bitmap.specs.Mask.{bit_of, withByte, bytesOf};
-ghost use Rattle.picture.specs.Tile.{turned, names_at, tileLine};
-ghost use Rattle.tile.specs.Line.{coloursIn};
-ghost use Rattle.background.specs.Background.{Room, backColour, backFront, shade, prioTo, placeAt, Whole, cut_of, homeColumn, homeLast};
+ghost use Rattle.laws.specs.Sizes.{vram_size};
+ghost use Rattle.bitmap.specs.Mask.{bit_of, with_byte, bytes_of};
+ghost use Rattle.picture.specs.Tile.{turned, names_at, tile_line};
+ghost use Rattle.tile.specs.Line.{colours_in};
+ghost use Rattle.background.specs.Background.{Room, back_colour, back_front, shade, prio_to, place_at, Whole, cut_of, home_column, home_last};
 
 use bitmap::Bitmap;
 use picture::Screen;
@@ -31,8 +31,8 @@ fn line_in(flip: bool, y: usize) -> usize
 
 // Where line y of the tile with these entry bytes stands.
 pub fn line_at(lo: u8, hi: u8, y: usize) -> usize
-    ensures value { result ≡ tileLine lo hi y }
-    ensures result_bound { result + 4 ≤ vramSize }
+    ensures value { result ≡ tile_line lo hi y }
+    ensures result_bound { result + 4 ≤ vram_size }
 {
     let character = small::wide(lo) + small::weight(small::is_set(hi, 0), 256);
     32 * character + line_in(small::is_set(hi, 2), y)
@@ -40,7 +40,7 @@ pub fn line_at(lo: u8, hi: u8, y: usize) -> usize
 
 // The mask with the marks of a tile, if it has priority.
 fn with_marks(prio: Bitmap, on: bool, place: usize, bits: u8) -> Bitmap
-    ensures { result.bits ≡ (if on then withByte prio.bits place bits else prio.bits) }
+    ensures { result.bits ≡ (if on then with_byte prio.bits place bits else prio.bits) }
 {
     if on { prio.set(place, bits) } else { prio }
 }
@@ -60,7 +60,7 @@ pub fn cut_of(screen: Screen, s: u8) -> u8
 
 // The map's column that column 0 of home row `line` shows.
 pub fn home_column(reg: [u8; 11], line: usize) -> usize
-    ensures value { result ≡ homeColumn reg line }
+    ensures value { result ≡ home_column reg line }
     ensures upper_bound { result < 256 }
 {
     if small::both(small::is_set(reg[0], 6), line < 16) {
@@ -72,7 +72,7 @@ pub fn home_column(reg: [u8; 11], line: usize) -> usize
 
 // The map's line that its columns from 192 on show, where those before them show line y.
 pub fn home_line(reg: [u8; 11], line: usize, y: usize) -> usize
-    ensures { result ≡ homeLast reg line y }
+    ensures { result ≡ home_last reg line y }
 {
     if small::is_set(reg[0], 7) { line } else { y }
 }
@@ -80,7 +80,7 @@ pub fn home_line(reg: [u8; 11], line: usize, y: usize) -> usize
 // Where the pixels of one tile, from x on, mark: the row's first tile `cut` places to the left of them, around the circle.
 fn place_of(cut: u8, x: usize) -> usize
     requires { cut ≤ 8 }
-    ensures { result ≡ placeAt cut x }
+    ensures { result ≡ place_at cut x }
 {
     if x == 0 {
         small::wide(std::num::wrapping_sub_u8(0, cut))
@@ -105,8 +105,8 @@ fn render_tile(
     requires room { Room vram.now names sx y }
     requires n_bound { ((sx + x) % 8 + n ≤ 8) × ((x + n) * 4 ≤ length row.old) × (x < 256) }
     requires n_bound_2 { (n ≤ 8) × (cut ≤ 8) × Whole cut x n }
-    ensures row_after { row.new ≡ painted row.old x n (λ i. shade colours.now (backColour vram.now names sx y) (x + i)) }
-    ensures bits_value { prio.bits ≡ bytesOf (prioTo vram.now names sx y cut x) → result.bits ≡ bytesOf (prioTo vram.now names sx y cut (x + n)) }
+    ensures row_after { row.new ≡ painted row.old x n (λ i. shade colours.now (back_colour vram.now names sx y) (x + i)) }
+    ensures bits_value { prio.bits ≡ bytes_of (prio_to vram.now names sx y cut x) → result.bits ≡ bytes_of (prio_to vram.now names sx y cut (x + n)) }
 {
     let mx = (sx + x) % 256;
     let e = names + 2 * (32 * (y / 8) + mx / 8);
@@ -147,8 +147,8 @@ fn render_whole_tile(
 ) -> u8
     requires room { Room vram.now names sx y }
     requires x_value { ((sx + x) % 8 ≡ 0) × ((x + 8) * 4 ≤ length row.old) × (x < 256) }
-    ensures row_after { row.new ≡ painted row.old x 8 (λ i. shade (coloursIn table.now) (backColour vram.now names sx y) (x + i)) }
-    ensures value { result ≡ number 8 (λ i. backFront vram.now names sx y (x + i)) }
+    ensures row_after { row.new ≡ painted row.old x 8 (λ i. shade (colours_in table.now) (back_colour vram.now names sx y) (x + i)) }
+    ensures value { result ≡ number 8 (λ i. back_front vram.now names sx y (x + i)) }
 {
     let mx = (sx + x) % 256;
     let e = names + 2 * (32 * (y / 8) + mx / 8);
@@ -169,7 +169,7 @@ fn render_whole_tile(
 // are byte k + 1.
 fn lay(mut prio: Bitmap, marks: [u8; 33], shift: usize) -> Bitmap
     requires { shift < 8 }
-    ensures { result.bits ≡ bytesOf (λ i. bit_of prio.bits i || bit (at marks ((8 + i - shift) / 8)) ((8 + i - shift) % 8)) }
+    ensures { result.bits ≡ bytes_of (λ i. bit_of prio.bits i || bit (at marks ((8 + i - shift) / 8)) ((8 + i - shift) % 8)) }
 {
     let mut i: usize = 0;
     while i < 32 {
@@ -193,8 +193,8 @@ pub fn render_background_line(
 ) -> Bitmap
     requires room { Room vram.now names sx y }
     requires width_bound { (width ≤ 256) × (width * 4 ≤ length row.old) × ((cut ≡ 0) ⊎ (cut ≡ sx % 8)) }
-    ensures row_after { row.new ≡ painted row.old 0 width (shade colours.now (backColour vram.now names sx y)) }
-    ensures bits_value { result.bits ≡ bytesOf (prioTo vram.now names sx y cut width) }
+    ensures row_after { row.new ≡ painted row.old 0 width (shade colours.now (back_colour vram.now names sx y)) }
+    ensures bits_value { result.bits ≡ bytes_of (prio_to vram.now names sx y cut width) }
 {
     let none = Bitmap::new();
     let first = small::smaller(8 - sx % 8, width);

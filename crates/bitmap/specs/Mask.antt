@@ -11,8 +11,8 @@ unfoldable pub bit_of : List ℕ → ℕ → Bool
 bit_of m i = bit (get_or m (i % 256 / 8) 0) (i % 8)
 
 -- the 32 bytes of the mask whose bit i is f i, for i below 256
-unfoldable pub bytesOf : (ℕ → Bool) → List ℕ
-bytesOf f = table 32 (λ k. byte_of (λ j. f (8 * k + j)))
+unfoldable pub bytes_of : (ℕ → Bool) → List ℕ
+bytes_of f = table 32 (λ k. byte_of (λ j. f (8 * k + j)))
 
 -- ---- what the methods do
 
@@ -22,10 +22,10 @@ unfoldable pub laid : List ℕ → ℕ → ℕ → ℕ → Bool
 laid m off value i = bit_of m i || bit value (past i off)
 
 unfoldable pub cleared : List ℕ
-cleared = bytesOf (λ i. false)
+cleared = bytes_of (λ i. false)
 
-unfoldable pub withByte : List ℕ → ℕ → ℕ → List ℕ
-withByte m off value = bytesOf (laid m off value)
+unfoldable pub with_byte : List ℕ → ℕ → ℕ → List ℕ
+with_byte m off value = bytes_of (laid m off value)
 
 -- the byte whose bit j is bit off + j of the circle
 unfoldable pub byte_at : List ℕ → ℕ → ℕ

@@ -1,4 +1,4 @@
--- A fresh device of either table has the shape that the block asks, so has that of a well-formed block, and every port call keeps it.
+-- A fresh device of either table has the shape that the block asks, so has that of a well_formed_lem block, and every port call keeps it.
 -- Assumes nothing.
 use Prim.Native.Nat.{ℕ, zero, suc, ◌+◌, ◌-◌, ◌%◌, ◌≤◌, ◌<◌}
 use mathlib.Core.Path.{◌≡◌, refl, ap, ◌∙◌}
@@ -20,13 +20,13 @@ use Rattle.vdp.specs.declared.Written.{Written}
 use Rattle.front.specs.declared.WriteDest.{WriteDest}
 use Rattle.front.specs.declared.Latch.{Latch}
 use Rattle.front.specs.declared.Latch.TheVariants.{Empty, Held}
-use Rattle.vdp.specs.Device.{device, made, frontOf, withFront, withPaletteByte, with_addr}
-use Rattle.front.specs.Ports.{frontWrite, frontRead}
-use Rattle.vdp.specs.Ports.{oddPalette, paletteWrite, portWrite, portRead}
-use Rattle.front.proofs.Kept.{write_kept, read-registers}
-use Rattle.fields.specs.Fields.{latchByte, latchFrom}
-use Rattle.block_parts.proofs.Copies.{length-coloursFrom, colour-low}
-use Rattle.block.specs.Block.{wellFormed, state_of, Shape}
+use Rattle.vdp.specs.Device.{device, made, front_of, with_front, with_palette_byte, with_addr}
+use Rattle.front.specs.Ports.{front_write, front_read}
+use Rattle.vdp.specs.Ports.{odd_palette, palette_write, port_write, port_read}
+use Rattle.front.proofs.Kept.{write_kept, read_registers}
+use Rattle.fields.specs.Fields.{latch_byte, latch_from}
+use Rattle.block_parts.proofs.Copies.{length-colours_from, colour_low}
+use Rattle.block.specs.Block.{well_formed, state_of, Shape}
 use Rattle.block.proofs.Whole.{long}
 
 zeros : (n i : ℕ) → at (replicate n 0) i ≡ 0
@@ -34,8 +34,8 @@ zeros zero i = refl
 zeros (suc n) zero = refl
 zeros (suc n) (suc i) = zeros n i
 
-pub made-shape : (t : LineTable) → Shape (made t)
-made-shape t =
+pub made_shape : (t : LineTable) → Shape (made t)
+made_shape t =
     record {
       registers = refl;
       palette = refl;
@@ -45,10 +45,10 @@ made-shape t =
       colour = λ i. rw (zeros 32 i) (omega arith);
     }
 
--- and so has the device of a well-formed block
-module _ (b : List ℕ) (w : wellFormed b ≡ true) (bytes : (i : ℕ) → at b i < 256) where
-  part-byte : (n k i : ℕ) → at (take n (drop k b)) i < 256
-  part-byte n k i =
+-- and so has the device of a well_formed_lem block
+module _ (b : List ℕ) (w : well_formed b ≡ true) (bytes : (i : ℕ) → at b i < 256) where
+  part_byte : (n k i : ℕ) → at (take n (drop k b)) i < 256
+  part_byte n k i =
       elim (dec_lt i n) [
         | yes l ↦ rw (get_or-take n (drop k b) i 0 l, get_or-drop k b i 0) (bytes (k + i))
         | no l ↦
@@ -56,19 +56,19 @@ module _ (b : List ℕ) (w : wellFormed b ≡ true) (bytes : (i : ℕ) → at b 
             rw (get_or-eq_default (take n (drop k b)) 0 h) (omega arith)
       ]
 
-  latch-low : (f x : ℕ) → x < 256 → latchByte (latchFrom f x) < 256
-  latch-low f x h = either (λ (l : Latch). latchByte l < 256) (eqb f 0) (λ _. omega arith) (λ _. h)
+  latch_low : (f x : ℕ) → x < 256 → latch_byte (latch_from f x) < 256
+  latch_low f x h = either (λ (l : Latch). latch_byte l < 256) (eqb f 0) (λ _. omega arith) (λ _. h)
 
-  pub state-shape : Shape (state_of b)
+  pub state_shape : Shape (state_of b)
   unfolding state_of
-  state-shape =
+  state_shape =
       record {
         registers = simp (length-take, length-drop) (omega (arith, long b w));
         palette = simp (length-take, length-drop) (omega (arith, long b w));
-        cache = length-coloursFrom 91 b;
-        byte = part-byte 64 27;
-        latched = latch-low (at b 23) (at b 24) (bytes 24);
-        colour = colour-low 91 b bytes;
+        cache = length-colours_from 91 b;
+        byte = part_byte 64 27;
+        latched = latch_low (at b 23) (at b 24) (bytes 24);
+        colour = colour_low 91 b bytes;
       }
 
 module _ {s : VdpState} (g : Shape s) where
@@ -80,7 +80,7 @@ module _ {s : VdpState} (g : Shape s) where
       record { registers = g.registers; palette = g.palette; cache = g.cache; byte = g.byte; latched = g.latched; colour = g.colour }
 
   -- and so is any front with as many registers
-  fronted : (f : Front) → length f.reg ≡ length s.reg → Shape (withFront s f)
+  fronted : (f : Front) → length f.reg ≡ length s.reg → Shape (with_front s f)
   fronted f e =
       record { registers = e ∙ g.registers; palette = g.palette; cache = g.cache; byte = g.byte; latched = g.latched; colour = g.colour }
 
@@ -88,13 +88,13 @@ abbrev ShapeW : Written → Type 0
 ShapeW a = Shape a.vdp
 
 module _ (v : ℕ) (small : v < 256) where
-  even-palette : (s : VdpState) (a : ℕ) → Shape s → Shape (with_addr (withPaletteByte s (Held v)) a)
-  even-palette s a g =
+  even_palette_lem : (s : VdpState) (a : ℕ) → Shape s → Shape (with_addr (with_palette_byte s (Held v)) a)
+  even_palette_lem s a g =
       record { registers = g.registers; palette = g.palette; cache = g.cache; byte = g.byte; latched = small; colour = g.colour }
 
-  odd-palette : (l : Latch) (s : VdpState) → latchByte l < 256 → Shape s → ShapeW (oddPalette l s v)
-  odd-palette Empty s h g = g
-  odd-palette (Held low) s h g =
+  odd_palette_lem : (l : Latch) (s : VdpState) → latch_byte l < 256 → Shape s → ShapeW (odd_palette l s v)
+  odd_palette_lem Empty s h g = g
+  odd_palette_lem (Held low) s h g =
       record {
         registers = g.registers;
         palette = simp length-set g.palette;
@@ -104,19 +104,19 @@ module _ (v : ℕ) (small : v < 256) where
         colour = g.colour;
       }
 
-  palette-write : (s : VdpState) → Shape s → ShapeW (paletteWrite s v)
-  palette-write s g =
-      either ShapeW (eqb (s.addr % 2) 0) (λ _. even-palette s ((s.addr + 1) % 64) g) (λ _. odd-palette s.cram_byte1 s g.latched g)
+  palette_write_lem : (s : VdpState) → Shape s → ShapeW (palette_write s v)
+  palette_write_lem s g =
+      either ShapeW (eqb (s.addr % 2) 0) (λ _. even_palette_lem s ((s.addr + 1) % 64) g) (λ _. odd_palette_lem s.cram_byte1 s g.latched g)
 
-  pub write_shape : (s : VdpState) (m : List ℕ) (p : ℕ) → Shape s → Shape (portWrite s m p v).answer.vdp
-  unfolding portWrite
+  pub write_shape : (s : VdpState) (m : List ℕ) (p : ℕ) → Shape s → Shape (port_write s m p v).answer.vdp
+  unfolding port_write
   write_shape s m p g =
-      let a = (frontWrite 64 (frontOf s) m p v).answer in
-      let h = fronted g a.front (write_kept 64 (frontOf s) m p v).registers in
-      either ShapeW a.palette (λ _. palette-write (withFront s a.front) h) (λ _. h)
+      let a = (front_write 64 (front_of s) m p v).answer in
+      let h = fronted g a.front (write_kept 64 (front_of s) m p v).registers in
+      either ShapeW a.palette (λ _. palette_write_lem (with_front s a.front) h) (λ _. h)
 
-pub read-shape : (s : VdpState) (m : List ℕ) (p : ℕ) → Shape s → Shape (portRead s m p).vdp
-unfolding portRead
-read-shape s m p g =
+pub read_shape : (s : VdpState) (m : List ℕ) (p : ℕ) → Shape s → Shape (port_read s m p).vdp
+unfolding port_read
+read_shape s m p g =
     let c = s.raster.v_counter in
-    fronted g (frontRead (frontOf s) m p c).front (ap length (read-registers (frontOf s) m p c))
+    fronted g (front_read (front_of s) m p c).front (ap length (read_registers (front_of s) m p c))

@@ -12,11 +12,11 @@ use Rattle.laws.specs.Lists.{at}
 use Rattle.laws.proofs.Tests.{both, split}
 use Rattle.raster.specs.declared.LineTable.{LineTable}
 use Rattle.raster.specs.declared.LineTable.TheVariants.{Steps261, Steps262}
-use Rattle.raster.specs.Raster.{lineTableNumber, lineTableFrom}
+use Rattle.raster.specs.Raster.{line_table_number, line_table_from}
 use Rattle.vdp.specs.declared.VdpState.{VdpState}
-use Rattle.fields.specs.Fields.{latchFits}
-use Rattle.block_parts.specs.Parts.{fieldsFit}
-use Rattle.block.specs.Block.{sized, mark_of, fits, head, small, last, state_of, wellFormed}
+use Rattle.fields.specs.Fields.{latch_fits}
+use Rattle.block_parts.specs.Parts.{fields_fit}
+use Rattle.block.specs.Block.{sized, mark_of, fits, head, small, last, state_of, well_formed}
 
 pub length-head : (n : ℕ) (s : VdpState) → length (head n s) ≡ 3
 unfolding head
@@ -27,31 +27,31 @@ unfolding small
 length-small s = refl
 
 -- the byte past the cache: the second version's alone
-pub last-old : (n : ℕ) (s : VdpState) → n ≡ 219 → last n s ≡ []
+pub last_old : (n : ℕ) (s : VdpState) → n ≡ 219 → last n s ≡ []
 unfolding last
-last-old n s e = rw e
+last_old n s e = rw e
 
-pub last-new : (n : ℕ) (s : VdpState) → n ≡ 220 → last n s ≡ lineTableNumber s.raster.table ∷ []
+pub last_new : (n : ℕ) (s : VdpState) → n ≡ 220 → last n s ≡ line_table_number s.raster.table ∷ []
 unfolding last
-last-new n s e = rw e
+last_new n s e = rw e
 
 pub length_last : (n : ℕ) (s : VdpState) → sized n ≡ true → 219 + length (last n s) ≡ n
 length_last n s h =
     split (eqb n 219)
-    (λ t. let e : n ≡ 219 = eqb-true n 219 t in rw (last-old n s e) (sym e))
+    (λ t. let e : n ≡ 219 = eqb-true n 219 t in rw (last_old n s e) (sym e))
     (λ t.
     let e : n ≡ 220 = eqb-true n 220 (rw t at h) in
-    rw (last-new n s e) (sym e))
+    rw (last_new n s e) (sym e))
 
 -- what its length is told by
-pub sized-low : (n : ℕ) → sized n ≡ true → 219 ≤ n
-sized-low n h =
+pub sized_low : (n : ℕ) → sized n ≡ true → 219 ≤ n
+sized_low n h =
     split (eqb n 219)
     (λ t. omega (arith, eqb-true n 219 t))
     (λ t. let e : n ≡ 220 = eqb-true n 220 (rw t at h) in omega arith)
 
-pub sized-high : (n : ℕ) → sized n ≡ true → n ≤ 220
-sized-high n h =
+pub sized_high : (n : ℕ) → sized n ≡ true → n ≤ 220
+sized_high n h =
     split (eqb n 219)
     (λ t. omega (arith, eqb-true n 219 t))
     (λ t. let e : n ≡ 220 = eqb-true n 220 (rw t at h) in omega arith)
@@ -63,40 +63,40 @@ in_size n l h = split (eqb n 219) (λ t. rw t) (λ t. rw (t, eq-eqb n 220 (omega
 pub too_short : (n : ℕ) → n < 219 → sized n ≡ false
 too_short n h = rw (ne_eqb n 219 (λ e. omega arith), ne_eqb n 220 (λ e. omega arith))
 
-pub too_long : (n : ℕ) → 220 < n → sized n ≡ false
-too_long n h = rw (ne_eqb n 219 (λ e. omega arith), ne_eqb n 220 (λ e. omega arith))
+pub too_long_lem : (n : ℕ) → 220 < n → sized n ≡ false
+too_long_lem n h = rw (ne_eqb n 219 (λ e. omega arith), ne_eqb n 220 (λ e. omega arith))
 
-pub fits-sized : (t : LineTable) (n : ℕ) → fits t n ≡ true → sized n ≡ true
-fits-sized Steps261 n h = h
-fits-sized Steps262 n h = rw (eqb-true n 220 h)
+pub fits_sized : (t : LineTable) (n : ℕ) → fits t n ≡ true → sized n ≡ true
+fits_sized Steps261 n h = h
+fits_sized Steps262 n h = rw (eqb-true n 220 h)
 
 -- whether it is well formed, as the code asks
-pub not-formed : (b : List ℕ) → sized (length b) ≡ false → false ≡ wellFormed b
-unfolding wellFormed
-not-formed b e = rw e
+pub not_formed : (b : List ℕ) → sized (length b) ≡ false → false ≡ well_formed b
+unfolding well_formed
+not_formed b e = rw e
 
-pub formed : (b : List ℕ) {m t : ℕ} {f : Bool} → sized (length b) ≡ true → m ≡ mark_of (length b) → t ≡ at b 219 → f ≡ fieldsFit b
-    → ((eqb (at b 0) 0x56 && eqb (at b 1) m) && f && (leb (at b 23) 1 && leb (at b 26) 1 && leb t 1) && latchFits (at b 23) (at b 24)) ≡ wellFormed b
-unfolding wellFormed
+pub formed : (b : List ℕ) {m t : ℕ} {f : Bool} → sized (length b) ≡ true → m ≡ mark_of (length b) → t ≡ at b 219 → f ≡ fields_fit b
+    → ((eqb (at b 0) 0x56 && eqb (at b 1) m) && f && (leb (at b 23) 1 && leb (at b 26) 1 && leb t 1) && latch_fits (at b 23) (at b 24)) ≡ well_formed b
+unfolding well_formed
 formed b e em et ef = rw (e, em, et, ef)
 
-pub length-of : (b : List ℕ) → wellFormed b ≡ true → sized (length b) ≡ true
-unfolding wellFormed
-length-of b e = (both (sized (length b)) _ e).0
+pub length_of : (b : List ℕ) → well_formed b ≡ true → sized (length b) ≡ true
+unfolding well_formed
+length_of b e = (both (sized (length b)) _ e).0
 
-pub long : (b : List ℕ) → wellFormed b ≡ true → 219 ≤ length b
-long b e = sized-low (length b) (length-of b e)
+pub long : (b : List ℕ) → well_formed b ≡ true → 219 ≤ length b
+long b e = sized_low (length b) (length_of b e)
 
 -- the device of a block has a table that the block's own version has
-pub fits-own : (b : List ℕ) → sized (length b) ≡ true → fits (state_of b).raster.table (length b) ≡ true
+pub fits_own : (b : List ℕ) → sized (length b) ≡ true → fits (state_of b).raster.table (length b) ≡ true
 unfolding state_of
-fits-own b h =
+fits_own b h =
     split (eqb (length b) 219)
     (λ t.
     let e : length b ≡ 219 = eqb-true (length b) 219 t in
     let low : length b ≤ 219 = omega arith in
     rw (get_or-eq_default b 0 low) h)
-    (λ t. new (lineTableFrom (at b 219)) (rw t at h))
+    (λ t. new (line_table_from (at b 219)) (rw t at h))
   where
     new : (t : LineTable) → eqb (length b) 220 ≡ true → fits t (length b) ≡ true
     new Steps261 e = rw (eqb-true (length b) 220 e)

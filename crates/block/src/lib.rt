@@ -1,7 +1,7 @@
 // The state block (R7.5): a device as 219 or 220 bytes, and back.
 ghost use Rattle.std.specs.Prelude.{◌≡◌, ◌≤◌, ◌<◌, length};
 ghost use Rattle.laws.specs.Lists.{at};
-ghost use Rattle.block.specs.Block.{oldSize, mark_of, fits, freshIn, state_of, wellFormed};
+ghost use Rattle.block.specs.Block.{old_size, mark_of, fits, fresh_in, state_of, well_formed};
 
 use fields::{MARK, MARK_FIRST, MARK_SECOND};
 use raster::{LineTable, Raster};
@@ -56,7 +56,7 @@ fn table_byte(block: &[u8]) -> u8
 
 // R7.6: whether a block has a length of blocks, its mark, and no byte that does not fit its place.
 pub fn well_formed(block: &[u8]) -> bool
-    ensures { result ≡ wellFormed block.now }
+    ensures { result ≡ well_formed block.now }
 {
     let len = block.len();
     if len < OLD_SIZE {
@@ -74,7 +74,7 @@ pub fn well_formed(block: &[u8]) -> bool
 
 // A fresh device of this table into a block, in the version that its length tells; one that has no room for it is left as it is.
 pub fn fresh(block: &mut [u8], table: LineTable)
-    ensures { block.new ≡ freshIn table block.old }
+    ensures { block.new ≡ fresh_in table block.old }
 {
     let len = block.len();
     if !has_room(table, len) {
@@ -90,7 +90,7 @@ pub fn fresh(block: &mut [u8], table: LineTable)
 
 // The registers.
 pub fn registers(block: &[u8]) -> [u8; 11]
-    requires { oldSize ≤ length block.now }
+    requires { old_size ≤ length block.now }
     ensures { result ≡ (state_of block.now).reg }
 {
     block_parts::registers(block)
@@ -98,7 +98,7 @@ pub fn registers(block: &[u8]) -> [u8; 11]
 
 // The raster.
 pub fn raster_in(block: &[u8]) -> Raster
-    requires { oldSize ≤ length block.now }
+    requires { old_size ≤ length block.now }
     ensures { result ≡ (state_of block.now).raster }
 {
     block_parts::raster_in(
@@ -110,7 +110,7 @@ pub fn raster_in(block: &[u8]) -> Raster
 
 // The palette, and the cached colours.
 pub fn palette_in(block: &[u8]) -> [u8; 64]
-    requires { oldSize ≤ length block.now }
+    requires { old_size ≤ length block.now }
     ensures { result ≡ (state_of block.now).cram }
 {
     let mut cram = [0u8; 64];
@@ -119,7 +119,7 @@ pub fn palette_in(block: &[u8]) -> [u8; 64]
 }
 
 pub fn cache_in(block: &[u8]) -> [u32; 32]
-    requires { oldSize ≤ length block.now }
+    requires { old_size ≤ length block.now }
     ensures { result ≡ (state_of block.now).color_cache }
 {
     block_parts::colours_at(block, CACHE)
@@ -127,7 +127,7 @@ pub fn cache_in(block: &[u8]) -> [u32; 32]
 
 // One of the cached colours.
 pub fn cached_colour(block: &[u8], n: usize) -> u32
-    requires { (oldSize ≤ length block.now) × (n < 32) }
+    requires { (old_size ≤ length block.now) × (n < 32) }
     ensures { result ≡ at (state_of block.now).color_cache n }
 {
     block_parts::colour_at(block, CACHE + 4 * n)

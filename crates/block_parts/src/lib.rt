@@ -2,8 +2,8 @@
 ghost use Rattle.std.specs.Prelude.{◌≡◌, ◌+◌, ◌≤◌, ◌<◌, length, drop, replicate};
 ghost use Rattle.laws.specs.Lists.{at};
 ghost use Rattle.std.proofs.Math.Seq.{paste};
-ghost use Rattle.fields.specs.Stored.{frontEnd};
-ghost use Rattle.block_parts.specs.Parts.{registersIn, rasterIn, colourBytes, colourAt, coloursFrom, fieldsFit, rasterStored, cacheStored, stamped};
+ghost use Rattle.fields.specs.Stored.{front_end};
+ghost use Rattle.block_parts.specs.Parts.{registers_in, raster_in, colour_bytes, colour_at, colours_from, fields_fit, raster_stored, cache_stored, stamped};
 
 use fields::{
     CHOSEN, COMMAND_BYTE, COMMAND_LATCHED, COUNTER, JUMPED, LINE_COUNT, MARK, MARK_FIRST,
@@ -51,7 +51,7 @@ fn clear(block: &mut [u8])
 
 // A fresh block but for its table, with this second byte of the mark and its dirty flag at this place.
 pub fn stamp(block: &mut [u8], mark: u8, dirty: usize)
-    requires { (frontEnd ≤ length block.old) × (dirty < length block.old) }
+    requires { (front_end ≤ length block.old) × (dirty < length block.old) }
     ensures { block.new ≡ stamped (length block.old) mark dirty }
 {
     clear(block);
@@ -71,7 +71,7 @@ pub fn stamp(block: &mut [u8], mark: u8, dirty: usize)
 // Four bytes of src, the lowest first.
 pub fn colour_at(src: &[u8], at: usize) -> u32
     requires { at + 4 ≤ length src.now }
-    ensures { result ≡ colourAt src.now at }
+    ensures { result ≡ colour_at src.now at }
 {
     small::four_at(src, at)
 }
@@ -79,7 +79,7 @@ pub fn colour_at(src: &[u8], at: usize) -> u32
 // The 32 colours that stand from this place on.
 pub fn colours_at(src: &[u8], place: usize) -> [u32; 32]
     requires { place + 128 ≤ length src.now }
-    ensures { result ≡ coloursFrom place src.now }
+    ensures { result ≡ colours_from place src.now }
 {
     let mut out = [0u32; 32];
     let mut i = 0;
@@ -93,7 +93,7 @@ pub fn colours_at(src: &[u8], place: usize) -> [u32; 32]
 // The four bytes of each colour, the lowest first, into dst at this place.
 fn put_colours(dst: &mut [u8], place: usize, colours: &[u32])
     requires { (place + 128 ≤ length dst.old) × (length colours.now ≡ 32) }
-    ensures { dst.new ≡ paste dst.old place (colourBytes colours.now) 128 }
+    ensures { dst.new ≡ paste dst.old place (colour_bytes colours.now) 128 }
 {
     let mut i = 0;
     while i < 32 {
@@ -110,7 +110,7 @@ fn put_colours(dst: &mut [u8], place: usize, colours: &[u32])
 // Colours into a block, which are not dirty then.
 pub fn store_cache(block: &mut [u8], place: usize, dirty: usize, colours: &[u32; 32])
     requires { (place + 128 ≤ length block.old) × (dirty < length block.old) }
-    ensures { block.new ≡ cacheStored place dirty colours.now block.old }
+    ensures { block.new ≡ cache_stored place dirty colours.now block.old }
 {
     put_colours(block, place, colours);
     block[dirty] = 0;
@@ -120,8 +120,8 @@ pub fn store_cache(block: &mut [u8], place: usize, dirty: usize, colours: &[u32;
 
 // R7.6: whether the bytes that both have fit their places.
 pub fn fields_fit(block: &[u8]) -> bool
-    requires { frontEnd ≤ length block.now }
-    ensures { result ≡ fieldsFit block.now }
+    requires { front_end ≤ length block.now }
+    ensures { result ≡ fields_fit block.now }
 {
     let command = (block[COMMAND_LATCHED] != 0) | (block[COMMAND_BYTE] == 0);
     (block[JUMPED] <= 1) & (block[CHOSEN] <= 2) & (block[COMMAND_LATCHED] <= 1) & command
@@ -129,8 +129,8 @@ pub fn fields_fit(block: &[u8]) -> bool
 
 // The registers.
 pub fn registers(block: &[u8]) -> [u8; 11]
-    requires { frontEnd ≤ length block.now }
-    ensures { result ≡ registersIn block.now }
+    requires { front_end ≤ length block.now }
+    ensures { result ≡ registers_in block.now }
 {
     let mut reg = [0u8; 11];
     copy(&mut reg, 0, block, REGISTERS, 11);
@@ -139,8 +139,8 @@ pub fn registers(block: &[u8]) -> [u8; 11]
 
 // The raster, its scroll at this place, with this table.
 pub fn raster_in(block: &[u8], scroll: usize, table: LineTable) -> Raster
-    requires { (frontEnd ≤ length block.now) × (scroll < length block.now) }
-    ensures { result ≡ rasterIn scroll table block.now }
+    requires { (front_end ≤ length block.now) × (scroll < length block.now) }
+    ensures { result ≡ raster_in scroll table block.now }
 {
     Raster {
         v_counter: block[COUNTER],
@@ -153,8 +153,8 @@ pub fn raster_in(block: &[u8], scroll: usize, table: LineTable) -> Raster
 
 // A status and a raster into a block, its scroll at this place.
 pub fn store_raster(block: &mut [u8], scroll: usize, status: u8, raster: Raster)
-    requires { (frontEnd ≤ length block.old) × (scroll < length block.old) }
-    ensures { block.new ≡ rasterStored scroll status raster block.old }
+    requires { (front_end ≤ length block.old) × (scroll < length block.old) }
+    ensures { block.new ≡ raster_stored scroll status raster block.old }
 {
     block[STATUS] = status;
     block[COUNTER] = raster.v_counter;

@@ -12,35 +12,35 @@ use lib.Dec.{eqb, ltb}
 use lib.ListN.{length, length-append, get_or-append, get_or-eq_default}
 use lib.Seq.{ext_get_or, get_or-append_seam}
 use Rattle.laws.specs.Lists.{at}
-use Rattle.laws.specs.Table.{table, tableFrom}
-use Rattle.laws.proofs.Parts.{part-table}
+use Rattle.laws.specs.Table.{table, table_from}
+use Rattle.laws.proofs.Parts.{part_table}
 use Rattle.laws.proofs.Tests.{split, both, clash, either}
 use Rattle.front.specs.declared.WriteDest.{WriteDest}
 use Rattle.front.specs.declared.WriteDest.TheVariants.{None, Vram, Cram}
 use Rattle.vdp.specs.Refusals.{size}
-use Rattle.block.specs.Block.{sized, mark_of, state_of, wellFormed}
-use Rattle.fields.specs.Fields.{flagFrom, chosenFrom, latchFits}
-use Rattle.block_parts.specs.Parts.{colourAt, coloursFrom}
-use Rattle.block.proofs.Whole.{sized-low}
+use Rattle.block.specs.Block.{sized, mark_of, state_of, well_formed}
+use Rattle.fields.specs.Fields.{flag_from, chosen_from, latch_fits}
+use Rattle.block_parts.specs.Parts.{colour_at, colours_from}
+use Rattle.block.proofs.Whole.{sized_low}
 use Rattle.block.proofs.RoundTrip.{Said, said}
-use Rattle.block_repair.specs.Repair.{within, held, choice, address, matching, dirty, mendedAt, mended, differing, changes}
-use Rattle.block_repair.specs.Salvaged.{nothingWrong, among, Salvaged}
-use Rattle.block_repair.proofs.Laws.{within_low, length-mended, at-mended}
+use Rattle.block_repair.specs.Repair.{within, held, choice, address, matching, dirty, mended_at, mended, differing, changes}
+use Rattle.block_repair.specs.Salvaged.{nothing_wrong, among, Salvaged}
+use Rattle.block_repair.proofs.Laws.{within_low, length-mended, at_mended}
 
 -- ---- the parts
-size-positive : (w : WriteDest) → 0 < size w
-size-positive None = omega arith
-size-positive Vram = omega arith
-size-positive Cram = omega arith
+size_positive : (w : WriteDest) → 0 < size w
+size_positive None = omega arith
+size_positive Vram = omega arith
+size_positive Cram = omega arith
 
-within-kept : (h x : ℕ) → x ≤ h → within h x ≡ x
-within-kept h x l = rw (le-leb x h l)
+within_kept : (h x : ℕ) → x ≤ h → within h x ≡ x
+within_kept h x l = rw (le-leb x h l)
 
-held_fits : (f x : ℕ) → latchFits f (held f x) ≡ true
+held_fits : (f x : ℕ) → latch_fits f (held f x) ≡ true
 held_fits zero x = refl
 held_fits (suc f) x = rw (ne_eqb (suc f) 0 (λ e. omega arith))
 
-held_kept : (f x : ℕ) → latchFits f x ≡ true → held f x ≡ x
+held_kept : (f x : ℕ) → latch_fits f x ≡ true → held f x ≡ x
 held_kept zero x e = sym (eqb-true x 0 e)
 held_kept (suc f) x e = rw (ne_eqb (suc f) 0 (λ z. omega arith))
 
@@ -52,31 +52,31 @@ or-true true = refl
 or-true false = refl
 
 -- a flag that is 0 becomes 1
-claimed : (d : ℕ) → d ≤ 1 → (flagFrom (cond (eqb d 0 && true) 1 d) || false) ≡ true
+claimed : (d : ℕ) → d ≤ 1 → (flag_from (cond (eqb d 0 && true) 1 d) || false) ≡ true
 claimed zero h = refl
 claimed (suc zero) h = refl
 claimed (suc (suc d)) h = absurd (omega arith)
 
-size-high : (w : WriteDest) → size w ≤ 16384
-size-high None = omega arith
-size-high Vram = omega arith
-size-high Cram = omega arith
+size_high : (w : WriteDest) → size w ≤ 16384
+size_high None = omega arith
+size_high Vram = omega arith
+size_high Cram = omega arith
 
 -- a flag that is right stays where its colours are
-by_flag : (d : ℕ) → d ≤ 1 → (t : Bool) → (flagFrom d || t) ≡ true → cond (eqb d 0 && not t) 1 d ≡ d
+by_flag : (d : ℕ) → d ≤ 1 → (t : Bool) → (flag_from d || t) ≡ true → cond (eqb d 0 && not t) 1 d ≡ d
 by_flag zero h true e = refl
 by_flag zero h false e = clash (sym e)
 by_flag (suc zero) h t e = refl
 by_flag (suc (suc d)) h t e = absurd (omega arith)
 
-table_same : (n k : ℕ) (f g : ℕ → ℕ) → ((i : ℕ) → k ≤ i → i < k + n → f i ≡ g i) → tableFrom n k f ≡ tableFrom n k g
-unfolding tableFrom
+table_same : (n k : ℕ) (f g : ℕ → ℕ) → ((i : ℕ) → k ≤ i → i < k + n → f i ≡ g i) → table_from n k f ≡ table_from n k g
+unfolding table_from
 table_same zero k f g h = refl
 table_same (suc n) k f g h = λ i. h k (omega arith) (omega arith) i ∷ table_same n (suc k) f g (λ j l u. h j (omega arith) (omega arith)) i
 
 -- bytes 27 to 218, palette and cache, are as they were
-same_byte : (b : List ℕ) (k : ℕ) → 27 ≤ k → k < 219 → mendedAt b k ≡ at b k
-unfolding mendedAt
+same_byte : (b : List ℕ) (k : ℕ) → 27 ≤ k → k < 219 → mended_at b k ≡ at b k
+unfolding mended_at
 same_byte b k l h =
     rw (
       ne_eqb k 0 (λ e. omega arith),
@@ -100,34 +100,34 @@ module _ (b : List ℕ) (s : sized (length b) ≡ true) where
   m = mended b
 
   low : 219 ≤ length b
-  low = sized-low (length b) s
+  low = sized_low (length b) s
 
-  byte : (k : ℕ) → k < 219 → at m k ≡ mendedAt b k
+  byte : (k : ℕ) → k < 219 → at m k ≡ mended_at b k
   unfolding m
-  byte k h = at-mended b k (omega (arith, low))
+  byte k h = at_mended b k (omega (arith, low))
 
   kept : (k : ℕ) → 27 ≤ k → k < 219 → at m k ≡ at b k
   kept k l h = byte k h ∙ same_byte b k l h
 
-  table-low : at m 219 ≤ 1
-  unfolding m mendedAt
-  table-low =
+  table_low : at m 219 ≤ 1
+  unfolding m mended_at
+  table_low =
       split (eqb (length b) 219)
       (λ t.
       let e : length b ≡ 219 = eqb-true (length b) 219 t in
       let z : length (mended b) ≤ 219 = omega (arith, length-mended b) in
       rw (get_or-eq_default (mended b) 0 z) (omega arith))
-      (λ t. rw (at-mended b 219 (omega (arith, low, eqb-false (length b) 219 t))) (within_low 1 (at b 219)))
+      (λ t. rw (at_mended b 219 (omega (arith, low, eqb-false (length b) 219 t))) (within_low 1 (at b 219)))
 
-  m-sized : sized (length m) ≡ true
+  m_sized : sized (length m) ≡ true
   unfolding m
-  m-sized = rw (length-mended b) s
+  m_sized = rw (length-mended b) s
 
   -- each byte that the rules speak of
-  unfolding-0 : (at m 0 ≡ 0x56) × (at m 1 ≡ mark_of (length m)) × (at m 15 ≡ within 1 (at b 15)) × (at m 17 ≡ address b % 256) ×
+  unfolding_0 : (at m 0 ≡ 0x56) × (at m 1 ≡ mark_of (length m)) × (at m 15 ≡ within 1 (at b 15)) × (at m 17 ≡ address b % 256) ×
       (at m 18 ≡ address b / 256)
-  unfolding m mendedAt
-  unfolding-0 = (
+  unfolding m mended_at
+  unfolding_0 = (
     byte 0 (omega arith),
     byte 1 (omega arith) ∙ ap mark_of (sym (length-mended b)),
     byte 15 (omega arith),
@@ -136,10 +136,10 @@ module _ (b : List ℕ) (s : sized (length b) ≡ true) where
         18 (omega arith),
   )
 
-  unfolding-1 : (at m 20 ≡ choice b) × (at m 21 ≡ within 1 (at b 21)) × (at m 22 ≡ held (within 1 (at b 21)) (at b 22)) ×
+  unfolding_1 : (at m 20 ≡ choice b) × (at m 21 ≡ within 1 (at b 21)) × (at m 22 ≡ held (within 1 (at b 21)) (at b 22)) ×
       (at m 23 ≡ within 1 (at b 23)) × (at m 24 ≡ held (within 1 (at b 23)) (at b 24)) × (at m 26 ≡ dirty b)
-  unfolding mendedAt
-  unfolding-1 = (
+  unfolding mended_at
+  unfolding_1 = (
     byte 20 (omega arith),
     byte 21 (omega arith),
     byte 22 (omega arith),
@@ -149,16 +149,16 @@ module _ (b : List ℕ) (s : sized (length b) ≡ true) where
         (omega arith),
   )
 
-  dirty-low : dirty b ≤ 1
+  dirty_low : dirty b ≤ 1
   unfolding dirty
-  dirty-low = either (λ (x : ℕ). x ≤ 1) (eqb (within 1 (at b 26)) 0 && not (matching b)) (λ _. omega arith) (λ _. within_low 1 (at b 26))
+  dirty_low = either (λ (x : ℕ). x ≤ 1) (eqb (within 1 (at b 26)) 0 && not (matching b)) (λ _. omega arith) (λ _. within_low 1 (at b 26))
 
-  well-formed : wellFormed m ≡ true
-  unfolding wellFormed
-  well-formed =
-      let u = unfolding-0 in
-      let v = unfolding-1 in
-      rw (m-sized, u.0, u.1, eq-eqb (mark_of (length m)) (mark_of (length m)) refl, u.2, le-leb (within 1 (at b 15)) 1 (within_low 1 (at b 15)))
+  well_formed_lem : well_formed m ≡ true
+  unfolding well_formed
+  well_formed_lem =
+      let u = unfolding_0 in
+      let v = unfolding_1 in
+      rw (m_sized, u.0, u.1, eq-eqb (mark_of (length m)) (mark_of (length m)) refl, u.2, le-leb (within 1 (at b 15)) 1 (within_low 1 (at b 15)))
       (rw (
         v.0,
         le-leb (choice b) 2 (within_low 2 (at b 20)),
@@ -171,8 +171,8 @@ module _ (b : List ℕ) (s : sized (length b) ≡ true) where
         v.3,
         le-leb (within 1 (at b 23)) 1 (within_low 1 (at b 23)),
         v.5,
-        le-leb (dirty b) 1 dirty-low,
-        le-leb (at m 219) 1 table-low,
+        le-leb (dirty b) 1 dirty_low,
+        le-leb (at m 219) 1 table_low,
         v.4,
         held_fits (within 1 (at b 23)) (at b 24),
       )))
@@ -181,23 +181,23 @@ module _ (b : List ℕ) (s : sized (length b) ≡ true) where
   addressed : ltb (state_of m).addr (size (state_of m).dest) ≡ true
   unfolding state_of address
   addressed =
-      let u = unfolding-0 in
-      let v = unfolding-1 in
+      let u = unfolding_0 in
+      let v = unfolding_1 in
       rw (u.3, u.4, v.0, whole (address b))
-      (lt-ltb (address b) (size (chosenFrom (choice b))) (mod-lt (at b 17 + 256 * at b 18) (size-positive (chosenFrom (choice b)))))
+      (lt-ltb (address b) (size (chosen_from (choice b))) (mod-lt (at b 17 + 256 * at b 18) (size_positive (chosen_from (choice b)))))
 
   -- palette and cache are as they were, and so whether they match
-  same-palette : (state_of m).cram ≡ (state_of b).cram
+  same_palette : (state_of m).cram ≡ (state_of b).cram
   unfolding state_of m
-  same-palette =
-      sym (part-table 64 27 (mended b) (omega (arith, low, length-mended b)))
+  same_palette =
+      sym (part_table 64 27 (mended b) (omega (arith, low, length-mended b)))
       ∙ table_same 64 27 (at (mended b)) (at b) (λ k l h. kept k l (omega arith))
-      ∙ part-table 64 27 b (omega (arith, low))
+      ∙ part_table 64 27 b (omega (arith, low))
 
-  same-cache : (state_of m).color_cache ≡ (state_of b).color_cache
-  unfolding state_of coloursFrom colourAt table
-  same-cache =
-      table_same 32 0 (λ i. colourAt m (91 + 4 * i)) (λ i. colourAt b (91 + 4 * i))
+  same_cache : (state_of m).color_cache ≡ (state_of b).color_cache
+  unfolding state_of colours_from colour_at table
+  same_cache =
+      table_same 32 0 (λ i. colour_at m (91 + 4 * i)) (λ i. colour_at b (91 + 4 * i))
       (λ k l h. rw (
         kept (91 + 4 * k) (omega arith) (omega arith),
         kept (91 + 4 * k + 1) (omega arith) (omega arith),
@@ -206,87 +206,87 @@ module _ (b : List ℕ) (s : sized (length b) ≡ true) where
         kept (91 + 4 * k + 3) (omega arith) (omega arith),
       ))
 
-  same-match : matching m ≡ matching b
+  same_match : matching m ≡ matching b
   unfolding matching
-  same-match = rw (same-palette, same-cache)
+  same_match = rw (same_palette, same_cache)
 
   clean : ((state_of m).cram_dirty || matching m) ≡ true
   unfolding state_of dirty
   clean =
-      rw (unfolding-1.5, same-match)
+      rw (unfolding_1.5, same_match)
       (split (matching b)
-      (λ t. rw (t, or-true (flagFrom (cond (eqb (within 1 (at b 26)) 0 && false) 1 (within 1 (at b 26))))))
+      (λ t. rw (t, or-true (flag_from (cond (eqb (within 1 (at b 26)) 0 && false) 1 (within 1 (at b 26))))))
       (λ t. rw t (claimed (within 1 (at b 26)) (within_low 1 (at b 26)))))
 
-  pub sound : nothingWrong (mended b) ≡ true
+  pub sound : nothing_wrong (mended b) ≡ true
   unfolding m
-  sound = rw (well-formed, addressed, clean)
+  sound = rw (well_formed_lem, addressed, clean)
 
   -- the two bytes of its address are bytes
-  address-bytes : (at (mended b) 17 < 256) × (at (mended b) 18 < 256)
+  address_bytes : (at (mended b) 17 < 256) × (at (mended b) 18 < 256)
   unfolding m address
-  address-bytes =
-      let u = unfolding-0 in
-      let h = mod-lt (at b 17 + 256 * at b 18) (size-positive (chosenFrom (choice b))) in
-      (rw u.3 (omega arith), rw u.4 (omega (arith, h, size-high (chosenFrom (choice b)))))
+  address_bytes =
+      let u = unfolding_0 in
+      let h = mod-lt (at b 17 + 256 * at b 18) (size_positive (chosen_from (choice b))) in
+      (rw u.3 (omega arith), rw u.4 (omega (arith, h, size_high (chosen_from (choice b)))))
 
 -- ---- a block with nothing wrong stays
-module _ (b : List ℕ) (right : nothingWrong b ≡ true) (low-17 : at b 17 < 256) (low-18 : at b 18 < 256) where
-  parts : (wellFormed b ≡ true) × (ltb (state_of b).addr (size (state_of b).dest) ≡ true) × (((state_of b).cram_dirty || matching b) ≡ true)
+module _ (b : List ℕ) (right : nothing_wrong b ≡ true) (low-17 : at b 17 < 256) (low-18 : at b 18 < 256) where
+  parts : (well_formed b ≡ true) × (ltb (state_of b).addr (size (state_of b).dest) ≡ true) × (((state_of b).cram_dirty || matching b) ≡ true)
   parts =
-      let w = both (wellFormed b && ltb (state_of b).addr (size (state_of b).dest)) ((state_of b).cram_dirty || matching b) right in
-      let v = both (wellFormed b) (ltb (state_of b).addr (size (state_of b).dest)) w.0 in
+      let w = both (well_formed b && ltb (state_of b).addr (size (state_of b).dest)) ((state_of b).cram_dirty || matching b) right in
+      let v = both (well_formed b) (ltb (state_of b).addr (size (state_of b).dest)) w.0 in
       (v.0, v.1, w.1)
 
   told : Said b parts.0
   told = said b parts.0
 
-  choice-is : choice b ≡ at b 20
-  choice-is = within-kept 2 (at b 20) told.chosen-20
+  choice_is : choice b ≡ at b 20
+  choice_is = within_kept 2 (at b 20) told.chosen_20
 
   address_is : address b ≡ at b 17 + 256 * at b 18
   unfolding address state_of
   address_is =
-      rw choice-is
-      (mod-eq_of_lt (ltb-true (at b 17 + 256 * at b 18) (size (chosenFrom (at b 20))) parts.1))
+      rw choice_is
+      (mod-eq_of_lt (ltb-true (at b 17 + 256 * at b 18) (size (chosen_from (at b 20))) parts.1))
 
-  dirty-is : dirty b ≡ at b 26
+  dirty_is : dirty b ≡ at b 26
   unfolding dirty state_of
-  dirty-is = rw (within-kept 1 (at b 26) told.flag-26) (by_flag (at b 26) told.flag-26 (matching b) parts.2)
+  dirty_is = rw (within_kept 1 (at b 26) told.flag_26) (by_flag (at b 26) told.flag_26 (matching b) parts.2)
 
   put : (k j v : ℕ) {rest : ℕ} → v ≡ at b j → rest ≡ at b k → cond (eqb k j) v rest ≡ at b k
   put k j v e r = split (eqb k j) (λ t. rw t (e ∙ ap (at b) (sym (eqb-true k j t)))) (λ t. rw t r)
 
-  pub untouched : (k : ℕ) → mendedAt b k ≡ at b k
-  unfolding mendedAt
+  pub untouched : (k : ℕ) → mended_at b k ≡ at b k
+  unfolding mended_at
   untouched k =
-      let f21 = within-kept 1 (at b 21) told.flag-21 in
-      let f23 = within-kept 1 (at b 23) told.flag-23 in
-      put k 0 0x56 (sym told.mark-0)
-      (put k 1 (mark_of (length b)) (sym told.mark-1)
-      (put k 15 (within 1 (at b 15)) (within-kept 1 (at b 15) told.flag-15)
+      let f21 = within_kept 1 (at b 21) told.flag_21 in
+      let f23 = within_kept 1 (at b 23) told.flag_23 in
+      put k 0 0x56 (sym told.mark_0)
+      (put k 1 (mark_of (length b)) (sym told.mark_1)
+      (put k 15 (within 1 (at b 15)) (within_kept 1 (at b 15) told.flag_15)
       (put k 17 (address b % 256) (rw address_is (omega arith))
       (put k 18 (address b / 256) (rw address_is (omega arith))
-      (put k 20 (choice b) choice-is
+      (put k 20 (choice b) choice_is
       (put k 21 (within 1 (at b 21)) f21
       (put k 22 (held (within 1 (at b 21)) (at b 22)) (rw f21 (held_kept (at b 21) (at b 22) told.command))
       (put k 23 (within 1 (at b 23)) f23
       (put k 24 (held (within 1 (at b 23)) (at b 24)) (rw f23 (held_kept (at b 23) (at b 24) told.palette))
-      (put k 26 (dirty b) dirty-is
-      (put k 219 (within 1 (at b 219)) (within-kept 1 (at b 219) told.table-219) refl)))))))))))
+      (put k 26 (dirty b) dirty_is
+      (put k 219 (within 1 (at b 219)) (within_kept 1 (at b 219) told.table_219) refl)))))))))))
 
-  pub stays-so : mended b ≡ b
-  stays-so = ext_get_or 0 (mended b) b (length-mended b) (λ k h. at-mended b k (rw (length-mended b) at h) ∙ untouched k)
+  pub stays_so : mended b ≡ b
+  stays_so = ext_get_or 0 (mended b) b (length-mended b) (λ k h. at_mended b k (rw (length-mended b) at h) ∙ untouched k)
 
-  pub none : (n : ℕ) → differing n (at b) (mendedAt b) ≡ []
+  pub none : (n : ℕ) → differing n (at b) (mended_at b) ≡ []
   unfolding differing
   none zero = refl
-  none (suc n) = rw (none n, eq-eqb (at b n) (mendedAt b n) (sym (untouched n)))
+  none (suc n) = rw (none n, eq-eqb (at b n) (mended_at b n) (sym (untouched n)))
 
 -- ---- the list
-among-append : (k : ℕ) (l x : List ℕ) → among k (l ++ x) ≡ (among k l || among k x)
-among-append k [] x = refl
-among-append k (y ∷ l) x = rw (among-append k l x) (or_assoc (eqb y k) (among k l) (among k x))
+among_append : (k : ℕ) (l x : List ℕ) → among k (l ++ x) ≡ (among k l || among k x)
+among_append k [] x = refl
+among_append k (y ∷ l) x = rw (among_append k l x) (or_assoc (eqb y k) (among k l) (among k x))
   where
     or_assoc : (a c d : Bool) → (a || (c || d)) ≡ ((a || c) || d)
     or_assoc true c d = refl
@@ -302,7 +302,7 @@ module _ (f g : ℕ → ℕ) where
       let p = there n k (rw (t, append-nil (differing n f g)) at e) in
       (omega (arith, p.0), p.1))
       (λ t.
-      let q : (among k (differing n f g) || (eqb n k || false)) ≡ true = sym (among-append k (differing n f g) (n ∷ [])) ∙ (rw t at e) in
+      let q : (among k (differing n f g) || (eqb n k || false)) ≡ true = sym (among_append k (differing n f g) (n ∷ [])) ∙ (rw t at e) in
       split (among k (differing n f g))
       (λ a. let p = there n k a in (omega (arith, p.0), p.1))
       (λ a.
@@ -313,7 +313,7 @@ module _ (f g : ℕ → ℕ) where
   unfolding differing
   back zero k h ne = absurd (omega arith)
   back (suc n) k h ne =
-      among-append k (differing n f g) (cond (eqb (f n) (g n)) [] (n ∷ []))
+      among_append k (differing n f g) (cond (eqb (f n) (g n)) [] (n ∷ []))
       ∙ split (eqb n k)
       (λ t.
       let last : n ≡ k = eqb-true n k t in
@@ -331,10 +331,10 @@ module _ (f g : ℕ → ℕ) where
       let end : i ≡ length l = omega (arith, ltb-false i (length l) t, length-append l (n ∷ [])) in
       rw (end, get_or-append_seam l n [] 0) (omega arith))
 
-  end-rising :
+  end_rising :
       (l : List ℕ) (n : ℕ) → ((i : ℕ) → i < length l → at l i < n) → ((i j : ℕ) → i < j → j < length l → at l i < at l j) →
       (i j : ℕ) → i < j → j < length (l ++ (n ∷ [])) → at (l ++ (n ∷ [])) i < at (l ++ (n ∷ [])) j
-  end-rising l n f u i j h k =
+  end_rising l n f u i j h k =
       let early : i < length l = omega (arith, length-append l (n ∷ [])) in
       split (ltb j (length l))
       (λ t.
@@ -345,17 +345,17 @@ module _ (f g : ℕ → ℕ) where
       rw (get_or-append l (n ∷ []) 0 i early, end, get_or-append_seam l n [] 0) (f i early))
 
   -- each offset is below n, and higher than those before it
-  each-low : (n i : ℕ) → i < length (differing n f g) → at (differing n f g) i < n
+  each_low : (n i : ℕ) → i < length (differing n f g) → at (differing n f g) i < n
   unfolding differing
-  each-low zero i h = absurd (omega arith)
-  each-low (suc n) i h =
+  each_low zero i h = absurd (omega arith)
+  each_low (suc n) i h =
       split (eqb (f n) (g n))
       (λ t.
       let e : differing n f g ++ cond (eqb (f n) (g n)) [] (n ∷ []) ≡ differing n f g = rw t (append-nil (differing n f g)) in
-      rw e (omega (arith, each-low n i (rw e at h))))
+      rw e (omega (arith, each_low n i (rw e at h))))
       (λ t.
       let e : differing n f g ++ cond (eqb (f n) (g n)) [] (n ∷ []) ≡ differing n f g ++ (n ∷ []) = rw t in
-      rw e (end_low (differing n f g) n (each-low n) i (rw e at h)))
+      rw e (end_low (differing n f g) n (each_low n) i (rw e at h)))
 
   rising : (n i j : ℕ) → i < j → j < length (differing n f g) → at (differing n f g) i < at (differing n f g) j
   unfolding differing
@@ -367,23 +367,23 @@ module _ (f g : ℕ → ℕ) where
       rw e (rising n i j h (rw e at k)))
       (λ t.
       let e : differing n f g ++ cond (eqb (f n) (g n)) [] (n ∷ []) ≡ differing n f g ++ (n ∷ []) = rw t in
-      rw e (end-rising (differing n f g) n (each-low n) (rising n) i j h (rw e at k)))
+      rw e (end_rising (differing n f g) n (each_low n) (rising n) i j h (rw e at k)))
 
 -- ---- all of it
 module _ (b : List ℕ) (s : sized (length b) ≡ true) (bytes : (i : ℕ) → at b i < 256) where
   pub salvaged : Salvaged b
   salvaged =
-      let t = address-bytes b s in
+      let t = address_bytes b s in
       record {
         sound = sound b s;
-        twice = stays-so (mended b) (sound b s) t.0 t.1;
-        stays = (λ e. subst (λ (x : List ℕ). nothingWrong x ≡ true) e (sound b s), λ w. stays-so b w (bytes 17) (bytes 18));
-        empty = (λ e. subst (λ (x : List ℕ). nothingWrong x ≡ true) (nothing-listed e) (sound b s), λ w. none b w (bytes 17) (bytes 18) (length b));
+        twice = stays_so (mended b) (sound b s) t.0 t.1;
+        stays = (λ e. subst (λ (x : List ℕ). nothing_wrong x ≡ true) e (sound b s), λ w. stays_so b w (bytes 17) (bytes 18));
+        empty = (λ e. subst (λ (x : List ℕ). nothing_wrong x ≡ true) (nothing-listed e) (sound b s), λ w. none b w (bytes 17) (bytes 18) (length b));
         listed = λ k. (
-          λ e. let p = there (at b) (mendedAt b) (length b) k e in (p.0, λ q. p.1 (sym q ∙ at-mended b k p.0)),
-          λ p. back (at b) (mendedAt b) (length b) k p.0 (λ q. p.1 (at-mended b k p.0 ∙ sym q)),
+          λ e. let p = there (at b) (mended_at b) (length b) k e in (p.0, λ q. p.1 (sym q ∙ at_mended b k p.0)),
+          λ p. back (at b) (mended_at b) (length b) k p.0 (λ q. p.1 (at_mended b k p.0 ∙ sym q)),
         );
-        rising = rising (at b) (mendedAt b) (length b);
+        rising = rising (at b) (mended_at b) (length b);
       }
     where
       -- with nothing in the list no byte has changed
@@ -392,9 +392,9 @@ module _ (b : List ℕ) (s : sized (length b) ≡ true) (bytes : (i : ℕ) → a
           ext_get_or 0 (mended b) b (length-mended b)
           (λ k h.
           let k-in : k < length b = rw (length-mended b) at h in
-          at-mended b k k-in
-          ∙ split (eqb (mendedAt b k) (at b k)) (λ t. eqb-true (mendedAt b k) (at b k) t)
+          at_mended b k k-in
+          ∙ split (eqb (mended_at b k) (at b k)) (λ t. eqb-true (mended_at b k) (at b k) t)
           (λ t.
           clash
-          (sym (back (at b) (mendedAt b) (length b) k k-in (λ q. eqb-false (mendedAt b k) (at b k) t (sym q)))
+          (sym (back (at b) (mended_at b) (length b) k k-in (λ q. eqb-false (mended_at b k) (at b k) t (sym q)))
           ∙ ap (among k) e)))

@@ -4,12 +4,12 @@ use Rattle.std.specs.Prelude.{◌≡◌, Bool, cond, not, ◌&&◌, List, [], �
 use Rattle.laws.specs.Bits.{any}
 use Rattle.laws.specs.Lists.{at, written}
 use Rattle.laws.specs.Table.{table}
-use Rattle.colour.specs.Colour.{coloursOf}
+use Rattle.colour.specs.Colour.{colours_of}
 use Rattle.refusal.specs.declared.Refusal.TheVariants.{BlockMalformed, ListLength}
 use Rattle.vdp.specs.Refusals.{size}
 use Rattle.refusal.specs.Refusals.{Line, line, first, under}
-use Rattle.fields.specs.Fields.{chosenFrom}
-use Rattle.block.specs.Block.{blockSize, sized, mark_of, state_of}
+use Rattle.fields.specs.Fields.{chosen_from}
+use Rattle.block.specs.Block.{block_size, sized, mark_of, state_of}
 use Rattle.block_repair.specs.declared.Repaired.{Repaired}
 
 -- R17.1: a flag, table or choice above the highest that there is becomes 0
@@ -25,18 +25,18 @@ abbrev pub choice : List ℕ → ℕ
 choice b = within 2 (at b 20)
 
 unfoldable pub address : List ℕ → ℕ
-address b = (at b 17 + 256 * at b 18) % size (chosenFrom (choice b))
+address b = (at b 17 + 256 * at b 18) % size (chosen_from (choice b))
 
 -- R17.4: colours that are claimed clean and are not the palette's make the dirty flag 1
 unfoldable pub matching : List ℕ → Bool
-matching b = not (any 32 (λ i. not (eqb (at (state_of b).color_cache i) (at (coloursOf (state_of b).cram) i))))
+matching b = not (any 32 (λ i. not (eqb (at (state_of b).color_cache i) (at (colours_of (state_of b).cram) i))))
 
 unfoldable pub dirty : List ℕ → ℕ
 dirty b = cond (eqb (within 1 (at b 26)) 0 && not (matching b)) 1 (within 1 (at b 26))
 
 -- the mended byte at each offset; the mark goes by the length, and all that is not named here stays
-unfoldable pub mendedAt : List ℕ → ℕ → ℕ
-mendedAt b k =
+unfoldable pub mended_at : List ℕ → ℕ → ℕ
+mended_at b k =
     cond (eqb k 0) 0x56
     (cond (eqb k 1) (mark_of (length b))
     (cond (eqb k 15) (within 1 (at b 15))
@@ -52,7 +52,7 @@ mendedAt b k =
     (at b k))))))))))))
 
 unfoldable pub mended : List ℕ → List ℕ
-mended b = table (length b) (mendedAt b)
+mended b = table (length b) (mended_at b)
 
 -- R17.5: the offsets below n at which f and g differ, in rising order, and those at which a block changes
 unfoldable pub differing : ℕ → (ℕ → ℕ) → (ℕ → ℕ) → List ℕ
@@ -60,15 +60,15 @@ differing zero f g = []
 differing (suc n) f g = differing n f g ++ cond (eqb (f n) (g n)) [] (n ∷ [])
 
 abbrev pub changes : List ℕ → List ℕ
-changes b = differing (length b) (at b) (mendedAt b)
+changes b = differing (length b) (at b) (mended_at b)
 
 -- ---- the call, on block b and a list buffer of so many bytes
-abbrev pub repairLines : List ℕ → ℕ → List Line
-repairLines b room = line (not (sized (length b))) BlockMalformed ∷ line (ltb room blockSize) ListLength ∷ []
+abbrev pub repair_lines : List ℕ → ℕ → List Line
+repair_lines b room = line (not (sized (length b))) BlockMalformed ∷ line (ltb room block_size) ListLength ∷ []
 
 -- What it promises of its answer r, the block and the list after it: refused, all is as it was.
 pub record RepairLeaves (b l : List ℕ) (r : Repaired) (b' l' : List ℕ) : Type 0 where
-  pub refusal : r.refusal ≡ first (repairLines b (length l))
-  pub count : r.count ≡ under (repairLines b (length l)) (λ f. 0) (length (changes b))
-  pub block : b' ≡ under (repairLines b (length l)) (λ f. b) (mended b)
-  pub list : l' ≡ under (repairLines b (length l)) (λ f. l) (written l 0 (changes b))
+  pub refusal : r.refusal ≡ first (repair_lines b (length l))
+  pub count : r.count ≡ under (repair_lines b (length l)) (λ f. 0) (length (changes b))
+  pub block : b' ≡ under (repair_lines b (length l)) (λ f. b) (mended b)
+  pub list : l' ≡ under (repair_lines b (length l)) (λ f. l) (written l 0 (changes b))

@@ -2,9 +2,9 @@
 ghost use Rattle.std.specs.Prelude.{◌≡◌, Bool, ◌+◌, ◌*◌, ◌≤◌, ◌<◌, length, take};
 ghost use Rattle.laws.specs.Lists.{at};
 ghost use Rattle.vdp.specs.Refusals.{size};
-ghost use Rattle.fields.specs.Fields.{chosenFrom};
-ghost use Rattle.block.specs.Block.{oldSize, blockSize, mark_of};
-ghost use Rattle.block_repair.specs.Repair.{within, held, choice, address, matching, dirty, mendedAt, RepairLeaves};
+ghost use Rattle.fields.specs.Fields.{chosen_from};
+ghost use Rattle.block.specs.Block.{old_size, block_size, mark_of};
+ghost use Rattle.block_repair.specs.Repair.{within, held, choice, address, matching, dirty, mended_at, RepairLeaves};
 
 use block::{BLOCK_SIZE, DIRTY, OLD_SIZE, PALETTE_BYTE, PALETTE_LATCHED, TABLE};
 use fields::{
@@ -39,7 +39,7 @@ fn latched(flag: u8, byte: u8) -> u8
 // The size of the memory of this number.
 fn memory_size(chosen: u8) -> u16
     requires { chosen ≤ 2 }
-    ensures value { result ≡ size (chosenFrom chosen) }
+    ensures value { result ≡ size (chosen_from chosen) }
     ensures result_nonzero { 0 < result }
 {
     if chosen == 2 {
@@ -51,7 +51,7 @@ fn memory_size(chosen: u8) -> u16
 
 // The address, reduced to its memory.
 fn address_of(old: &[u8]) -> u16
-    requires { oldSize ≤ length old.now }
+    requires { old_size ≤ length old.now }
     ensures { result ≡ address old.now }
 {
     small::word(old[ADDRESS], old[ADDRESS_HIGH]) % memory_size(in_range(2, old[CHOSEN]))
@@ -59,7 +59,7 @@ fn address_of(old: &[u8]) -> u16
 
 // Whether the cached colours are the palette's.
 fn same_colours(old: &[u8]) -> bool
-    requires { oldSize ≤ length old.now }
+    requires { old_size ≤ length old.now }
     ensures { result ≡ matching old.now }
 {
     let cache = block::cache_in(old);
@@ -76,7 +76,7 @@ fn same_colours(old: &[u8]) -> bool
 
 // The dirty flag.
 fn dirty_of(old: &[u8]) -> u8
-    requires { oldSize ≤ length old.now }
+    requires { old_size ≤ length old.now }
     ensures { result ≡ dirty old.now }
 {
     let flag = in_range(1, old[DIRTY]);
@@ -88,8 +88,8 @@ fn dirty_of(old: &[u8]) -> u8
 
 // The mended byte at offset k.
 fn mended_byte(old: &[u8], k: usize) -> u8
-    requires { (oldSize ≤ length old.now) × (length old.now ≤ blockSize) × (k < length old.now) }
-    ensures { result ≡ mendedAt old.now k }
+    requires { (old_size ≤ length old.now) × (length old.now ≤ block_size) × (k < length old.now) }
+    ensures { result ≡ mended_at old.now k }
 {
     match k {
         MARK => MARK_FIRST,
@@ -110,7 +110,7 @@ fn mended_byte(old: &[u8], k: usize) -> u8
 
 // A block's bytes in an array of their own.
 fn copied(block: &[u8]) -> [u8; 220]
-    requires { length block.now ≤ blockSize }
+    requires { length block.now ≤ block_size }
     ensures { take (length block.now) result ≡ block.now }
 {
     let mut old = [0u8; 220];
@@ -125,7 +125,7 @@ fn copied(block: &[u8]) -> [u8; 220]
 // The block mended, and the changed offsets at the start of the list.
 pub fn repair(block: &mut [u8], list: &mut [u8]) -> Repaired
     ensures repair_leaves { RepairLeaves block.old list.old result block.new list.new }
-    ensures count_le_block_size { result.count ≤ blockSize }
+    ensures count_le_block_size { result.count ≤ block_size }
 {
     if block.len() < OLD_SIZE {
         return Repaired {

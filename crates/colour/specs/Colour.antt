@@ -19,5 +19,5 @@ unfoldable pub colour : ℕ → ℕ → ℕ
 colour a b = of_bytes (red a b) (green a b) (blue a b) 255
 
 -- R4.7: both palettes, the 32 colours of 64 palette bytes
-unfoldable pub coloursOf : List ℕ → List ℕ
-coloursOf p = table 32 (λ i. colour (at p (2 * i)) (at p (2 * i + 1)))
+unfoldable pub colours_of : List ℕ → List ℕ
+colours_of p = table 32 (λ i. colour (at p (2 * i)) (at p (2 * i + 1)))

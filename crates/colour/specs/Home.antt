@@ -10,9 +10,9 @@ abbrev pub shade : ℕ → ℕ
 shade b = 85 * (b % 4)
 
 -- the colour as a number, red its lowest byte
-unfoldable pub homeColour : ℕ → ℕ
-homeColour b = of_bytes (shade b) (shade (b / 4)) (shade (b / 16)) 255
+unfoldable pub home_colour : ℕ → ℕ
+home_colour b = of_bytes (shade b) (shade (b / 4)) (shade (b / 16)) 255
 
 -- the 32 colours of 32 palette bytes
-unfoldable pub homeColoursOf : List ℕ → List ℕ
-homeColoursOf p = table 32 (λ i. homeColour (at p i))
+unfoldable pub home_colours_of : List ℕ → List ℕ
+home_colours_of p = table 32 (λ i. home_colour (at p i))

@@ -1,7 +1,7 @@
 // Colours: one from two palette bytes, and the 32 of the whole palette; and those of the home machine, one from each palette byte.
 ghost use Rattle.std.specs.Prelude.{◌≡◌, ◌*◌, ◌/◌, ◌%◌};
-ghost use Rattle.colour.specs.Colour.{colour, coloursOf};
-ghost use Rattle.colour.specs.Home.{shade, homeColour, homeColoursOf};
+ghost use Rattle.colour.specs.Colour.{colour, colours_of};
+ghost use Rattle.colour.specs.Home.{shade, home_colour, home_colours_of};
 
 // The low four bits of a palette byte, spread over a byte.
 fn spread_low(x: u8) -> u8
@@ -29,7 +29,7 @@ pub fn rgb(rg: u8, b: u8) -> u32
 
 // R4.7: the 32 colours of a palette, which the cache holds once it is made anew.
 pub fn palette_recompute(cram: [u8; 64]) -> [u32; 32]
-    ensures { result ≡ coloursOf cram }
+    ensures { result ≡ colours_of cram }
 {
     let mut color_cache = [0u32; 32];
     let mut color: usize = 0;
@@ -49,7 +49,7 @@ fn spread_two(x: u8) -> u8
 
 // R20.2: the colour of a byte of the home machine's palette, red in its lowest byte.
 pub fn home_rgb(byte: u8) -> u32
-    ensures { result ≡ homeColour byte }
+    ensures { result ≡ home_colour byte }
 {
     small::part(spread_two(byte))
         + 256 * small::part(spread_two(byte / 4))
@@ -59,7 +59,7 @@ pub fn home_rgb(byte: u8) -> u32
 
 // The 32 colours of that palette.
 pub fn home_palette_recompute(cram: [u8; 32]) -> [u32; 32]
-    ensures { result ≡ homeColoursOf cram }
+    ensures { result ≡ home_colours_of cram }
 {
     let mut color_cache = [0u32; 32];
     let mut color: usize = 0;

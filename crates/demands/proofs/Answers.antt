@@ -11,38 +11,38 @@ use borrow.Author.Tests.{eq-eqb, eqb-true}
 use Rattle.laws.specs.Bits.{bit}
 use Rattle.laws.specs.Lists.{at}
 use Rattle.refusal.specs.declared.Refusal.{Refusal}
-use Rattle.refusal.specs.Refusals.{refusalNumber, Line, first}
+use Rattle.refusal.specs.Refusals.{refusal_number, Line, first}
 use Rattle.points.specs.declared.VdpInt.TheVariants.{InterruptGenerated, NoInterrupt}
 use Rattle.points.specs.declared.DisplayRefresh.TheVariants.{NoDisplay, ScreenDone, ScreenDoneNoRefresh}
-use Rattle.points.specs.Points.{reportBy}
+use Rattle.points.specs.Points.{report_by}
 use Rattle.face.proofs.Exact.{none, never}
 
 abbrev pub NotSeven : Refusal → Type 0
-NotSeven r = refusalNumber r ≢ 7
+NotSeven r = refusal_number r ≢ 7
 
 -- a table that has no line of 7
 pub without : (ls : List Line) → none 7 ls ≡ true → NotSeven (first ls)
 without ls h = never 7 ls (λ z. omega arith) h
 
 -- with frame interrupts off an interrupt is the line's
-pub line-alone : (frame ended line : Bool) → frame ≡ false → (cond ((frame && ended) || line) InterruptGenerated NoInterrupt ≡ InterruptGenerated) ↔
+pub line_alone : (frame ended line : Bool) → frame ≡ false → (cond ((frame && ended) || line) InterruptGenerated NoInterrupt ≡ InterruptGenerated) ↔
     (line ≡ true)
-line-alone frame ended line off = rw off (raised line)
+line_alone frame ended line off = rw off (raised line)
   where
     raised : (b : Bool) → (cond b InterruptGenerated NoInterrupt ≡ InterruptGenerated) ↔ (b ≡ true)
     raised true = (λ _. refl, λ _. refl)
     raised false = (λ e. absurd (let z : ◌≡◌ {A = ℕ} 0 1 = cc in omega arith), λ e. absurd (let z : ◌≡◌ {A = ℕ} 0 1 = cc in omega arith))
 
 -- the screen end is reported by the step that sets line C1, and by no other
-pub end_line : (reg : List ℕ) (n : ℕ) → (n ≡ 193) ↔ (reportBy reg n ≢ NoDisplay)
-unfolding reportBy
-end_line reg n = (there, λ f. back (eqb n 193) refl f)
+pub end_line_lem : (reg : List ℕ) (n : ℕ) → (n ≡ 193) ↔ (report_by reg n ≢ NoDisplay)
+unfolding report_by
+end_line_lem reg n = (there, λ f. back (eqb n 193) refl f)
   where
     told : (b : Bool) → cond b ScreenDone ScreenDoneNoRefresh ≢ NoDisplay
     told true e = let z : ◌≡◌ {A = ℕ} 0 1 = cc in omega arith
     told false e = let z : ◌≡◌ {A = ℕ} 0 1 = cc in omega arith
 
-    there : n ≡ 193 → reportBy reg n ≢ NoDisplay
+    there : n ≡ 193 → report_by reg n ≢ NoDisplay
     there e = rw (eq-eqb n 193 e) (told (bit (at reg 1) 6))
 
     back : (b : Bool) → eqb n 193 ≡ b → cond b (cond (bit (at reg 1) 6) ScreenDone ScreenDoneNoRefresh) NoDisplay ≢ NoDisplay → n ≡ 193

@@ -12,15 +12,15 @@ use lib.ListN.{length, take, drop, set, replicate, length-replicate}
 use lib.Seq.{get_or-take, get_or-drop}
 use borrow.Author.Tests.{eq-eqb, ne_eqb, leb-true, leb-false}
 use Rattle.laws.specs.Lists.{at, row_of}
-use Rattle.laws.specs.Paint.{byteOfColour}
+use Rattle.laws.specs.Paint.{byte_of_colour}
 use Rattle.laws.proofs.Tests.{split}
-use Rattle.colour.specs.Colour.{colour, coloursOf}
-use Rattle.colour.proofs.Laws.{colours-at}
+use Rattle.colour.specs.Colour.{colour, colours_of}
+use Rattle.colour.proofs.Laws.{colours_at_lem}
 use Rattle.picture.specs.declared.RenderArea.TheVariants.{VisibleOnly}
-use Rattle.picture.specs.Area.{screenOf}
+use Rattle.picture.specs.Area.{screen_of}
 use Rattle.raster.specs.declared.LineTable.{LineTable}
-use Rattle.raster.specs.Raster.{jump_to, passLength, starts, advanced}
-use Rattle.raster.proofs.Tables.{jump_back, pass-is}
+use Rattle.raster.specs.Raster.{jump_to, pass_length, starts, advanced}
+use Rattle.raster.proofs.Tables.{jump_back, pass_is}
 use Rattle.front.specs.declared.Front.{Front}
 use Rattle.front.specs.declared.FrontWritten.{FrontWritten}
 use Rattle.vdp.specs.declared.VdpState.{VdpState}
@@ -28,26 +28,26 @@ use Rattle.front.specs.declared.WriteDest.TheVariants.{Cram}
 use Rattle.front.specs.declared.Latch.{Latch}
 use Rattle.front.specs.declared.Latch.TheVariants.{Empty, Held}
 use Rattle.refusal.specs.declared.Refusal.TheVariants.{Accepted}
-use Rattle.front.specs.Front.{withCommand, emptied, choosing, commandBy, commandWrite, dataWrite}
-use Rattle.vdp.specs.Device.{made, fresh, frontOf, withFront, with_addr, withPaletteByte}
+use Rattle.front.specs.Front.{with_command, emptied, choosing, command_by, command_write, data_write}
+use Rattle.vdp.specs.Device.{made, fresh, front_of, with_front, with_addr, with_palette_byte}
 use Rattle.refusal.specs.Refusals.{whole}
-use Rattle.front.specs.Ports.{frontWrite}
-use Rattle.vdp.specs.Ports.{stored, written_by, portWrite}
+use Rattle.front.specs.Ports.{front_write}
+use Rattle.vdp.specs.Ports.{stored, written_by, port_write}
 use Rattle.points.specs.declared.DrawnRow.TheVariants.{Drawn}
-use Rattle.step.specs.Step.{frameLines, frameStep}
+use Rattle.step.specs.Step.{frame_lines, frame_step_of}
 use Rattle.demands.specs.Handheld.{after, handheld}
-use Rattle.passes.specs.Pass.{Run, watched, deviceAfter, then, until, ready, answer, frame_at, pass, lineSet, pictureAt}
-use Rattle.passes.specs.Split.{New, Split, pixelAtEnd, Twins, Changed}
-use Rattle.demands.specs.Author.{recoloured, Asks, AsksNot, newPalette, Answered, number_at, WhichBytes, asked, unasked}
-use Rattle.points.proofs.Laws.{frame-passes, frame-memory}
-use Rattle.step.proofs.Laws.{stepped-reg, stepped-cram, stepped-command}
-use Rattle.demands.proofs.Steps.{frame-taken, accepts}
-use Rattle.passes.proofs.Lines.{line-next}
-use Rattle.passes.proofs.Demand3.{after-step, line-of, scroll-at}
-use Rattle.passes.proofs.Chart.{own-place}
-use Rattle.passes.proofs.Split.{rising, set-row, four-at}
-use Rattle.passes.proofs.Shows.{scroll-waits}
-use Rattle.demands.proofs.Handheld.{handheld-lawful, steps, other-colours, new-rows-visible, changed-visible}
+use Rattle.passes.specs.Pass.{Run, watched, device_after, then, until, ready, answer, frame_at, pass, line_set, picture_at}
+use Rattle.passes.specs.Split.{New, Split, pixel_at_end, Twins, Changed}
+use Rattle.demands.specs.Author.{recoloured, Asks, AsksNot, new_palette, Answered, number_at, WhichBytes, asked, unasked}
+use Rattle.points.proofs.Laws.{frame_passes, frame_memory}
+use Rattle.step.proofs.Laws.{stepped_reg, stepped_cram, stepped_command}
+use Rattle.demands.proofs.Steps.{frame_taken, accepts}
+use Rattle.passes.proofs.Lines.{line_next}
+use Rattle.passes.proofs.Demand3.{after_step, line_of_lem, scroll_at}
+use Rattle.passes.proofs.Chart.{own_place}
+use Rattle.passes.proofs.Split.{rising, set_row, four_at_lem}
+use Rattle.passes.proofs.Shows.{scroll_waits}
+use Rattle.demands.proofs.Handheld.{handheld_lawful, steps, other_colours, new_rows_visible, changed_visible}
 
 -- the palette, the registers of a fresh device, and that no command byte is latched
 record Holds (d : VdpState) (p : List ℕ) : Type 0 where
@@ -57,45 +57,45 @@ record Holds (d : VdpState) (p : List ℕ) : Type 0 where
 
 -- ---- the four writes, on any device with no byte latched
 module _ (m : List ℕ) (w : whole m ≡ true) where
-  command : (f : Front) (v : ℕ) → (frontWrite 64 f m 0xBF v).answer ≡ commandWrite 64 f m v
-  unfolding frontWrite
+  command : (f : Front) (v : ℕ) → (front_write 64 f m 0xBF v).answer ≡ command_write 64 f m v
+  unfolding front_write
   command f v = rw w
 
-  byte : (f : Front) (v : ℕ) → (frontWrite 64 f m 0xBE v).answer ≡ (dataWrite 64 f m v).answer
-  unfolding frontWrite
+  byte : (f : Front) (v : ℕ) → (front_write 64 f m 0xBE v).answer ≡ (data_write 64 f m v).answer
+  unfolding front_write
   byte f v = rw w
 
   abbrev told : VdpState → ℕ → ℕ → VdpState
-  told d p v = (portWrite d m p v).answer.vdp
+  told d p v = (port_write d m p v).answer.vdp
 
   -- what the front answers, on its device
-  by_front : (d : VdpState) (p v : ℕ) {a : FrontWritten} → (frontWrite 64 (frontOf d) m p v).answer ≡ a → told d p v ≡ (written_by d v a).vdp
-  unfolding portWrite
+  by_front : (d : VdpState) (p v : ℕ) {a : FrontWritten} → (front_write 64 (front_of d) m p v).answer ≡ a → told d p v ≡ (written_by d v a).vdp
+  unfolding port_write
   by_front d p v e = ap (λ (a : FrontWritten). (written_by d v a).vdp) e
 
   -- the device with byte 6 latched, and with the palette chosen at 6
   abbrev waiting : VdpState → VdpState
-  waiting d = withFront d (withCommand (frontOf d) (Held 6))
+  waiting d = with_front d (with_command (front_of d) (Held 6))
 
   abbrev aimed : VdpState → VdpState
-  aimed d = withFront d (choosing (emptied (frontOf d)) Cram 6)
+  aimed d = with_front d (choosing (emptied (front_of d)) Cram 6)
 
   first : (d : VdpState) → d.cmd_byte1 ≡ Empty → told d 0xBF 0x06 ≡ waiting d
-  first d e = by_front d 0xBF 6 (command (frontOf d) 6 ∙ ap (λ (l : Latch). commandBy l 64 (frontOf d) m 6) e)
+  first d e = by_front d 0xBF 6 (command (front_of d) 6 ∙ ap (λ (l : Latch). command_by l 64 (front_of d) m 6) e)
 
   chosen : (d : VdpState) → d.cmd_byte1 ≡ Empty → told (told d 0xBF 0x06) 0xBF 0xC0 ≡ aimed d
   chosen d e =
-      ap (λ (x : VdpState). told x 0xBF 0xC0) (first d e) ∙ by_front (waiting d) 0xBF 0xC0 (command (frontOf (waiting d)) 0xC0)
+      ap (λ (x : VdpState). told x 0xBF 0xC0) (first d e) ∙ by_front (waiting d) 0xBF 0xC0 (command (front_of (waiting d)) 0xC0)
 
-  low_byte : (d : VdpState) (low : ℕ) → told (aimed d) 0xBE low ≡ with_addr (withPaletteByte (aimed d) (Held low)) 7
-  low_byte d low = by_front (aimed d) 0xBE low (byte (frontOf (aimed d)) low)
+  low_byte : (d : VdpState) (low : ℕ) → told (aimed d) 0xBE low ≡ with_addr (with_palette_byte (aimed d) (Held low)) 7
+  low_byte d low = by_front (aimed d) 0xBE low (byte (front_of (aimed d)) low)
 
   high_byte :
-      (d : VdpState) (low high : ℕ) → told (with_addr (withPaletteByte (aimed d) (Held low)) 7) 0xBE high
-      ≡ with_addr (stored (with_addr (withPaletteByte (aimed d) (Held low)) 7) 7 low (high % 16)) 8
+      (d : VdpState) (low high : ℕ) → told (with_addr (with_palette_byte (aimed d) (Held low)) 7) 0xBE high
+      ≡ with_addr (stored (with_addr (with_palette_byte (aimed d) (Held low)) 7) 7 low (high % 16)) 8
   high_byte d low high =
-      let x = with_addr (withPaletteByte (aimed d) (Held low)) 7 in
-      by_front x 0xBE high (byte (frontOf x) high)
+      let x = with_addr (with_palette_byte (aimed d) (Held low)) 7 in
+      by_front x 0xBE high (byte (front_of x) high)
 
   recolours : (d : VdpState) (p : List ℕ) (low high : ℕ) → Holds d p → Holds (told (told (told (told d 0xBF 0x06) 0xBF 0xC0) 0xBE low) 0xBE high)
       (set (set p 6 low) 7 (high % 16))
@@ -109,13 +109,13 @@ module _ (m : List ℕ) (w : whole m ≡ true) where
       record { cram = ap (λ (q : List ℕ). set (set q 6 low) 7 (high % 16)) k.cram; reg = k.reg; latch = refl }
 
 -- a step keeps all three
-step-holds : (r : Run handheld VisibleOnly) (i : ℕ) (p : List ℕ) → Holds (ready r i) p → Holds (answer r i).device p
-step-holds r i p k =
+step_holds : (r : Run handheld VisibleOnly) (i : ℕ) (p : List ℕ) → Holds (ready r i) p → Holds (answer r i).device p
+step_holds r i p k =
     rw (steps r i)
     record {
-      cram = stepped-cram VisibleOnly (r.vram i) (ready r i) ∙ k.cram;
-      reg = stepped-reg VisibleOnly (r.vram i) (ready r i) ∙ k.reg;
-      latch = stepped-command VisibleOnly (r.vram i) (ready r i) ∙ k.latch;
+      cram = stepped_cram VisibleOnly (r.vram i) (ready r i) ∙ k.cram;
+      reg = stepped_reg VisibleOnly (r.vram i) (ready r i) ∙ k.reg;
+      latch = stepped_command VisibleOnly (r.vram i) (ready r i) ∙ k.latch;
     }
 
 -- ---- a run that is so
@@ -127,55 +127,55 @@ module _ (low high : ℕ) (r : Run handheld VisibleOnly) (q : Asks low high (wat
   old = (made t).cram
 
   abbrev new : List ℕ
-  new = newPalette low high t
+  new = new_palette low high t
 
   early : (i : ℕ) → i ≤ 89 → Holds (ready r i) old
   early zero h = subst (λ (d : VdpState). Holds d old) (sym q.fresh) (record { cram = refl; reg = refl; latch = refl })
   early (suc i) h =
-      subst (λ (d : VdpState). Holds d old) (sym (q.on i (λ e. omega arith))) (step-holds r i old (early i (omega arith)))
+      subst (λ (d : VdpState). Holds d old) (sym (q.on i (λ e. omega arith))) (step_holds r i old (early i (omega arith)))
 
-  whole-90 : whole (r.vram 90) ≡ true
-  whole-90 =
+  whole_90 : whole (r.vram 90) ≡ true
+  whole_90 =
       eq-eqb (length (r.vram 90)) 16384
-      (frame-memory (screenOf VisibleOnly) (r.vram 90) (length r.frame)
-      (frame-taken VisibleOnly (r.vram 90) (length r.frame) fresh (r.accepted 90 fresh)))
+      (frame_memory (screen_of VisibleOnly) (r.vram 90) (length r.frame)
+      (frame_taken VisibleOnly (r.vram 90) (length r.frame) fresh (r.accepted 90 fresh)))
 
   written : Holds (ready r 90) new
   unfolding after
   written =
       subst (λ (d : VdpState). Holds d new) (sym q.writes)
-      (recolours (r.vram 90) whole-90 (answer r 89).device old low high (step-holds r 89 old (early 89 (omega arith))))
+      (recolours (r.vram 90) whole_90 (answer r 89).device old low high (step_holds r 89 old (early 89 (omega arith))))
 
   late : (k : ℕ) → Holds (ready r (90 + k)) new
   late zero = written
   late (suc k) =
       rw (add-suc 90 k)
-      (subst (λ (d : VdpState). Holds d new) (sym (q.on (90 + k) (λ e. omega arith))) (step-holds r (90 + k) new (late k)))
+      (subst (λ (d : VdpState). Holds d new) (sym (q.on (90 + k) (λ e. omega arith))) (step_holds r (90 + k) new (late k)))
 
-  first-line : lineSet (watched r) 0 ≡ 1
-  first-line = line-of handheld-lawful r 0 ∙ line-next (ready r 0).raster 0 (ap (λ (d : VdpState). d.raster.v_counter) q.fresh) (omega arith)
+  first_line_lem : line_set (watched r) 0 ≡ 1
+  first_line_lem = line_of_lem handheld_lawful r 0 ∙ line_next (ready r 0).raster 0 (ap (λ (d : VdpState). d.raster.v_counter) q.fresh) (omega arith)
 
   -- step i sets line i + 1, as far as the jump
-  line_at : (i : ℕ) → suc i < jump_to → lineSet (watched r) i ≡ suc i
+  line_at : (i : ℕ) → suc i < jump_to → line_set (watched r) i ≡ suc i
   line_at i h =
-      subst (λ (n : ℕ). lineSet (watched r) n ≡ lineSet (watched r) 0 + i) (zero-add i) (rising handheld-lawful r 0 i (omega (arith, first-line))) ∙
-      omega (arith, first-line)
+      subst (λ (n : ℕ). line_set (watched r) n ≡ line_set (watched r) 0 + i) (zero-add i) (rising handheld_lawful r 0 i (omega (arith, first_line_lem))) ∙
+      omega (arith, first_line_lem)
 
   long : 213 < pass (watched r)
-  long = omega (arith, pass-is t, jump_back t)
+  long = omega (arith, pass_is t, jump_back t)
 
-  the-split : Split (watched r) 90 old new
-  the-split =
+  the_split : Split (watched r) 90 old new
+  the_split =
       record {
-        moment = record { step = 89; in-pass = omega (arith, long); sets = line_at 89 (omega arith) };
-        until-then = λ i h. (early i h).cram;
+        moment = record { step = 89; in_pass = omega (arith, long); sets = line_at 89 (omega arith) };
+        until_then = λ i h. (early i h).cram;
         from_then = λ i h _.
             let e : 90 + (i - 90) ≡ i = omega arith in
             subst (λ (n : ℕ). (ready r n).cram ≡ new) e (late (i - 90)).cram;
       }
 
-  registers-at : (i : ℕ) → (ready r i).reg ≡ fresh.reg
-  registers-at i =
+  registers_at : (i : ℕ) → (ready r i).reg ≡ fresh.reg
+  registers_at i =
       split (leb i 89)
       (λ t. (early i (leb-true i 89 t)).reg)
       (λ t.
@@ -184,57 +184,57 @@ module _ (low high : ℕ) (r : Run handheld VisibleOnly) (q : Asks low high (wat
       subst (λ (n : ℕ). (ready r n).reg ≡ fresh.reg) e (late (i - 90)).reg)
 
   -- it begins with line 1, and line 90 is its own place: the rows from 67 on
-  the-rows : (y : ℕ) → y < 144 → New the-split.moment y ↔ (67 ≤ y)
-  the-rows y h =
+  the_rows : (y : ℕ) → y < 144 → New the_split.moment y ↔ (67 ≤ y)
+  the_rows y h =
       rw (
-        own-place handheld-lawful r 0 1 (omega arith) first-line,
-        own-place handheld-lawful r the-split.moment.step 90 (omega arith)
-            the-split.moment.sets,
+        own_place handheld_lawful r 0 1 (omega arith) first_line_lem,
+        own_place handheld_lawful r the_split.moment.step 90 (omega arith)
+            the_split.moment.sets,
       )
-      ((new-rows-visible t).from-top 1 90 y (omega arith) (omega arith) (omega (arith, long)) h)
+      ((new_rows_visible t).from_top 1 90 y (omega arith) (omega arith) (omega (arith, long)) h)
 
   -- nothing is scrolled
-  scroll-0 : (i : ℕ) → suc i < jump_to → (watched r).scroll i ≡ 0
+  scroll_0 : (i : ℕ) → suc i < jump_to → (watched r).scroll i ≡ 0
   unfolding advanced starts
-  scroll-0 i h =
-      scroll-waits handheld-lawful r 0 i (omega arith) (λ j l u e. omega (arith, e, line_at j (omega arith)))
-      ∙ sym (scroll-at handheld-lawful r 0)
+  scroll_0 i h =
+      scroll_waits handheld_lawful r 0 i (omega arith) (λ j l u e. omega (arith, e, line_at j (omega arith)))
+      ∙ sym (scroll_at handheld_lawful r 0)
       ∙ ap (λ (d : VdpState). (advanced (at d.reg) d.raster).vertical_scroll) q.fresh
 
-  picture-is : (x y : ℕ) → y < 144 → (pictureAt (watched r) (y + 23) y).colour x ≡ number_at t r.vram x y
-  picture-is x y h = rw (registers-at (y + 23), scroll-0 (y + 23) (omega arith))
+  picture_is : (x y : ℕ) → y < 144 → (picture_at (watched r) (y + 23) y).colour x ≡ number_at t r.vram x y
+  picture_is x y h = rw (registers_at (y + 23), scroll_0 (y + 23) (omega arith))
 
   -- ---- beside one without the writes
   module _ (r₀ : Run handheld VisibleOnly) (q₀ : AsksNot (watched r) (watched r₀)) where
-    always-old : (i : ℕ) → Holds (ready r₀ i) old
-    always-old zero =
+    always_old : (i : ℕ) → Holds (ready r₀ i) old
+    always_old zero =
         subst (λ (d : VdpState). Holds d old) (sym (q₀.fresh ∙ ap made q₀.table)) (record { cram = refl; reg = refl; latch = refl })
-    always-old (suc i) = subst (λ (d : VdpState). Holds d old) (sym (q₀.on i)) (step-holds r₀ i old (always-old i))
+    always_old (suc i) = subst (λ (d : VdpState). Holds d old) (sym (q₀.on i)) (step_holds r₀ i old (always_old i))
 
     twins : Twins (watched r) (watched r₀)
     twins =
         record {
           start = ap (λ (d : VdpState). d.raster) (q.fresh ∙ ap made (sym q₀.table) ∙ sym q₀.fresh);
           memory = λ i _. sym (q₀.memory i);
-          registers = λ i _. registers-at i ∙ sym (always-old i).reg;
+          registers = λ i _. registers_at i ∙ sym (always_old i).reg;
         }
 
-    the-change : Changed the-split (watched r₀) 3
-    the-change = changed-visible r r₀ twins the-split (λ i _. (always-old i).cram) 3 (other-colours 3 old low (high % 16))
+    the_change : Changed the_split (watched r₀) 3
+    the_change = changed_visible r r₀ twins the_split (λ i _. (always_old i).cram) 3 (other_colours 3 old low (high % 16))
 
     pub answered : Answered low high (watched r) (watched r₀)
     answered =
         record {
-          split = the-split;
-          changed = the-change;
-          new-rows = the-rows;
-          new-colour = colours-at new 3 (omega arith);
+          split = the_split;
+          changed = the_change;
+          new_rows_lem = the_rows;
+          new_colour = colours_at_lem new 3 (omega arith);
         }
 
     -- a byte of a frame, in its pixel
-    byte-in : (f : List ℕ) (x y j : ℕ) → x < 160 → j < 4 → at f (640 * y + 4 * x + j) ≡ at (row_of 4 x (row_of 640 y f)) j
+    byte_in : (f : List ℕ) (x y j : ℕ) → x < 160 → j < 4 → at f (640 * y + 4 * x + j) ≡ at (row_of 4 x (row_of 640 y f)) j
     unfolding row_of
-    byte-in f x y j h l =
+    byte_in f x y j h l =
         let e : 640 * y + 4 * x + j ≡ 640 * y + (4 * x + j) = omega arith in
         rw e
         (sym
@@ -244,45 +244,45 @@ module _ (low high : ℕ) (r : Run handheld VisibleOnly) (q : Asks low high (wat
         ∙ get_or-drop (640 * y) f (4 * x + j) 0))
 
     same_end : pass (watched r₀) ≡ pass (watched r)
-    same_end = ap passLength q₀.table
+    same_end = ap pass_length q₀.table
 
     module _ (x y j : ℕ) (h : x < 160) (k : y < 144) (l : j < 4) where
       drawn : (answer r (y + 23)).row ≡ Drawn y
-      drawn = set-row handheld-lawful r (y + 23) y k (line_at (y + 23) (omega arith) ∙ omega arith)
+      drawn = set_row handheld_lawful r (y + 23) y k (line_at (y + 23) (omega arith) ∙ omega arith)
 
       -- the byte with the writes and without, in its pixel
-      there : at (frame_at r (pass (watched r))) (640 * y + 4 * x + j) ≡ at (pixelAtEnd (watched r) x y) j
-      there = byte-in (frame_at r (pass (watched r))) x y j h l
+      there : at (frame_at r (pass (watched r))) (640 * y + 4 * x + j) ≡ at (pixel_at_end (watched r) x y) j
+      there = byte_in (frame_at r (pass (watched r))) x y j h l
 
-      there₀ : at (frame_at r₀ (pass (watched r))) (640 * y + 4 * x + j) ≡ at (pixelAtEnd (watched r₀) x y) j
-      there₀ = rw (← same_end) (byte-in (frame_at r₀ (pass (watched r₀))) x y j h l)
+      there₀ : at (frame_at r₀ (pass (watched r))) (640 * y + 4 * x + j) ≡ at (pixel_at_end (watched r₀) x y) j
+      there₀ = rw (← same_end) (byte_in (frame_at r₀ (pass (watched r₀))) x y j h l)
 
       these :
           67 ≤ y → number_at t r.vram x y ≡ 3 →
-          (at (frame_at r (pass (watched r))) (640 * y + 4 * x + j) ≡ byteOfColour (colour low (high % 16)) j)
-          × (at (frame_at r₀ (pass (watched r))) (640 * y + 4 * x + j) ≡ byteOfColour (colour 0 0) j)
+          (at (frame_at r (pass (watched r))) (640 * y + 4 * x + j) ≡ byte_of_colour (colour low (high % 16)) j)
+          × (at (frame_at r₀ (pass (watched r))) (640 * y + 4 * x + j) ≡ byte_of_colour (colour 0 0) j)
       these u n =
-          let c = the-change.these (y + 23) x y (omega (arith, long)) drawn h ((the-rows y k).1 u) (picture-is x y k ∙ n) in (
-            there ∙ ap (λ (p : List ℕ). at p j) c.0 ∙ four-at (at (coloursOf new) 3) j l ∙ ap (λ (v : ℕ). byteOfColour v j)
-                (colours-at new 3 (omega arith)),
-            there₀ ∙ ap (λ (p : List ℕ). at p j) c.1 ∙ four-at (at (coloursOf old) 3) j l ∙ ap (λ (v : ℕ). byteOfColour v j)
-                (colours-at old 3 (omega arith)),
+          let c = the_change.these (y + 23) x y (omega (arith, long)) drawn h ((the_rows y k).1 u) (picture_is x y k ∙ n) in (
+            there ∙ ap (λ (p : List ℕ). at p j) c.0 ∙ four_at_lem (at (colours_of new) 3) j l ∙ ap (λ (v : ℕ). byte_of_colour v j)
+                (colours_at_lem new 3 (omega arith)),
+            there₀ ∙ ap (λ (p : List ℕ). at p j) c.1 ∙ four_at_lem (at (colours_of old) 3) j l ∙ ap (λ (v : ℕ). byte_of_colour v j)
+                (colours_at_lem old 3 (omega arith)),
           )
 
       others :
           (67 ≤ y → number_at t r.vram x y ≢ 3) → at (frame_at r (pass (watched r))) (640 * y + 4 * x + j) ≡ at (frame_at r₀ (pass (watched r)))
           (640 * y + 4 * x + j)
       others n =
-          let c = the-change.no-others (y + 23) x y (omega (arith, long)) drawn h (λ w e. n ((the-rows y k).0 w) (sym (picture-is x y k) ∙ e)) in
+          let c = the_change.no_others (y + 23) x y (omega (arith, long)) drawn h (λ w e. n ((the_rows y k).0 w) (sym (picture_is x y k) ∙ e)) in
           there ∙ ap (λ (p : List ℕ). at p j) c ∙ sym there₀
 
-    pub which-bytes : WhichBytes low high (watched r) (watched r₀)
-    which-bytes = record { these = λ x y j h u k l. these x y j h k l u; no-others = λ x y j h k l. others x y j h k l }
+    pub which_bytes : WhichBytes low high (watched r) (watched r₀)
+    which_bytes = record { these = λ x y j h u k l. these x y j h k l u; no_others = λ x y j h k l. others x y j h k l }
 
 -- ---- such runs there are
 module _
     (t : LineTable) (vram : ℕ → List ℕ) (frame : List ℕ)
-    (accepted : (i : ℕ) (d : VdpState) → (frameStep VisibleOnly (vram i) (length frame) d).refusal ≡ Accepted) (low high : ℕ)
+    (accepted : (i : ℕ) (d : VdpState) → (frame_step_of VisibleOnly (vram i) (length frame) d).refusal ≡ Accepted) (low high : ℕ)
   where
     abbrev run : Run handheld VisibleOnly
     run = asked t vram frame accepted low high
@@ -293,39 +293,39 @@ module _
     -- but for step 90 nothing is called before a step
     nothing : (i : ℕ) → suc i ≢ 90 → ready run (suc i) ≡ (answer run i).device
     unfolding ready until then
-    nothing i n = rw (ne_eqb (suc i) 90 n) (after-step handheld-lawful run i)
+    nothing i n = rw (ne_eqb (suc i) 90 n) (after_step handheld_lawful run i)
 
     asks : Asks low high (watched run)
-    unfolding ready until then deviceAfter
-    asks = record { fresh = refl; on = nothing; writes = ap (recoloured low high (vram 90)) (after-step handheld-lawful run 89) }
+    unfolding ready until then device_after
+    asks = record { fresh = refl; on = nothing; writes = ap (recoloured low high (vram 90)) (after_step handheld_lawful run 89) }
 
-    asks-not : AsksNot (watched run) (watched run₀)
-    unfolding ready until then deviceAfter
-    asks-not = record { table = refl; memory = λ i. refl; fresh = refl; on = after-step handheld-lawful run₀ }
+    asks_not : AsksNot (watched run) (watched run₀)
+    unfolding ready until then device_after
+    asks_not = record { table = refl; memory = λ i. refl; fresh = refl; on = after_step handheld_lawful run₀ }
 
-    pub asked-answered : Answered low high (watched run) (watched run₀)
-    asked-answered = answered low high run asks run₀ asks-not
+    pub asked_answered : Answered low high (watched run) (watched run₀)
+    asked_answered = answered low high run asks run₀ asks_not
 
 -- with zeroed memory, on a zeroed frame
 zeros : List ℕ
 zeros = replicate 92160 0
 
-frame-length : length zeros ≡ 92160
+frame_length : length zeros ≡ 92160
 unfolding zeros
-frame-length = length-replicate {A = ℕ} 92160 0
+frame_length = length-replicate {A = ℕ} 92160 0
 
 memory : List ℕ
 memory = replicate 16384 0
 
-memory-length : length memory ≡ 16384
+memory_length : length memory ≡ 16384
 unfolding memory
-memory-length = length-replicate {A = ℕ} 16384 0
+memory_length = length-replicate {A = ℕ} 16384 0
 
-zeros-accepted : (i : ℕ) (d : VdpState) → (frameStep VisibleOnly memory (length zeros) d).refusal ≡ Accepted
-zeros-accepted i d =
-    accepts (frameLines VisibleOnly memory (length zeros)) VisibleOnly memory d
-    (frame-passes (screenOf VisibleOnly) memory (length zeros) memory-length frame-length)
+zeros_accepted : (i : ℕ) (d : VdpState) → (frame_step_of VisibleOnly memory (length zeros) d).refusal ≡ Accepted
+zeros_accepted i d =
+    accepts (frame_lines VisibleOnly memory (length zeros)) VisibleOnly memory d
+    (frame_passes (screen_of VisibleOnly) memory (length zeros) memory_length frame_length)
 
-zeros-answered : (t : LineTable) (low high : ℕ) → Answered low high (watched (asked t (λ i. memory) zeros zeros-accepted low high))
-    (watched (unasked t (λ i. memory) zeros zeros-accepted low high))
-zeros-answered t low high = asked-answered t (λ i. memory) zeros zeros-accepted low high
+zeros_answered : (t : LineTable) (low high : ℕ) → Answered low high (watched (asked t (λ i. memory) zeros zeros_accepted low high))
+    (watched (unasked t (λ i. memory) zeros zeros_accepted low high))
+zeros_answered t low high = asked_answered t (λ i. memory) zeros zeros_accepted low high

@@ -57,14 +57,14 @@ use Rattle.sprites.proofs.table_at
 use Rattle.sprites.proofs.height
 use Rattle.sprites.proofs.line_at as sprite-line-at
 use Rattle.sprites.proofs.next_sprite
-use Rattle.picture.specs.Tile.{mapColour}
+use Rattle.picture.specs.Tile.{map_colour}
 use Rattle.pixel.specs.Column.{line_at}
 use Rattle.pixel.proofs.one_column.column_at
 use Rattle.pixel.proofs.spot_at
 use Rattle.row.proofs.render_line
 use Rattle.refusal.proofs.refusal_number
 use Rattle.front.proofs.Front.write as front_write
-use Rattle.front.proofs.Front.read as frontRead
+use Rattle.front.proofs.Front.read as front_read
 use Rattle.vdp.specs.Device.{fresh}
 use Rattle.vdp.proofs.VdpState.new
 use Rattle.vdp.proofs.VdpState.with_table
@@ -116,7 +116,7 @@ use Rattle.fields.proofs.store_latch
 use Rattle.fields.proofs.store_address
 use Rattle.fields.proofs.store_colour
 use Rattle.inplace.proofs.write as write-in-place
-use Rattle.inplace.proofs.read as read-in-place
+use Rattle.inplace.proofs.read as read_in_place
 use Rattle.block_ports.proofs.out as out-in-place
 use Rattle.block_ports.proofs.input as input-in-place
 use Rattle.block.proofs.well_formed
@@ -174,127 +174,127 @@ use Rattle.word.proofs.number
 use Rattle.word.proofs.word_of
 
 -- ---- bitmap
-pub bitmap-new-once : OneOutcome 0 bitmap-new.Kinds.ps bitmap-new.Kinds.r bitmap-new.Reads.Asked bitmap-new.Reads.Learnt
-bitmap-new-once κs a q z z' w w' e f = (λ i. record { bits = (e ∙ sym f) i }, refl)
+pub bitmap_new_once : OneOutcome 0 bitmap-new.Kinds.ps bitmap-new.Kinds.r bitmap-new.Reads.Asked bitmap-new.Reads.Learnt
+bitmap_new_once κs a q z z' w w' e f = (λ i. record { bits = (e ∙ sym f) i }, refl)
 
-pub bitmap-set-once : OneOutcome 0 bitmap-set.Kinds.ps bitmap-set.Kinds.r bitmap-set.Reads.Asked bitmap-set.Reads.Learnt
-bitmap-set-once κs a q z z' w w' e f = (λ i. record { bits = (e ∙ sym f) i }, refl)
+pub bitmap_set_once : OneOutcome 0 bitmap-set.Kinds.ps bitmap-set.Kinds.r bitmap-set.Reads.Asked bitmap-set.Reads.Learnt
+bitmap_set_once κs a q z z' w w' e f = (λ i. record { bits = (e ∙ sym f) i }, refl)
 
-pub bitmap-get-once : OneOutcome 0 bitmap-get.Kinds.ps bitmap-get.Kinds.r bitmap-get.Reads.Asked bitmap-get.Reads.Learnt
-bitmap-get-once κs a q z z' w w' e f = (e ∙ sym f, refl)
+pub bitmap_get_once : OneOutcome 0 bitmap-get.Kinds.ps bitmap-get.Kinds.r bitmap-get.Reads.Asked bitmap-get.Reads.Learnt
+bitmap_get_once κs a q z z' w w' e f = (e ∙ sym f, refl)
 
-pub bitmap-join-once : OneOutcome 0 bitmap-join.Kinds.ps bitmap-join.Kinds.r bitmap-join.Reads.Asked bitmap-join.Reads.Learnt
-bitmap-join-once κs a q z z' w w' e f = (λ i. record { bits = (e ∙ sym f) i }, refl)
+pub bitmap_join_once : OneOutcome 0 bitmap-join.Kinds.ps bitmap-join.Kinds.r bitmap-join.Reads.Asked bitmap-join.Reads.Learnt
+bitmap_join_once κs a q z z' w w' e f = (λ i. record { bits = (e ∙ sym f) i }, refl)
 
-pub window-once : OneOutcome 0 window.Kinds.ps window.Kinds.r window.Reads.Asked window.Reads.Learnt
-window-once κs a q z z' w w' e f = (e ∙ sym f, refl)
+pub window_once : OneOutcome 0 window.Kinds.ps window.Kinds.r window.Reads.Asked window.Reads.Learnt
+window_once κs a q z z' w w' e f = (e ∙ sym f, refl)
 
-pub lower-once : OneOutcome 0 lower.Kinds.ps lower.Kinds.r lower.Reads.Asked lower.Reads.Learnt
-lower-once κs a q z z' w w' e f = (e ∙ sym f, refl)
+pub lower_once : OneOutcome 0 lower.Kinds.ps lower.Kinds.r lower.Reads.Asked lower.Reads.Learnt
+lower_once κs a q z z' w w' e f = (e ∙ sym f, refl)
 
-pub upper-once : OneOutcome 0 upper.Kinds.ps upper.Kinds.r upper.Reads.Asked upper.Reads.Learnt
-upper-once κs a q z z' w w' e f = (e ∙ sym f, refl)
+pub upper_once : OneOutcome 0 upper.Kinds.ps upper.Kinds.r upper.Reads.Asked upper.Reads.Learnt
+upper_once κs a q z z' w w' e f = (e ∙ sym f, refl)
 
 -- ---- colour
-pub rgb-once : OneOutcome 0 rgb.Kinds.ps rgb.Kinds.r rgb.Reads.Asked rgb.Reads.Learnt
-rgb-once κs a q z z' w w' e f = (e ∙ sym f, refl)
+pub rgb_once : OneOutcome 0 rgb.Kinds.ps rgb.Kinds.r rgb.Reads.Asked rgb.Reads.Learnt
+rgb_once κs a q z z' w w' e f = (e ∙ sym f, refl)
 
-pub palette-recompute-once : OneOutcome 0 palette_recompute.Kinds.ps palette_recompute.Kinds.r palette_recompute.Reads.Asked
+pub palette_recompute_once : OneOutcome 0 palette_recompute.Kinds.ps palette_recompute.Kinds.r palette_recompute.Reads.Asked
     palette_recompute.Reads.Learnt
-palette-recompute-once κs a q z z' w w' e f = (e ∙ sym f, refl)
+palette_recompute_once κs a q z z' w w' e f = (e ∙ sym f, refl)
 
-pub home-rgb-once : OneOutcome 0 home_rgb.Kinds.ps home_rgb.Kinds.r home_rgb.Reads.Asked home_rgb.Reads.Learnt
-home-rgb-once κs a q z z' w w' e f = (e ∙ sym f, refl)
+pub home_rgb_once : OneOutcome 0 home_rgb.Kinds.ps home_rgb.Kinds.r home_rgb.Reads.Asked home_rgb.Reads.Learnt
+home_rgb_once κs a q z z' w w' e f = (e ∙ sym f, refl)
 
-pub home-palette-recompute-once : OneOutcome 0 home_palette_recompute.Kinds.ps home_palette_recompute.Kinds.r home_palette_recompute.Reads.Asked
+pub home_palette_recompute_once : OneOutcome 0 home_palette_recompute.Kinds.ps home_palette_recompute.Kinds.r home_palette_recompute.Reads.Asked
     home_palette_recompute.Reads.Learnt
-home-palette-recompute-once κs a q z z' w w' e f = (e ∙ sym f, refl)
+home_palette_recompute_once κs a q z z' w w' e f = (e ∙ sym f, refl)
 
 -- ---- raster
-pub table-number-once : OneOutcome 0 table_number.Kinds.ps table_number.Kinds.r table_number.Reads.Asked table_number.Reads.Learnt
-table-number-once κs a q z z' w w' e f = (e ∙ sym f, refl)
+pub table_number_once : OneOutcome 0 table_number.Kinds.ps table_number.Kinds.r table_number.Reads.Asked table_number.Reads.Learnt
+table_number_once κs a q z z' w w' e f = (e ∙ sym f, refl)
 
-pub table-from-once : OneOutcome 0 table_from.Kinds.ps table_from.Kinds.r table_from.Reads.Asked table_from.Reads.Learnt
-table-from-once κs a q z z' w w' e f = (e ∙ sym f, refl)
+pub table_from_once : OneOutcome 0 table_from.Kinds.ps table_from.Kinds.r table_from.Reads.Asked table_from.Reads.Learnt
+table_from_once κs a q z z' w w' e f = (e ∙ sym f, refl)
 
-pub unnamed-table-once : OneOutcome 0 unnamed_table.Kinds.ps unnamed_table.Kinds.r unnamed_table.Reads.Asked unnamed_table.Reads.Learnt
-unnamed-table-once κs a q z z' w w' e f = (e ∙ sym f, refl)
+pub unnamed_table_once : OneOutcome 0 unnamed_table.Kinds.ps unnamed_table.Kinds.r unnamed_table.Reads.Asked unnamed_table.Reads.Learnt
+unnamed_table_once κs a q z z' w w' e f = (e ∙ sym f, refl)
 
-pub advance-once : OneOutcome 0 advance.Kinds.ps advance.Kinds.r advance.Reads.Asked advance.Reads.Learnt
-advance-once κs a q z z' w w' e f = (e ∙ sym f, refl)
+pub advance_once : OneOutcome 0 advance.Kinds.ps advance.Kinds.r advance.Reads.Asked advance.Reads.Learnt
+advance_once κs a q z z' w w' e f = (e ∙ sym f, refl)
 
-pub line-interrupt-is-up-once : OneOutcome 0 line_interrupt_is_up.Kinds.ps line_interrupt_is_up.Kinds.r line_interrupt_is_up.Reads.Asked
+pub line_interrupt_is_up_once : OneOutcome 0 line_interrupt_is_up.Kinds.ps line_interrupt_is_up.Kinds.r line_interrupt_is_up.Reads.Asked
     line_interrupt_is_up.Reads.Learnt
-line-interrupt-is-up-once κs a q z z' w w' e f = (e ∙ sym f, refl)
+line_interrupt_is_up_once κs a q z z' w w' e f = (e ∙ sym f, refl)
 
-pub line-interrupt-update-once : OneOutcome 0 line_interrupt_update.Kinds.ps line_interrupt_update.Kinds.r line_interrupt_update.Reads.Asked
+pub line_interrupt_update_once : OneOutcome 0 line_interrupt_update.Kinds.ps line_interrupt_update.Kinds.r line_interrupt_update.Reads.Asked
     line_interrupt_update.Reads.Learnt
-line-interrupt-update-once κs a q z z' w w' e f = (e ∙ sym f, refl)
+line_interrupt_update_once κs a q z z' w w' e f = (e ∙ sym f, refl)
 
 -- ---- picture
-pub area-from-once : OneOutcome 0 area_from.Kinds.ps area_from.Kinds.r area_from.Reads.Asked area_from.Reads.Learnt
-area-from-once κs a q z z' w w' e f = (e ∙ sym f, refl)
+pub area_from_once : OneOutcome 0 area_from.Kinds.ps area_from.Kinds.r area_from.Reads.Asked area_from.Reads.Learnt
+area_from_once κs a q z z' w w' e f = (e ∙ sym f, refl)
 
-pub screen-of-once : OneOutcome 0 screen_of.Kinds.ps screen_of.Kinds.r screen_of.Reads.Asked screen_of.Reads.Learnt
-screen-of-once κs a q z z' w w' e f = (e ∙ sym f, refl)
+pub screen_of_once : OneOutcome 0 screen_of.Kinds.ps screen_of.Kinds.r screen_of.Reads.Asked screen_of.Reads.Learnt
+screen_of_once κs a q z z' w w' e f = (e ∙ sym f, refl)
 
 -- ---- small
-pub wide-once : OneOutcome 0 wide.Kinds.ps wide.Kinds.r wide.Reads.Asked wide.Reads.Learnt
-wide-once κs a q z z' w w' e f = (e.0 ∙ sym f.0, refl)
+pub wide_once : OneOutcome 0 wide.Kinds.ps wide.Kinds.r wide.Reads.Asked wide.Reads.Learnt
+wide_once κs a q z z' w w' e f = (e.0 ∙ sym f.0, refl)
 
-pub part-once : OneOutcome 0 part.Kinds.ps part.Kinds.r part.Reads.Asked part.Reads.Learnt
-part-once κs a q z z' w w' e f = (e.0 ∙ sym f.0, refl)
+pub part_once : OneOutcome 0 part.Kinds.ps part.Kinds.r part.Reads.Asked part.Reads.Learnt
+part_once κs a q z z' w w' e f = (e.0 ∙ sym f.0, refl)
 
-pub small-word-once : OneOutcome 0 small_word.Kinds.ps small_word.Kinds.r small_word.Reads.Asked small_word.Reads.Learnt
-small-word-once κs a q z z' w w' e f = (e ∙ sym f, refl)
+pub small_word_once : OneOutcome 0 small_word.Kinds.ps small_word.Kinds.r small_word.Reads.Asked small_word.Reads.Learnt
+small_word_once κs a q z z' w w' e f = (e ∙ sym f, refl)
 
-pub four-at-once : OneOutcome 1 four_at.Kinds.ps four_at.Kinds.r four_at.Reads.Asked four_at.Reads.Learnt
-four-at-once κs a q z z' w w' e f = (e ∙ sym f, refl)
+pub four_at_once : OneOutcome 1 four_at.Kinds.ps four_at.Kinds.r four_at.Reads.Asked four_at.Reads.Learnt
+four_at_once κs a q z z' w w' e f = (e ∙ sym f, refl)
 
-pub smaller-once : OneOutcome 0 smaller.Kinds.ps smaller.Kinds.r smaller.Reads.Asked smaller.Reads.Learnt
-smaller-once κs a q z z' w w' e f = (e ∙ sym f, refl)
+pub smaller_once : OneOutcome 0 smaller.Kinds.ps smaller.Kinds.r smaller.Reads.Asked smaller.Reads.Learnt
+smaller_once κs a q z z' w w' e f = (e ∙ sym f, refl)
 
-pub weight-once : OneOutcome 0 weight.Kinds.ps weight.Kinds.r weight.Reads.Asked weight.Reads.Learnt
-weight-once κs a q z z' w w' e f = (e.0 ∙ sym f.0, refl)
+pub weight_once : OneOutcome 0 weight.Kinds.ps weight.Kinds.r weight.Reads.Asked weight.Reads.Learnt
+weight_once κs a q z z' w w' e f = (e.0 ∙ sym f.0, refl)
 
-pub is-set-once : OneOutcome 0 is_set.Kinds.ps is_set.Kinds.r is_set.Reads.Asked is_set.Reads.Learnt
-is-set-once κs a q z z' w w' e f = (e ∙ sym f, refl)
+pub is_set_once : OneOutcome 0 is_set.Kinds.ps is_set.Kinds.r is_set.Reads.Asked is_set.Reads.Learnt
+is_set_once κs a q z z' w w' e f = (e ∙ sym f, refl)
 
-pub both-once : OneOutcome 0 both.Kinds.ps both.Kinds.r both.Reads.Asked both.Reads.Learnt
-both-once κs a q z z' w w' e f = (e ∙ sym f, refl)
+pub both_once : OneOutcome 0 both.Kinds.ps both.Kinds.r both.Reads.Asked both.Reads.Learnt
+both_once κs a q z z' w w' e f = (e ∙ sym f, refl)
 
 -- ---- column
-pub fates-once : OneOutcome 0 fates.Kinds.ps fates.Kinds.r fates.Reads.Asked fates.Reads.Learnt
-fates-once κs a q z z' w w' e f = (
+pub fates_once : OneOutcome 0 fates.Kinds.ps fates.Kinds.r fates.Reads.Asked fates.Reads.Learnt
+fates_once κs a q z z' w w' e f = (
   λ i. record { marks = (e.0 ∙ sym f.0) i; drawn = (e.1 ∙ sym f.1) i; held = (e.2 ∙ sym f.2) i },
   refl,
 )
 
-pub owner-of-once : OneOutcome 0 owner_of.Kinds.ps owner_of.Kinds.r owner_of.Reads.Asked owner_of.Reads.Learnt
-owner-of-once κs a q z z' w w' e f = (e ∙ sym f, refl)
+pub owner_of_once : OneOutcome 0 owner_of.Kinds.ps owner_of.Kinds.r owner_of.Reads.Asked owner_of.Reads.Learnt
+owner_of_once κs a q z z' w w' e f = (e ∙ sym f, refl)
 
 -- ---- tile
-pub mark-once : OneOutcome 0 mark.Kinds.ps mark.Kinds.r mark.Reads.Asked mark.Reads.Learnt
-mark-once κs a q z z' w w' e f = (e ∙ sym f, refl)
+pub mark_once : OneOutcome 0 mark.Kinds.ps mark.Kinds.r mark.Reads.Asked mark.Reads.Learnt
+mark_once κs a q z z' w w' e f = (e ∙ sym f, refl)
 
-pub pixel-code-once : OneOutcome 1 pixel_code.Kinds.ps pixel_code.Kinds.r pixel_code.Reads.Asked pixel_code.Reads.Learnt
-pixel-code-once κs a q z z' w w' e f = (e.0 ∙ sym f.0, refl)
+pub pixel_code_once : OneOutcome 1 pixel_code.Kinds.ps pixel_code.Kinds.r pixel_code.Reads.Asked pixel_code.Reads.Learnt
+pixel_code_once κs a q z z' w w' e f = (e.0 ∙ sym f.0, refl)
 
-pub pixel-set-full-once : OneOutcome 1 pixel_set_full.Kinds.ps pixel_set_full.Kinds.r pixel_set_full.Reads.Asked pixel_set_full.Reads.Learnt
-pixel-set-full-once κs a q z z' w w' e f = (refl, λ i. ((e ∙ sym f) i, w.1))
+pub pixel_set_full_once : OneOutcome 1 pixel_set_full.Kinds.ps pixel_set_full.Kinds.r pixel_set_full.Reads.Asked pixel_set_full.Reads.Learnt
+pixel_set_full_once κs a q z z' w w' e f = (refl, λ i. ((e ∙ sym f) i, w.1))
 
-pub bytes-of-once : OneOutcome 1 bytes_of.Kinds.ps bytes_of.Kinds.r bytes_of.Reads.Asked bytes_of.Reads.Learnt
-bytes-of-once κs a q z z' w w' e f = (e.0 ∙ sym f.0, refl)
+pub bytes_of_once : OneOutcome 1 bytes_of.Kinds.ps bytes_of.Kinds.r bytes_of.Reads.Asked bytes_of.Reads.Learnt
+bytes_of_once κs a q z z' w w' e f = (e.0 ∙ sym f.0, refl)
 
-pub character-line-once : OneOutcome 3 character_line.Kinds.ps character_line.Kinds.r character_line.Reads.Asked character_line.Reads.Learnt
-character-line-once κs a q z z' w w' e f = (e.1 ∙ sym f.1, λ i. ((e.0 ∙ sym f.0) i, w.1))
+pub character_line_once : OneOutcome 3 character_line.Kinds.ps character_line.Kinds.r character_line.Reads.Asked character_line.Reads.Learnt
+character_line_once κs a q z z' w w' e f = (e.1 ∙ sym f.1, λ i. ((e.0 ∙ sym f.0) i, w.1))
 
-pub character-whole-once : OneOutcome 3 character_whole.Kinds.ps character_whole.Kinds.r character_whole.Reads.Asked character_whole.Reads.Learnt
-character-whole-once κs a q z z' w w' e f = (e.1 ∙ sym f.1, λ i. ((e.0 ∙ sym f.0) i, w.1))
+pub character_whole_once : OneOutcome 3 character_whole.Kinds.ps character_whole.Kinds.r character_whole.Reads.Asked character_whole.Reads.Learnt
+character_whole_once κs a q z z' w w' e f = (e.1 ∙ sym f.1, λ i. ((e.0 ∙ sym f.0) i, w.1))
 
-pub character-line-sprite-once : OneOutcome 4 character_line_sprite.Kinds.ps character_line_sprite.Kinds.r character_line_sprite.Reads.Asked
+pub character_line_sprite_once : OneOutcome 4 character_line_sprite.Kinds.ps character_line_sprite.Kinds.r character_line_sprite.Reads.Asked
     character_line_sprite.Reads.Learnt
-character-line-sprite-once κs a q z z' w w' e f = (
+character_line_sprite_once κs a q z z' w w' e f = (
   λ i. record {
     marks = (e.1.0 ∙ sym f.1.0) i;
     drawn = (e.1.1 ∙ sym f.1.1) i;
@@ -303,8 +303,8 @@ character-line-sprite-once κs a q z z' w w' e f = (
   λ i. ((e.0 ∙ sym f.0) i, w.1),
 )
 
-pub sprite-columns-once : OneOutcome 3 sprite_columns.Kinds.ps sprite_columns.Kinds.r sprite_columns.Reads.Asked sprite_columns.Reads.Learnt
-sprite-columns-once κs a q z z' w w' e f = (
+pub sprite_columns_once : OneOutcome 3 sprite_columns.Kinds.ps sprite_columns.Kinds.r sprite_columns.Reads.Asked sprite_columns.Reads.Learnt
+sprite_columns_once κs a q z z' w w' e f = (
   λ i. record {
     marks = (e.1.0 ∙ sym f.1.0) i;
     drawn = (e.1.1 ∙ sym f.1.1) i;
@@ -313,49 +313,49 @@ sprite-columns-once κs a q z z' w w' e f = (
   λ i. ((e.0 ∙ sym f.0) i, w.1),
 )
 
-pub character-line-sprite-bitmap-once : OneOutcome 1 character_line_sprite_bitmap.Kinds.ps character_line_sprite_bitmap.Kinds.r
+pub character_line_sprite_bitmap_once : OneOutcome 1 character_line_sprite_bitmap.Kinds.ps character_line_sprite_bitmap.Kinds.r
     character_line_sprite_bitmap.Reads.Asked character_line_sprite_bitmap.Reads.Learnt
-character-line-sprite-bitmap-once κs a q z z' w w' e f = (e ∙ sym f, refl)
+character_line_sprite_bitmap_once κs a q z z' w w' e f = (e ∙ sym f, refl)
 
-pub own-columns-once : OneOutcome 1 own_columns.Kinds.ps own_columns.Kinds.r own_columns.Reads.Asked own_columns.Reads.Learnt
-own-columns-once κs a q z z' w w' e f = (refl, λ i. ((e ∙ sym f) i, w.1))
+pub own_columns_once : OneOutcome 1 own_columns.Kinds.ps own_columns.Kinds.r own_columns.Reads.Asked own_columns.Reads.Learnt
+own_columns_once κs a q z z' w w' e f = (refl, λ i. ((e ∙ sym f) i, w.1))
 
 -- ---- background
-pub names-at-once : OneOutcome 0 names_at.Kinds.ps names_at.Kinds.r names_at.Reads.Asked names_at.Reads.Learnt
-names-at-once κs a q z z' w w' e f = (e.0 ∙ sym f.0, refl)
+pub names_at_once : OneOutcome 0 names_at.Kinds.ps names_at.Kinds.r names_at.Reads.Asked names_at.Reads.Learnt
+names_at_once κs a q z z' w w' e f = (e.0 ∙ sym f.0, refl)
 
-pub tile-line-at-once : OneOutcome 0 tile-line-at.Kinds.ps tile-line-at.Kinds.r tile-line-at.Reads.Asked tile-line-at.Reads.Learnt
-tile-line-at-once κs a q z z' w w' e f = (e.0 ∙ sym f.0, refl)
+pub tile_line_at_once : OneOutcome 0 tile-line-at.Kinds.ps tile-line-at.Kinds.r tile-line-at.Reads.Asked tile-line-at.Reads.Learnt
+tile_line_at_once κs a q z z' w w' e f = (e.0 ∙ sym f.0, refl)
 
-pub cut-of-once : OneOutcome 0 cut_of.Kinds.ps cut_of.Kinds.r cut_of.Reads.Asked cut_of.Reads.Learnt
-cut-of-once κs a q z z' w w' e f = (e.0 ∙ sym f.0, refl)
+pub cut_of_once : OneOutcome 0 cut_of.Kinds.ps cut_of.Kinds.r cut_of.Reads.Asked cut_of.Reads.Learnt
+cut_of_once κs a q z z' w w' e f = (e.0 ∙ sym f.0, refl)
 
-pub home-column-once : OneOutcome 0 home_column.Kinds.ps home_column.Kinds.r home_column.Reads.Asked home_column.Reads.Learnt
-home-column-once κs a q z z' w w' e f = (e.0 ∙ sym f.0, refl)
+pub home_column_once : OneOutcome 0 home_column.Kinds.ps home_column.Kinds.r home_column.Reads.Asked home_column.Reads.Learnt
+home_column_once κs a q z z' w w' e f = (e.0 ∙ sym f.0, refl)
 
-pub home-line-once : OneOutcome 0 home_line.Kinds.ps home_line.Kinds.r home_line.Reads.Asked home_line.Reads.Learnt
-home-line-once κs a q z z' w w' e f = (e ∙ sym f, refl)
+pub home_line_once : OneOutcome 0 home_line.Kinds.ps home_line.Kinds.r home_line.Reads.Asked home_line.Reads.Learnt
+home_line_once κs a q z z' w w' e f = (e ∙ sym f, refl)
 
-pub render-background-line-once : OneOutcome 3 render_background_line.Kinds.ps render_background_line.Kinds.r render_background_line.Reads.Asked
+pub render_background_line_once : OneOutcome 3 render_background_line.Kinds.ps render_background_line.Kinds.r render_background_line.Reads.Asked
     render_background_line.Reads.Learnt
-render-background-line-once κs a q z z' w w' e f =
+render_background_line_once κs a q z z' w w' e f =
     (λ i. record { bits = (e.1 ∙ sym f.1) i }, λ i. ((e.0 ∙ sym f.0) i, w.1))
 
 -- ---- sprites
-pub settings-once : OneOutcome 0 settings.Kinds.ps settings.Kinds.r settings.Reads.Asked settings.Reads.Learnt
-settings-once κs a q z z' w w' e f = (e.0 ∙ sym f.0, refl)
+pub settings_once : OneOutcome 0 settings.Kinds.ps settings.Kinds.r settings.Reads.Asked settings.Reads.Learnt
+settings_once κs a q z z' w w' e f = (e.0 ∙ sym f.0, refl)
 
-pub early-of-once : OneOutcome 0 early_of.Kinds.ps early_of.Kinds.r early_of.Reads.Asked early_of.Reads.Learnt
-early-of-once κs a q z z' w w' e f = (e.0 ∙ sym f.0, refl)
+pub early_of_once : OneOutcome 0 early_of.Kinds.ps early_of.Kinds.r early_of.Reads.Asked early_of.Reads.Learnt
+early_of_once κs a q z z' w w' e f = (e.0 ∙ sym f.0, refl)
 
-pub table-at-once : OneOutcome 0 table_at.Kinds.ps table_at.Kinds.r table_at.Reads.Asked table_at.Reads.Learnt
-table-at-once κs a q z z' w w' e f = (e.0 ∙ sym f.0, refl)
+pub table_at_once : OneOutcome 0 table_at.Kinds.ps table_at.Kinds.r table_at.Reads.Asked table_at.Reads.Learnt
+table_at_once κs a q z z' w w' e f = (e.0 ∙ sym f.0, refl)
 
-pub height-once : OneOutcome 0 height.Kinds.ps height.Kinds.r height.Reads.Asked height.Reads.Learnt
-height-once κs a q z z' w w' e f = (e.0 ∙ sym f.0, refl)
+pub height_once : OneOutcome 0 height.Kinds.ps height.Kinds.r height.Reads.Asked height.Reads.Learnt
+height_once κs a q z z' w w' e f = (e.0 ∙ sym f.0, refl)
 
-pub sprite-line-at-once : OneOutcome 0 sprite-line-at.Kinds.ps sprite-line-at.Kinds.r sprite-line-at.Reads.Asked sprite-line-at.Reads.Learnt
-sprite-line-at-once κs a q z z' w w' e f = (e.0 ∙ sym f.0, refl)
+pub sprite_line_at_once : OneOutcome 0 sprite-line-at.Kinds.ps sprite-line-at.Kinds.r sprite-line-at.Reads.Asked sprite-line-at.Reads.Learnt
+sprite_line_at_once κs a q z z' w w' e f = (e.0 ∙ sym f.0, refl)
 
 -- what the list begins with is one sprite, and its line one; there is no line where there is no sprite
 same_next : {m g : ℕ → ℕ} {l from n n' d d' : ℕ} → Follows m g l from n d → Follows m g l from n' d' → (n ≤ 64) × (64 ≤ n → d ≡ 0) → (n' ≤ 64) ×
@@ -378,400 +378,400 @@ same_next {m} {g} {l} {n} {n'} {d} {d'} e f b c =
           ]
     ]
 
-pub next-sprite-once : OneOutcome 1 next_sprite.Kinds.ps next_sprite.Kinds.r next_sprite.Reads.Asked next_sprite.Reads.Learnt
-next-sprite-once κs a q z z' w w' e f =
+pub next_sprite_once : OneOutcome 1 next_sprite.Kinds.ps next_sprite.Kinds.r next_sprite.Reads.Asked next_sprite.Reads.Learnt
+next_sprite_once κs a q z z' w w' e f =
     let s = same_next e.0 f.0 (e.1.1, e.1.3) (f.1.1, f.1.3) in
     (λ i. record { n = s.0 i; d = s.1 i }, refl)
 
 -- the contract speaks of a row that is painted in the colours, as `row` lends it
-pub render-sprites-line-once :
+pub render_sprites_line_once :
     OneOutcome 4 render_sprites_line.Kinds.ps render_sprites_line.Kinds.r
     (λ κs a. PaintedRow a.0.now a.1.0.now a.1.1.1.0.now a.1.1.1.1.1.1.1.0 a.1.1.1.1.1.1.1.1.0.bits)
     render_sprites_line.Reads.Learnt
-render-sprites-line-once κs a q z z' w w' e f =
-    let x = e q.row₀ q.layers₀ q.mask q.colour q.is-mask q.is-painted q.is-clear in
-    let y = f q.row₀ q.layers₀ q.mask q.colour q.is-mask q.is-painted q.is-clear in (
+render_sprites_line_once κs a q z z' w w' e f =
+    let x = e q.row₀ q.layers₀ q.mask q.colour q.is_mask q.is_painted q.is_clear in
+    let y = f q.row₀ q.layers₀ q.mask q.colour q.is_mask q.is_painted q.is_clear in (
       λ i. record { hit = (x.struck ∙ sym y.struck) i; ninth = (x.many ∙ sym y.many) i },
       λ i. ((x.bytes ∙ sym y.bytes) i, ((x.owners ∙ sym y.owners) i, w.1.1)),
     )
 
 -- ---- pixel
 -- of any marks and any map that agree with the scene's at the column, its own among them
-pub column-at-once : OneOutcome 1 column_at.Kinds.ps column_at.Kinds.r column_at.Reads.Asked column_at.Reads.Learnt
-column-at-once κs a q z z' w w' e f =
+pub column_at_once : OneOutcome 1 column_at.Kinds.ps column_at.Kinds.r column_at.Reads.Asked column_at.Reads.Learnt
+column_at_once κs a q z z' w w' e f =
     let b = a.1.1.1.0 in
     let col = a.1.1.1.1.1.0 in
-    let m : ℕ → ℕ = λ x. mapColour (at a.0.now) b.names ((b.sx + col) % 256) (line_at b col) in
+    let m : ℕ → ℕ = λ x. map_colour (at a.0.now) b.names ((b.sx + col) % 256) (line_at b col) in
     (e _ m (λ i h. refl) refl ∙ sym (f _ m (λ i h. refl) refl), refl)
 
-pub spot-at-once : OneOutcome 1 spot_at.Kinds.ps spot_at.Kinds.r spot_at.Reads.Asked spot_at.Reads.Learnt
-spot-at-once κs a q z z' w w' e f = (e.0 ∙ sym f.0, refl)
+pub spot_at_once : OneOutcome 1 spot_at.Kinds.ps spot_at.Kinds.r spot_at.Reads.Asked spot_at.Reads.Learnt
+spot_at_once κs a q z z' w w' e f = (e.0 ∙ sym f.0, refl)
 
 -- ---- row
-pub render-line-once : OneOutcome 4 render_line.Kinds.ps render_line.Kinds.r render_line.Reads.Asked render_line.Reads.Learnt
-render-line-once κs a q z z' w w' e f =
+pub render_line_once : OneOutcome 4 render_line.Kinds.ps render_line.Kinds.r render_line.Reads.Asked render_line.Reads.Learnt
+render_line_once κs a q z z' w w' e f =
     (e.0.status ∙ sym f.0.status, λ i. ((e.0.bytes ∙ sym f.0.bytes) i, ((e.1 ∙ sym f.1) i, w.1.1)))
 
 -- ---- vdp
-pub refusal-number-once : OneOutcome 0 refusal_number.Kinds.ps refusal_number.Kinds.r refusal_number.Reads.Asked refusal_number.Reads.Learnt
-refusal-number-once κs a q z z' w w' e f = (e.0 ∙ sym f.0, refl)
+pub refusal_number_once : OneOutcome 0 refusal_number.Kinds.ps refusal_number.Kinds.r refusal_number.Reads.Asked refusal_number.Reads.Learnt
+refusal_number_once κs a q z z' w w' e f = (e.0 ∙ sym f.0, refl)
 
-pub new-once : OneOutcome 0 new.Kinds.ps new.Kinds.r new.Reads.Asked new.Reads.Learnt
-new-once κs a q z z' w w' e f = (e ∙ sym f, refl)
+pub new_once : OneOutcome 0 new.Kinds.ps new.Kinds.r new.Reads.Asked new.Reads.Learnt
+new_once κs a q z z' w w' e f = (e ∙ sym f, refl)
 
-pub with-table-once : OneOutcome 0 with_table.Kinds.ps with_table.Kinds.r with_table.Reads.Asked with_table.Reads.Learnt
-with-table-once κs a q z z' w w' e f = (e ∙ sym f, refl)
+pub with_table_once : OneOutcome 0 with_table.Kinds.ps with_table.Kinds.r with_table.Reads.Asked with_table.Reads.Learnt
+with_table_once κs a q z z' w w' e f = (e ∙ sym f, refl)
 
-pub front-write-once : OneOutcome 1 front_write.Kinds.ps front_write.Kinds.r front_write.Reads.Asked front_write.Reads.Learnt
-front-write-once κs a q z z' w w' e f = (e.answer ∙ sym f.answer, λ i. (tt, ((e.memory ∙ sym f.memory) i, w.1.1)))
+pub front_write_once : OneOutcome 1 front_write.Kinds.ps front_write.Kinds.r front_write.Reads.Asked front_write.Reads.Learnt
+front_write_once κs a q z z' w w' e f = (e.answer ∙ sym f.answer, λ i. (tt, ((e.memory ∙ sym f.memory) i, w.1.1)))
 
-pub front-read-once : OneOutcome 1 frontRead.Kinds.ps frontRead.Kinds.r frontRead.Reads.Asked frontRead.Reads.Learnt
-front-read-once κs a q z z' w w' e f = (e ∙ sym f, refl)
+pub front_read_once : OneOutcome 1 front_read.Kinds.ps front_read.Kinds.r front_read.Reads.Asked front_read.Reads.Learnt
+front_read_once κs a q z z' w w' e f = (e ∙ sym f, refl)
 
 pub out_once : OneOutcome 1 out.Kinds.ps out.Kinds.r out.Reads.Asked out.Reads.Learnt
 out_once κs a q z z' w w' e f = (e.answer ∙ sym f.answer, λ i. (tt, ((e.memory ∙ sym f.memory) i, w.1.1)))
 
-pub input-once : OneOutcome 1 input.Kinds.ps input.Kinds.r input.Reads.Asked input.Reads.Learnt
-input-once κs a q z z' w w' e f = (e ∙ sym f, refl)
+pub input_once : OneOutcome 1 input.Kinds.ps input.Kinds.r input.Reads.Asked input.Reads.Learnt
+input_once κs a q z z' w w' e f = (e ∙ sym f, refl)
 
 -- ---- step
-pub interrupt-number-once : OneOutcome 0 interrupt_number.Kinds.ps interrupt_number.Kinds.r interrupt_number.Reads.Asked interrupt_number.Reads.Learnt
-interrupt-number-once κs a q z z' w w' e f = (e.0 ∙ sym f.0, refl)
+pub interrupt_number_once : OneOutcome 0 interrupt_number.Kinds.ps interrupt_number.Kinds.r interrupt_number.Reads.Asked interrupt_number.Reads.Learnt
+interrupt_number_once κs a q z z' w w' e f = (e.0 ∙ sym f.0, refl)
 
-pub report-number-once : OneOutcome 0 report_number.Kinds.ps report_number.Kinds.r report_number.Reads.Asked report_number.Reads.Learnt
-report-number-once κs a q z z' w w' e f = (e.0 ∙ sym f.0, refl)
+pub report_number_once : OneOutcome 0 report_number.Kinds.ps report_number.Kinds.r report_number.Reads.Asked report_number.Reads.Learnt
+report_number_once κs a q z z' w w' e f = (e.0 ∙ sym f.0, refl)
 
-pub row-size-once : OneOutcome 0 row_size.Kinds.ps row_size.Kinds.r row_size.Reads.Asked row_size.Reads.Learnt
-row-size-once κs a q z z' w w' e f = (e ∙ sym f, refl)
+pub row_size_once : OneOutcome 0 row_size.Kinds.ps row_size.Kinds.r row_size.Reads.Asked row_size.Reads.Learnt
+row_size_once κs a q z z' w w' e f = (e ∙ sym f, refl)
 
-pub row-count-once : OneOutcome 0 row_count.Kinds.ps row_count.Kinds.r row_count.Reads.Asked row_count.Reads.Learnt
-row-count-once κs a q z z' w w' e f = (e ∙ sym f, refl)
+pub row_count_once : OneOutcome 0 row_count.Kinds.ps row_count.Kinds.r row_count.Reads.Asked row_count.Reads.Learnt
+row_count_once κs a q z z' w w' e f = (e ∙ sym f, refl)
 
-pub finish-once : OneOutcome 0 finish.Kinds.ps finish.Kinds.r finish.Reads.Asked finish.Reads.Learnt
-finish-once κs a q z z' w w' e f = (e ∙ sym f, refl)
+pub finish_once : OneOutcome 0 finish.Kinds.ps finish.Kinds.r finish.Reads.Asked finish.Reads.Learnt
+finish_once κs a q z z' w w' e f = (e ∙ sym f, refl)
 
-pub row-due-once : OneOutcome 1 row_due.Kinds.ps row_due.Kinds.r row_due.Reads.Asked row_due.Reads.Learnt
-row-due-once κs a q z z' w w' e f = (e ∙ sym f, refl)
+pub row_due_once : OneOutcome 1 row_due.Kinds.ps row_due.Kinds.r row_due.Reads.Asked row_due.Reads.Learnt
+row_due_once κs a q z z' w w' e f = (e ∙ sym f, refl)
 
-pub frame-due-once : OneOutcome 1 frame_due.Kinds.ps frame_due.Kinds.r frame_due.Reads.Asked frame_due.Reads.Learnt
-frame-due-once κs a q z z' w w' e f = (e ∙ sym f, refl)
+pub frame_due_once : OneOutcome 1 frame_due.Kinds.ps frame_due.Kinds.r frame_due.Reads.Asked frame_due.Reads.Learnt
+frame_due_once κs a q z z' w w' e f = (e ∙ sym f, refl)
 
-pub layer-due-once : OneOutcome 0 layer_due.Kinds.ps layer_due.Kinds.r layer_due.Reads.Asked layer_due.Reads.Learnt
-layer-due-once κs a q z z' w w' e f = (e.0 ∙ sym f.0, refl)
+pub layer_due_once : OneOutcome 0 layer_due.Kinds.ps layer_due.Kinds.r layer_due.Reads.Asked layer_due.Reads.Learnt
+layer_due_once κs a q z z' w w' e f = (e.0 ∙ sym f.0, refl)
 
-pub draw-once : OneOutcome 4 draw.Kinds.ps draw.Kinds.r draw.Reads.Asked draw.Reads.Learnt
-draw-once κs a q z z' w w' e f = (
+pub draw_once : OneOutcome 4 draw.Kinds.ps draw.Kinds.r draw.Reads.Asked draw.Reads.Learnt
+draw_once κs a q z z' w w' e f = (
   e.0 ∙ sym f.0,
   λ i. (tt, (tt, (tt, (tt, ((e.1.0 ∙ sym f.1.0) i, ((e.1.1 ∙ sym f.1.1) i, w.1.1.1.1.1.1)))))),
 )
 
-pub draw-in-once : OneOutcome 4 draw_in.Kinds.ps draw_in.Kinds.r draw_in.Reads.Asked draw_in.Reads.Learnt
-draw-in-once κs a q z z' w w' e f = (
+pub draw_in_once : OneOutcome 4 draw_in.Kinds.ps draw_in.Kinds.r draw_in.Reads.Asked draw_in.Reads.Learnt
+draw_in_once κs a q z z' w w' e f = (
   e.0 ∙ sym f.0,
   λ i. (tt, (tt, (tt, (tt, ((e.1.0 ∙ sym f.1.0) i, ((e.1.1 ∙ sym f.1.1) i, w.1.1.1.1.1.1)))))),
 )
 
-pub row-points-once : OneOutcome 3 row_points.Kinds.ps row_points.Kinds.r row_points.Reads.Asked row_points.Reads.Learnt
-row-points-once κs a q z z' w w' e f =
+pub row_points_once : OneOutcome 3 row_points.Kinds.ps row_points.Kinds.r row_points.Reads.Asked row_points.Reads.Learnt
+row_points_once κs a q z z' w w' e f =
     (e.answer ∙ sym f.answer, λ i. (tt, (tt, (tt, (tt, (tt, ((e.bytes ∙ sym f.bytes) i, w.1.1.1.1.1.1)))))))
 
-pub frame-points-once : OneOutcome 3 frame_points.Kinds.ps frame_points.Kinds.r frame_points.Reads.Asked frame_points.Reads.Learnt
-frame-points-once κs a q z z' w w' e f =
+pub frame_points_once : OneOutcome 3 frame_points.Kinds.ps frame_points.Kinds.r frame_points.Reads.Asked frame_points.Reads.Learnt
+frame_points_once κs a q z z' w w' e f =
     (e.answer ∙ sym f.answer, λ i. (tt, (tt, (tt, (tt, (tt, ((e.bytes ∙ sym f.bytes) i, w.1.1.1.1.1.1)))))))
 
-pub layer-row-points-once : OneOutcome 4 layer_row_points.Kinds.ps layer_row_points.Kinds.r layer_row_points.Reads.Asked layer_row_points.Reads.Learnt
-layer-row-points-once κs a q z z' w w' e f = (
+pub layer_row_points_once : OneOutcome 4 layer_row_points.Kinds.ps layer_row_points.Kinds.r layer_row_points.Reads.Asked layer_row_points.Reads.Learnt
+layer_row_points_once κs a q z z' w w' e f = (
   e.points.answer ∙ sym f.points.answer,
   λ i. (tt, (tt, (tt, (tt, (tt, ((e.points.bytes ∙ sym f.points.bytes) i, ((e.owners ∙ sym f.owners) i, w.1.1.1.1.1.1.1))))))),
 )
 
-pub colours-of-once : OneOutcome 0 colours_of.Kinds.ps colours_of.Kinds.r colours_of.Reads.Asked colours_of.Reads.Learnt
-colours-of-once κs a q z z' w w' e f = (e ∙ sym f, refl)
+pub colours_of_once : OneOutcome 0 colours_of.Kinds.ps colours_of.Kinds.r colours_of.Reads.Asked colours_of.Reads.Learnt
+colours_of_once κs a q z z' w w' e f = (e ∙ sym f, refl)
 
-pub join-once : OneOutcome 0 join.Kinds.ps join.Kinds.r join.Reads.Asked join.Reads.Learnt
-join-once κs a q z z' w w' e f = (e ∙ sym f, refl)
+pub join_once : OneOutcome 0 join.Kinds.ps join.Kinds.r join.Reads.Asked join.Reads.Learnt
+join_once κs a q z z' w w' e f = (e ∙ sym f, refl)
 
-pub row-step-once : OneOutcome 2 row_step.Kinds.ps row_step.Kinds.r row_step.Reads.Asked row_step.Reads.Learnt
-row-step-once κs a q z z' w w' e f = (e.answer ∙ sym f.answer, λ i. (tt, (tt, ((e.bytes ∙ sym f.bytes) i, w.1.1.1))))
+pub row_step_once : OneOutcome 2 row_step.Kinds.ps row_step.Kinds.r row_step.Reads.Asked row_step.Reads.Learnt
+row_step_once κs a q z z' w w' e f = (e.answer ∙ sym f.answer, λ i. (tt, (tt, ((e.bytes ∙ sym f.bytes) i, w.1.1.1))))
 
-pub frame-step-once : OneOutcome 2 frame_step.Kinds.ps frame_step.Kinds.r frame_step.Reads.Asked frame_step.Reads.Learnt
-frame-step-once κs a q z z' w w' e f = (e.answer ∙ sym f.answer, λ i. (tt, (tt, ((e.bytes ∙ sym f.bytes) i, w.1.1.1))))
+pub frame_step_once : OneOutcome 2 frame_step.Kinds.ps frame_step.Kinds.r frame_step.Reads.Asked frame_step.Reads.Learnt
+frame_step_once κs a q z z' w w' e f = (e.answer ∙ sym f.answer, λ i. (tt, (tt, ((e.bytes ∙ sym f.bytes) i, w.1.1.1))))
 
-pub layer-row-step-once : OneOutcome 3 layer_row_step.Kinds.ps layer_row_step.Kinds.r layer_row_step.Reads.Asked layer_row_step.Reads.Learnt
-layer-row-step-once κs a q z z' w w' e f =
+pub layer_row_step_once : OneOutcome 3 layer_row_step.Kinds.ps layer_row_step.Kinds.r layer_row_step.Reads.Asked layer_row_step.Reads.Learnt
+layer_row_step_once κs a q z z' w w' e f =
     (e.answer ∙ sym f.answer, λ i. (tt, (tt, ((e.bytes ∙ sym f.bytes) i, ((e.owners ∙ sym f.owners) i, w.1.1.1.1)))))
 
 -- ---- home
-pub home-new-once : OneOutcome 0 home-new.Kinds.ps home-new.Kinds.r home-new.Reads.Asked home-new.Reads.Learnt
-home-new-once κs a q z z' w w' e f = (e ∙ sym f, refl)
+pub home_new_once : OneOutcome 0 home-new.Kinds.ps home-new.Kinds.r home-new.Reads.Asked home-new.Reads.Learnt
+home_new_once κs a q z z' w w' e f = (e ∙ sym f, refl)
 
-pub home-with-table-once : OneOutcome 0 home-with-table.Kinds.ps home-with-table.Kinds.r home-with-table.Reads.Asked home-with-table.Reads.Learnt
-home-with-table-once κs a q z z' w w' e f = (e ∙ sym f, refl)
+pub home_with_table_once : OneOutcome 0 home-with-table.Kinds.ps home-with-table.Kinds.r home-with-table.Reads.Asked home-with-table.Reads.Learnt
+home_with_table_once κs a q z z' w w' e f = (e ∙ sym f, refl)
 
-pub home-out-once : OneOutcome 1 Home-out.Kinds.ps Home-out.Kinds.r Home-out.Reads.Asked Home-out.Reads.Learnt
-home-out-once κs a q z z' w w' e f = (e.answer ∙ sym f.answer, λ i. (tt, ((e.memory ∙ sym f.memory) i, w.1.1)))
+pub home_out_once : OneOutcome 1 Home-out.Kinds.ps Home-out.Kinds.r Home-out.Reads.Asked Home-out.Reads.Learnt
+home_out_once κs a q z z' w w' e f = (e.answer ∙ sym f.answer, λ i. (tt, ((e.memory ∙ sym f.memory) i, w.1.1)))
 
-pub home-input-once : OneOutcome 1 home-input.Kinds.ps home-input.Kinds.r home-input.Reads.Asked home-input.Reads.Learnt
-home-input-once κs a q z z' w w' e f = (e ∙ sym f, refl)
+pub home_input_once : OneOutcome 1 home-input.Kinds.ps home-input.Kinds.r home-input.Reads.Asked home-input.Reads.Learnt
+home_input_once κs a q z z' w w' e f = (e ∙ sym f, refl)
 
-pub home-row-step-once : OneOutcome 2 home-row-step.Kinds.ps home-row-step.Kinds.r home-row-step.Reads.Asked home-row-step.Reads.Learnt
-home-row-step-once κs a q z z' w w' e f = (e.answer ∙ sym f.answer, λ i. (tt, (tt, ((e.bytes ∙ sym f.bytes) i, w.1.1.1))))
+pub home_row_step_once : OneOutcome 2 home-row-step.Kinds.ps home-row-step.Kinds.r home-row-step.Reads.Asked home-row-step.Reads.Learnt
+home_row_step_once κs a q z z' w w' e f = (e.answer ∙ sym f.answer, λ i. (tt, (tt, ((e.bytes ∙ sym f.bytes) i, w.1.1.1))))
 
-pub home-frame-step-once : OneOutcome 2 home-frame-step.Kinds.ps home-frame-step.Kinds.r home-frame-step.Reads.Asked home-frame-step.Reads.Learnt
-home-frame-step-once κs a q z z' w w' e f = (e.answer ∙ sym f.answer, λ i. (tt, (tt, ((e.bytes ∙ sym f.bytes) i, w.1.1.1))))
+pub home_frame_step_once : OneOutcome 2 home-frame-step.Kinds.ps home-frame-step.Kinds.r home-frame-step.Reads.Asked home-frame-step.Reads.Learnt
+home_frame_step_once κs a q z z' w w' e f = (e.answer ∙ sym f.answer, λ i. (tt, (tt, ((e.bytes ∙ sym f.bytes) i, w.1.1.1))))
 
 -- ---- look
-pub layer-frame-points-once : OneOutcome 4 layer_frame_points.Kinds.ps layer_frame_points.Kinds.r layer_frame_points.Reads.Asked
+pub layer_frame_points_once : OneOutcome 4 layer_frame_points.Kinds.ps layer_frame_points.Kinds.r layer_frame_points.Reads.Asked
     layer_frame_points.Reads.Learnt
-layer-frame-points-once κs a q z z' w w' e f = (
+layer_frame_points_once κs a q z z' w w' e f = (
   e.points.answer ∙ sym f.points.answer,
   λ i. (tt, (tt, (tt, (tt, (tt, ((e.points.bytes ∙ sym f.points.bytes) i, ((e.owners ∙ sym f.owners) i, w.1.1.1.1.1.1.1))))))),
 )
 
-pub layer-frame-step-once : OneOutcome 3 layer_frame_step.Kinds.ps layer_frame_step.Kinds.r layer_frame_step.Reads.Asked layer_frame_step.Reads.Learnt
-layer-frame-step-once κs a q z z' w w' e f =
+pub layer_frame_step_once : OneOutcome 3 layer_frame_step.Kinds.ps layer_frame_step.Kinds.r layer_frame_step.Reads.Asked layer_frame_step.Reads.Learnt
+layer_frame_step_once κs a q z z' w w' e f =
     (e.answer ∙ sym f.answer, λ i. (tt, (tt, ((e.bytes ∙ sym f.bytes) i, ((e.owners ∙ sym f.owners) i, w.1.1.1.1)))))
 
-pub dump-tileset-once : OneOutcome 2 dump_tileset.Kinds.ps dump_tileset.Kinds.r dump_tileset.Reads.Asked dump_tileset.Reads.Learnt
-dump-tileset-once κs a q z z' w w' e f = (e.refusal ∙ sym f.refusal, λ i. (tt, (tt, ((e.bytes ∙ sym f.bytes) i, tt))))
+pub dump_tileset_once : OneOutcome 2 dump_tileset.Kinds.ps dump_tileset.Kinds.r dump_tileset.Reads.Asked dump_tileset.Reads.Learnt
+dump_tileset_once κs a q z z' w w' e f = (e.refusal ∙ sym f.refusal, λ i. (tt, (tt, ((e.bytes ∙ sym f.bytes) i, tt))))
 
-pub pixel-at-once : OneOutcome 1 pixel_at.Kinds.ps pixel_at.Kinds.r pixel_at.Reads.Asked pixel_at.Reads.Learnt
-pixel-at-once κs a q z z' w w' e f = (e ∙ sym f, refl)
+pub pixel_at_once : OneOutcome 1 pixel_at.Kinds.ps pixel_at.Kinds.r pixel_at.Reads.Asked pixel_at.Reads.Learnt
+pixel_at_once κs a q z z' w w' e f = (e ∙ sym f, refl)
 
 -- its answer is a part of the frame that it is lent: the bytes are told, and no contract tells an address
-pub row-view-once : OneOutcomeSeen 1 row_view.Kinds.ps row_view.Kinds.r row_view.Reads.Asked row_view.Reads.Learnt (λ κs z. z.now)
-row-view-once κs a q z z' w w' e f = (e ∙ sym f, refl)
+pub row_view_once : OneOutcomeSeen 1 row_view.Kinds.ps row_view.Kinds.r row_view.Reads.Asked row_view.Reads.Learnt (λ κs z. z.now)
+row_view_once κs a q z z' w w' e f = (e ∙ sym f, refl)
 
-pub screen-row-once : OneOutcomeSeen 1 screen_row.Kinds.ps screen_row.Kinds.r screen_row.Reads.Asked screen_row.Reads.Learnt (λ κs z. z.now)
-screen-row-once κs a q z z' w w' e f = (e ∙ sym f, refl)
+pub screen_row_once : OneOutcomeSeen 1 screen_row.Kinds.ps screen_row.Kinds.r screen_row.Reads.Asked screen_row.Reads.Learnt (λ κs z. z.now)
+screen_row_once κs a q z z' w w' e f = (e ∙ sym f, refl)
 
-pub home-row-view-once : OneOutcomeSeen 1 home-row-view.Kinds.ps home-row-view.Kinds.r home-row-view.Reads.Asked home-row-view.Reads.Learnt
+pub home_row_view_once : OneOutcomeSeen 1 home-row-view.Kinds.ps home-row-view.Kinds.r home-row-view.Reads.Asked home-row-view.Reads.Learnt
     (λ κs z. z.now)
-home-row-view-once κs a q z z' w w' e f = (e ∙ sym f, refl)
+home_row_view_once κs a q z z' w w' e f = (e ∙ sym f, refl)
 
-pub home-dump-tileset-once : OneOutcome 2 home-dump-tileset.Kinds.ps home-dump-tileset.Kinds.r home-dump-tileset.Reads.Asked
+pub home_dump_tileset_once : OneOutcome 2 home-dump-tileset.Kinds.ps home-dump-tileset.Kinds.r home-dump-tileset.Reads.Asked
     home-dump-tileset.Reads.Learnt
-home-dump-tileset-once κs a q z z' w w' e f = (e.refusal ∙ sym f.refusal, λ i. (tt, (tt, ((e.bytes ∙ sym f.bytes) i, tt))))
+home_dump_tileset_once κs a q z z' w w' e f = (e.refusal ∙ sym f.refusal, λ i. (tt, (tt, ((e.bytes ∙ sym f.bytes) i, tt))))
 
 -- ---- dump
-pub dump-sheet-once : OneOutcome 3 dump-sheet.Kinds.ps dump-sheet.Kinds.r dump-sheet.Reads.Asked dump-sheet.Reads.Learnt
-dump-sheet-once κs a q z z' w w' e f = (e.refusal ∙ sym f.refusal, λ i. (tt, (tt, (tt, ((e.bytes ∙ sym f.bytes) i, tt)))))
+pub dump_sheet_once : OneOutcome 3 dump-sheet.Kinds.ps dump-sheet.Kinds.r dump-sheet.Reads.Asked dump-sheet.Reads.Learnt
+dump_sheet_once κs a q z z' w w' e f = (e.refusal ∙ sym f.refusal, λ i. (tt, (tt, (tt, ((e.bytes ∙ sym f.bytes) i, tt)))))
 
 -- ---- fresh parts
-pub raster-with-table-once : OneOutcome 0 raster-with-table.Kinds.ps raster-with-table.Kinds.r raster-with-table.Reads.Asked
+pub raster_with_table_once : OneOutcome 0 raster-with-table.Kinds.ps raster-with-table.Kinds.r raster-with-table.Reads.Asked
     raster-with-table.Reads.Learnt
-raster-with-table-once κs a q z z' w w' e f = (e ∙ sym f, refl)
+raster_with_table_once κs a q z z' w w' e f = (e ∙ sym f, refl)
 
-pub front-new-once : OneOutcome 0 front-new.Kinds.ps front-new.Kinds.r front-new.Reads.Asked front-new.Reads.Learnt
-front-new-once κs a q z z' w w' e f = (e ∙ sym f, refl)
+pub front_new_once : OneOutcome 0 front-new.Kinds.ps front-new.Kinds.r front-new.Reads.Asked front-new.Reads.Learnt
+front_new_once κs a q z z' w w' e f = (e ∙ sym f, refl)
 
 -- ---- tile_codes
-pub write-tile-once : OneOutcome 2 write_tile.Kinds.ps write_tile.Kinds.r write_tile.Reads.Asked write_tile.Reads.Learnt
-write-tile-once κs a q z z' w w' e f = (e.refusal ∙ sym f.refusal, λ i. ((e.memory ∙ sym f.memory) i, w.1))
+pub write_tile_once : OneOutcome 2 write_tile.Kinds.ps write_tile.Kinds.r write_tile.Reads.Asked write_tile.Reads.Learnt
+write_tile_once κs a q z z' w w' e f = (e.refusal ∙ sym f.refusal, λ i. ((e.memory ∙ sym f.memory) i, w.1))
 
-pub read-tile-once : OneOutcome 2 read_tile.Kinds.ps read_tile.Kinds.r read_tile.Reads.Asked read_tile.Reads.Learnt
-read-tile-once κs a q z z' w w' e f = (e.refusal ∙ sym f.refusal, λ i. (tt, (tt, ((e.buffer ∙ sym f.buffer) i, tt))))
+pub read_tile_once : OneOutcome 2 read_tile.Kinds.ps read_tile.Kinds.r read_tile.Reads.Asked read_tile.Reads.Learnt
+read_tile_once κs a q z z' w w' e f = (e.refusal ∙ sym f.refusal, λ i. (tt, (tt, ((e.buffer ∙ sym f.buffer) i, tt))))
 
-pub sheet-once : OneOutcome 2 sheet.Kinds.ps sheet.Kinds.r sheet.Reads.Asked sheet.Reads.Learnt
-sheet-once κs a q z z' w w' e f = (e.0.count ∙ sym f.0.count, λ i. (tt, ((e.0.bytes ∙ sym f.0.bytes) i, tt)))
+pub sheet_once : OneOutcome 2 sheet.Kinds.ps sheet.Kinds.r sheet.Reads.Asked sheet.Reads.Learnt
+sheet_once κs a q z z' w w' e f = (e.0.count ∙ sym f.0.count, λ i. (tt, ((e.0.bytes ∙ sym f.0.bytes) i, tt)))
 
 -- ---- program
 pub same_once : OneOutcome 2 same.Kinds.ps same.Kinds.r same.Reads.Asked same.Reads.Learnt
 same_once κs a q z z' w w' e f = (e ∙ sym f, refl)
 
 -- ---- block
-pub well-formed-once : OneOutcome 1 well_formed.Kinds.ps well_formed.Kinds.r well_formed.Reads.Asked well_formed.Reads.Learnt
-well-formed-once κs a q z z' w w' e f = (e ∙ sym f, refl)
+pub well_formed_once : OneOutcome 1 well_formed.Kinds.ps well_formed.Kinds.r well_formed.Reads.Asked well_formed.Reads.Learnt
+well_formed_once κs a q z z' w w' e f = (e ∙ sym f, refl)
 
-pub mark-of-once : OneOutcome 0 mark_of.Kinds.ps mark_of.Kinds.r mark_of.Reads.Asked mark_of.Reads.Learnt
-mark-of-once κs a q z z' w w' e f = (e ∙ sym f, refl)
+pub mark_of_once : OneOutcome 0 mark_of.Kinds.ps mark_of.Kinds.r mark_of.Reads.Asked mark_of.Reads.Learnt
+mark_of_once κs a q z z' w w' e f = (e ∙ sym f, refl)
 
-pub has-room-once : OneOutcome 0 has_room.Kinds.ps has_room.Kinds.r has_room.Reads.Asked has_room.Reads.Learnt
-has-room-once κs a q z z' w w' e f = (e ∙ sym f, refl)
+pub has_room_once : OneOutcome 0 has_room.Kinds.ps has_room.Kinds.r has_room.Reads.Asked has_room.Reads.Learnt
+has_room_once κs a q z z' w w' e f = (e ∙ sym f, refl)
 
-pub fresh-once : OneOutcome 1 fresh.Kinds.ps fresh.Kinds.r fresh.Reads.Asked fresh.Reads.Learnt
-fresh-once κs a q z z' w w' e f = (refl, λ i. ((e ∙ sym f) i, w.1))
+pub fresh_once : OneOutcome 1 fresh.Kinds.ps fresh.Kinds.r fresh.Reads.Asked fresh.Reads.Learnt
+fresh_once κs a q z z' w w' e f = (refl, λ i. ((e ∙ sym f) i, w.1))
 
-pub registers-once : OneOutcome 1 registers.Kinds.ps registers.Kinds.r registers.Reads.Asked registers.Reads.Learnt
-registers-once κs a q z z' w w' e f = (e ∙ sym f, refl)
+pub registers_once : OneOutcome 1 registers.Kinds.ps registers.Kinds.r registers.Reads.Asked registers.Reads.Learnt
+registers_once κs a q z z' w w' e f = (e ∙ sym f, refl)
 
-pub raster-in-once : OneOutcome 1 raster_in.Kinds.ps raster_in.Kinds.r raster_in.Reads.Asked raster_in.Reads.Learnt
-raster-in-once κs a q z z' w w' e f = (e ∙ sym f, refl)
+pub raster_in_once : OneOutcome 1 raster_in.Kinds.ps raster_in.Kinds.r raster_in.Reads.Asked raster_in.Reads.Learnt
+raster_in_once κs a q z z' w w' e f = (e ∙ sym f, refl)
 
-pub palette-in-once : OneOutcome 1 palette_in.Kinds.ps palette_in.Kinds.r palette_in.Reads.Asked palette_in.Reads.Learnt
-palette-in-once κs a q z z' w w' e f = (e ∙ sym f, refl)
+pub palette_in_once : OneOutcome 1 palette_in.Kinds.ps palette_in.Kinds.r palette_in.Reads.Asked palette_in.Reads.Learnt
+palette_in_once κs a q z z' w w' e f = (e ∙ sym f, refl)
 
-pub cache-in-once : OneOutcome 1 cache_in.Kinds.ps cache_in.Kinds.r cache_in.Reads.Asked cache_in.Reads.Learnt
-cache-in-once κs a q z z' w w' e f = (e ∙ sym f, refl)
+pub cache_in_once : OneOutcome 1 cache_in.Kinds.ps cache_in.Kinds.r cache_in.Reads.Asked cache_in.Reads.Learnt
+cache_in_once κs a q z z' w w' e f = (e ∙ sym f, refl)
 
-pub cached-colour-once : OneOutcome 1 cached_colour.Kinds.ps cached_colour.Kinds.r cached_colour.Reads.Asked cached_colour.Reads.Learnt
-cached-colour-once κs a q z z' w w' e f = (e ∙ sym f, refl)
+pub cached_colour_once : OneOutcome 1 cached_colour.Kinds.ps cached_colour.Kinds.r cached_colour.Reads.Asked cached_colour.Reads.Learnt
+cached_colour_once κs a q z z' w w' e f = (e ∙ sym f, refl)
 
 -- ---- the fields of a block, and the ports in place
-pub flag-of-once : OneOutcome 0 flag_of.Kinds.ps flag_of.Kinds.r flag_of.Reads.Asked flag_of.Reads.Learnt
-flag-of-once κs a q z z' w w' e f = (e ∙ sym f, refl)
+pub flag_of_once : OneOutcome 0 flag_of.Kinds.ps flag_of.Kinds.r flag_of.Reads.Asked flag_of.Reads.Learnt
+flag_of_once κs a q z z' w w' e f = (e ∙ sym f, refl)
 
-pub latch-in-once : OneOutcome 1 latch_in.Kinds.ps latch_in.Kinds.r latch_in.Reads.Asked latch_in.Reads.Learnt
-latch-in-once κs a q z z' w w' e f = (e ∙ sym f, refl)
+pub latch_in_once : OneOutcome 1 latch_in.Kinds.ps latch_in.Kinds.r latch_in.Reads.Asked latch_in.Reads.Learnt
+latch_in_once κs a q z z' w w' e f = (e ∙ sym f, refl)
 
-pub address-in-once : OneOutcome 1 address_in.Kinds.ps address_in.Kinds.r address_in.Reads.Asked address_in.Reads.Learnt
-address-in-once κs a q z z' w w' e f = (e ∙ sym f, refl)
+pub address_in_once : OneOutcome 1 address_in.Kinds.ps address_in.Kinds.r address_in.Reads.Asked address_in.Reads.Learnt
+address_in_once κs a q z z' w w' e f = (e ∙ sym f, refl)
 
-pub store-latch-once : OneOutcome 1 store_latch.Kinds.ps store_latch.Kinds.r store_latch.Reads.Asked store_latch.Reads.Learnt
-store-latch-once κs a q z z' w w' e f = (refl, λ i. ((e ∙ sym f) i, w.1))
+pub store_latch_once : OneOutcome 1 store_latch.Kinds.ps store_latch.Kinds.r store_latch.Reads.Asked store_latch.Reads.Learnt
+store_latch_once κs a q z z' w w' e f = (refl, λ i. ((e ∙ sym f) i, w.1))
 
-pub store-address-once : OneOutcome 1 store_address.Kinds.ps store_address.Kinds.r store_address.Reads.Asked store_address.Reads.Learnt
-store-address-once κs a q z z' w w' e f = (refl, λ i. ((e ∙ sym f) i, w.1))
+pub store_address_once : OneOutcome 1 store_address.Kinds.ps store_address.Kinds.r store_address.Reads.Asked store_address.Reads.Learnt
+store_address_once κs a q z z' w w' e f = (refl, λ i. ((e ∙ sym f) i, w.1))
 
-pub store-colour-once : OneOutcome 1 store_colour.Kinds.ps store_colour.Kinds.r store_colour.Reads.Asked store_colour.Reads.Learnt
-store-colour-once κs a q z z' w w' e f = (refl, λ i. ((e ∙ sym f) i, w.1))
+pub store_colour_once : OneOutcome 1 store_colour.Kinds.ps store_colour.Kinds.r store_colour.Reads.Asked store_colour.Reads.Learnt
+store_colour_once κs a q z z' w w' e f = (refl, λ i. ((e ∙ sym f) i, w.1))
 
-pub write-in-place-once : OneOutcome 2 write-in-place.Kinds.ps write-in-place.Kinds.r write-in-place.Reads.Asked write-in-place.Reads.Learnt
-write-in-place-once κs a q z z' w w' e f = (
+pub write_in_place_once : OneOutcome 2 write-in-place.Kinds.ps write-in-place.Kinds.r write-in-place.Reads.Asked write-in-place.Reads.Learnt
+write_in_place_once κs a q z z' w w' e f = (
   λ i. record { refusal = (e.0.refusal ∙ sym f.0.refusal) i; palette = (e.0.palette ∙ sym f.0.palette) i },
   λ i. ((e.0.block ∙ sym f.0.block) i, ((e.1 ∙ sym f.1) i, w.1.1)),
 )
 
-pub read-in-place-once : OneOutcome 2 read-in-place.Kinds.ps read-in-place.Kinds.r read-in-place.Reads.Asked read-in-place.Reads.Learnt
-read-in-place-once κs a q z z' w w' e f =
+pub read_in_place_once : OneOutcome 2 read_in_place.Kinds.ps read_in_place.Kinds.r read_in_place.Reads.Asked read_in_place.Reads.Learnt
+read_in_place_once κs a q z z' w w' e f =
     (λ i. record { refusal = (e.refusal ∙ sym f.refusal) i; byte = (e.byte ∙ sym f.byte) i }, λ i. ((e.block ∙ sym f.block) i, w.1))
 
-pub out-in-place-once : OneOutcome 2 out-in-place.Kinds.ps out-in-place.Kinds.r out-in-place.Reads.Asked out-in-place.Reads.Learnt
-out-in-place-once κs a q z z' w w' e f =
+pub out_in_place_once : OneOutcome 2 out-in-place.Kinds.ps out-in-place.Kinds.r out-in-place.Reads.Asked out-in-place.Reads.Learnt
+out_in_place_once κs a q z z' w w' e f =
     (e.refusal ∙ sym f.refusal, λ i. ((e.block ∙ sym f.block) i, ((e.memory ∙ sym f.memory) i, w.1.1)))
 
-pub input-in-place-once : OneOutcome 2 input-in-place.Kinds.ps input-in-place.Kinds.r input-in-place.Reads.Asked input-in-place.Reads.Learnt
-input-in-place-once κs a q z z' w w' e f =
+pub input_in_place_once : OneOutcome 2 input-in-place.Kinds.ps input-in-place.Kinds.r input-in-place.Reads.Asked input-in-place.Reads.Learnt
+input_in_place_once κs a q z z' w w' e f =
     (λ i. record { refusal = (e.refusal ∙ sym f.refusal) i; byte = (e.byte ∙ sym f.byte) i }, λ i. ((e.block ∙ sym f.block) i, w.1))
 
 -- ---- salvage
-pub repair-once : OneOutcome 2 repair.Kinds.ps repair.Kinds.r repair.Reads.Asked repair.Reads.Learnt
-repair-once κs a q z z' w w' e f = (
+pub repair_once : OneOutcome 2 repair.Kinds.ps repair.Kinds.r repair.Reads.Asked repair.Reads.Learnt
+repair_once κs a q z z' w w' e f = (
   λ i. record { refusal = (e.0.refusal ∙ sym f.0.refusal) i; count = (e.0.count ∙ sym f.0.count) i },
   λ i. ((e.0.block ∙ sym f.0.block) i, ((e.0.list ∙ sym f.0.list) i, tt)),
 )
 
 -- ---- record
-pub record-at-once : OneOutcome 1 record_at.Kinds.ps record_at.Kinds.r record_at.Reads.Asked record_at.Reads.Learnt
-record-at-once κs a q z z' w w' e f = (e ∙ sym f, refl)
+pub record_at_once : OneOutcome 1 record_at.Kinds.ps record_at.Kinds.r record_at.Reads.Asked record_at.Reads.Learnt
+record_at_once κs a q z z' w w' e f = (e ∙ sym f, refl)
 
-pub record-on-once : OneOutcome 1 record_on.Kinds.ps record_on.Kinds.r record_on.Reads.Asked record_on.Reads.Learnt
-record-on-once κs a q z z' w w' e f = (e ∙ sym f, refl)
+pub record_on_once : OneOutcome 1 record_on.Kinds.ps record_on.Kinds.r record_on.Reads.Asked record_on.Reads.Learnt
+record_on_once κs a q z z' w w' e f = (e ∙ sym f, refl)
 
-pub area-number-once : OneOutcome 0 area_number.Kinds.ps area_number.Kinds.r area_number.Reads.Asked area_number.Reads.Learnt
-area-number-once κs a q z z' w w' e f = (e ∙ sym f, refl)
+pub area_number_once : OneOutcome 0 area_number.Kinds.ps area_number.Kinds.r area_number.Reads.Asked area_number.Reads.Learnt
+area_number_once κs a q z z' w w' e f = (e ∙ sym f, refl)
 
-pub put-all-once : OneOutcome 2 put_all.Kinds.ps put_all.Kinds.r put_all.Reads.Asked put_all.Reads.Learnt
-put-all-once κs a q z z' w w' e f = (e.0 ∙ sym f.0, λ i. ((e.1 ∙ sym f.1) i, w.1))
+pub put_all_once : OneOutcome 2 put_all.Kinds.ps put_all.Kinds.r put_all.Reads.Asked put_all.Reads.Learnt
+put_all_once κs a q z z' w w' e f = (e.0 ∙ sym f.0, λ i. ((e.1 ∙ sym f.1) i, w.1))
 
-pub put-record-once : OneOutcome 1 put_record.Kinds.ps put_record.Kinds.r put_record.Reads.Asked put_record.Reads.Learnt
-put-record-once κs a q z z' w w' e f = (
+pub put_record_once : OneOutcome 1 put_record.Kinds.ps put_record.Kinds.r put_record.Reads.Asked put_record.Reads.Learnt
+put_record_once κs a q z z' w w' e f = (
   λ i. record { refusal = (e.0.refusal ∙ sym f.0.refusal) i; count = (e.0.count ∙ sym f.0.count) i },
   λ i. ((e.0.recording ∙ sym f.0.recording) i, w.1),
 )
 
-pub size-of-once : OneOutcome 0 size_of.Kinds.ps size_of.Kinds.r size_of.Reads.Asked size_of.Reads.Learnt
-size-of-once κs a q z z' w w' e f = (e.0 ∙ sym f.0, refl)
+pub size_of_once : OneOutcome 0 size_of.Kinds.ps size_of.Kinds.r size_of.Reads.Asked size_of.Reads.Learnt
+size_of_once κs a q z z' w w' e f = (e.0 ∙ sym f.0, refl)
 
 -- ---- reader
-pub past-record-once : OneOutcome 1 past_record.Kinds.ps past_record.Kinds.r past_record.Reads.Asked past_record.Reads.Learnt
-past-record-once κs a q z z' w w' e f = (e ∙ sym f, refl)
+pub past_record_once : OneOutcome 1 past_record.Kinds.ps past_record.Kinds.r past_record.Reads.Asked past_record.Reads.Learnt
+past_record_once κs a q z z' w w' e f = (e ∙ sym f, refl)
 
-pub at-end-once : OneOutcome 1 at_end.Kinds.ps at_end.Kinds.r at_end.Reads.Asked at_end.Reads.Learnt
-at-end-once κs a q z z' w w' e f = (e ∙ sym f, refl)
+pub at_end_once : OneOutcome 1 at_end.Kinds.ps at_end.Kinds.r at_end.Reads.Asked at_end.Reads.Learnt
+at_end_once κs a q z z' w w' e f = (e ∙ sym f, refl)
 
 -- ---- face
-pub vdp-repair-once : OneOutcome 2 vdp_repair.Kinds.ps vdp_repair.Kinds.r vdp_repair.Reads.Asked vdp_repair.Reads.Learnt
-vdp-repair-once κs a q z z' w w' e f = (e.word ∙ sym f.word, λ i. ((e.block ∙ sym f.block) i, ((e.lent ∙ sym f.lent) i, tt)))
+pub vdp_repair_once : OneOutcome 2 vdp_repair.Kinds.ps vdp_repair.Kinds.r vdp_repair.Reads.Asked vdp_repair.Reads.Learnt
+vdp_repair_once κs a q z z' w w' e f = (e.word ∙ sym f.word, λ i. ((e.block ∙ sym f.block) i, ((e.lent ∙ sym f.lent) i, tt)))
 
-pub vdp-new-table-once : OneOutcome 1 vdp_new_table.Kinds.ps vdp_new_table.Kinds.r vdp_new_table.Reads.Asked vdp_new_table.Reads.Learnt
-vdp-new-table-once κs a q z z' w w' e f = (e.word ∙ sym f.word, λ i. ((e.block ∙ sym f.block) i, w.1))
+pub vdp_new_table_once : OneOutcome 1 vdp_new_table.Kinds.ps vdp_new_table.Kinds.r vdp_new_table.Reads.Asked vdp_new_table.Reads.Learnt
+vdp_new_table_once κs a q z z' w w' e f = (e.word ∙ sym f.word, λ i. ((e.block ∙ sym f.block) i, w.1))
 
-pub vdp-new-once : OneOutcome 1 vdp_new.Kinds.ps vdp_new.Kinds.r vdp_new.Reads.Asked vdp_new.Reads.Learnt
-vdp-new-once κs a q z z' w w' e f = (e.word ∙ sym f.word, λ i. ((e.block ∙ sym f.block) i, w.1))
+pub vdp_new_once : OneOutcome 1 vdp_new.Kinds.ps vdp_new.Kinds.r vdp_new.Reads.Asked vdp_new.Reads.Learnt
+vdp_new_once κs a q z z' w w' e f = (e.word ∙ sym f.word, λ i. ((e.block ∙ sym f.block) i, w.1))
 
-pub vdp-out-once : OneOutcome 2 vdp_out.Kinds.ps vdp_out.Kinds.r vdp_out.Reads.Asked vdp_out.Reads.Learnt
-vdp-out-once κs a q z z' w w' e f = (e.word ∙ sym f.word, λ i. ((e.block ∙ sym f.block) i, ((e.lent ∙ sym f.lent) i, w.1.1)))
+pub vdp_out_once : OneOutcome 2 vdp_out.Kinds.ps vdp_out.Kinds.r vdp_out.Reads.Asked vdp_out.Reads.Learnt
+vdp_out_once κs a q z z' w w' e f = (e.word ∙ sym f.word, λ i. ((e.block ∙ sym f.block) i, ((e.lent ∙ sym f.lent) i, w.1.1)))
 
-pub vdp-input-once : OneOutcome 2 vdp_input.Kinds.ps vdp_input.Kinds.r vdp_input.Reads.Asked vdp_input.Reads.Learnt
-vdp-input-once κs a q z z' w w' e f = (e.word ∙ sym f.word, λ i. ((e.block ∙ sym f.block) i, w.1))
+pub vdp_input_once : OneOutcome 2 vdp_input.Kinds.ps vdp_input.Kinds.r vdp_input.Reads.Asked vdp_input.Reads.Learnt
+vdp_input_once κs a q z z' w w' e f = (e.word ∙ sym f.word, λ i. ((e.block ∙ sym f.block) i, w.1))
 
-pub vdp-step-once : OneOutcome 3 vdp_step.Kinds.ps vdp_step.Kinds.r vdp_step.Reads.Asked vdp_step.Reads.Learnt
-vdp-step-once κs a q z z' w w' e f =
+pub vdp_step_once : OneOutcome 3 vdp_step.Kinds.ps vdp_step.Kinds.r vdp_step.Reads.Asked vdp_step.Reads.Learnt
+vdp_step_once κs a q z z' w w' e f =
     (e.word ∙ sym f.word, λ i. ((e.block ∙ sym f.block) i, (tt, ((e.lent ∙ sym f.lent) i, w.1.1.1))))
 
-pub vdp-row-step-once : OneOutcome 3 vdp_row_step.Kinds.ps vdp_row_step.Kinds.r vdp_row_step.Reads.Asked vdp_row_step.Reads.Learnt
-vdp-row-step-once κs a q z z' w w' e f =
+pub vdp_row_step_once : OneOutcome 3 vdp_row_step.Kinds.ps vdp_row_step.Kinds.r vdp_row_step.Reads.Asked vdp_row_step.Reads.Learnt
+vdp_row_step_once κs a q z z' w w' e f =
     (e.word ∙ sym f.word, λ i. ((e.block ∙ sym f.block) i, (tt, ((e.lent ∙ sym f.lent) i, w.1.1.1))))
 
-pub vdp-layer-step-once : OneOutcome 4 vdp_layer_step.Kinds.ps vdp_layer_step.Kinds.r vdp_layer_step.Reads.Asked vdp_layer_step.Reads.Learnt
-vdp-layer-step-once κs a q z z' w w' e f = (
+pub vdp_layer_step_once : OneOutcome 4 vdp_layer_step.Kinds.ps vdp_layer_step.Kinds.r vdp_layer_step.Reads.Asked vdp_layer_step.Reads.Learnt
+vdp_layer_step_once κs a q z z' w w' e f = (
   e.call.word ∙ sym f.call.word,
   λ i. ((e.call.block ∙ sym f.call.block) i, (tt, ((e.call.lent ∙ sym f.call.lent) i, ((e.owners ∙ sym f.owners) i, w.1.1.1.1)))),
 )
 
-pub vdp-layer-row-step-once : OneOutcome 4 vdp_layer_row_step.Kinds.ps vdp_layer_row_step.Kinds.r vdp_layer_row_step.Reads.Asked
+pub vdp_layer_row_step_once : OneOutcome 4 vdp_layer_row_step.Kinds.ps vdp_layer_row_step.Kinds.r vdp_layer_row_step.Reads.Asked
     vdp_layer_row_step.Reads.Learnt
-vdp-layer-row-step-once κs a q z z' w w' e f = (
+vdp_layer_row_step_once κs a q z z' w w' e f = (
   e.call.word ∙ sym f.call.word,
   λ i. ((e.call.block ∙ sym f.call.block) i, (tt, ((e.call.lent ∙ sym f.call.lent) i, ((e.owners ∙ sym f.owners) i, w.1.1.1.1)))),
 )
 
-pub vdp-dump-tileset-once : OneOutcome 3 vdp_dump_tileset.Kinds.ps vdp_dump_tileset.Kinds.r vdp_dump_tileset.Reads.Asked vdp_dump_tileset.Reads.Learnt
-vdp-dump-tileset-once κs a q z z' w w' e f = (e.word ∙ sym f.word, λ i. (tt, (tt, ((e.lent ∙ sym f.lent) i, tt))))
+pub vdp_dump_tileset_once : OneOutcome 3 vdp_dump_tileset.Kinds.ps vdp_dump_tileset.Kinds.r vdp_dump_tileset.Reads.Asked vdp_dump_tileset.Reads.Learnt
+vdp_dump_tileset_once κs a q z z' w w' e f = (e.word ∙ sym f.word, λ i. (tt, (tt, ((e.lent ∙ sym f.lent) i, tt))))
 
-pub vdp-version-once : OneOutcome 0 vdp_version.Kinds.ps vdp_version.Kinds.r vdp_version.Reads.Asked vdp_version.Reads.Learnt
-vdp-version-once κs a q z z' w w' e f = (e ∙ sym f, refl)
+pub vdp_version_once : OneOutcome 0 vdp_version.Kinds.ps vdp_version.Kinds.r vdp_version.Reads.Asked vdp_version.Reads.Learnt
+vdp_version_once κs a q z z' w w' e f = (e ∙ sym f, refl)
 
-pub vdp-write-tile-once : OneOutcome 2 vdp_write_tile.Kinds.ps vdp_write_tile.Kinds.r vdp_write_tile.Reads.Asked vdp_write_tile.Reads.Learnt
-vdp-write-tile-once κs a q z z' w w' e f = (e.word ∙ sym f.word, λ i. ((e.lent ∙ sym f.lent) i, w.1))
+pub vdp_write_tile_once : OneOutcome 2 vdp_write_tile.Kinds.ps vdp_write_tile.Kinds.r vdp_write_tile.Reads.Asked vdp_write_tile.Reads.Learnt
+vdp_write_tile_once κs a q z z' w w' e f = (e.word ∙ sym f.word, λ i. ((e.lent ∙ sym f.lent) i, w.1))
 
-pub vdp-read-tile-once : OneOutcome 2 vdp_read_tile.Kinds.ps vdp_read_tile.Kinds.r vdp_read_tile.Reads.Asked vdp_read_tile.Reads.Learnt
-vdp-read-tile-once κs a q z z' w w' e f = (e.word ∙ sym f.word, λ i. (tt, (tt, ((e.lent ∙ sym f.lent) i, tt))))
+pub vdp_read_tile_once : OneOutcome 2 vdp_read_tile.Kinds.ps vdp_read_tile.Kinds.r vdp_read_tile.Reads.Asked vdp_read_tile.Reads.Learnt
+vdp_read_tile_once κs a q z z' w w' e f = (e.word ∙ sym f.word, λ i. (tt, (tt, ((e.lent ∙ sym f.lent) i, tt))))
 
-pub vdp-pixel-once : OneOutcome 2 vdp_pixel.Kinds.ps vdp_pixel.Kinds.r vdp_pixel.Reads.Asked vdp_pixel.Reads.Learnt
-vdp-pixel-once κs a q z z' w w' e f = (e ∙ sym f, refl)
+pub vdp_pixel_once : OneOutcome 2 vdp_pixel.Kinds.ps vdp_pixel.Kinds.r vdp_pixel.Reads.Asked vdp_pixel.Reads.Learnt
+vdp_pixel_once κs a q z z' w w' e f = (e ∙ sym f, refl)
 
-pub vdp-record-out-once : OneOutcome 1 vdp_record_out.Kinds.ps vdp_record_out.Kinds.r vdp_record_out.Reads.Asked vdp_record_out.Reads.Learnt
-vdp-record-out-once κs a q z z' w w' e f = (e.word ∙ sym f.word, λ i. ((e.lent ∙ sym f.lent) i, w.1))
+pub vdp_record_out_once : OneOutcome 1 vdp_record_out.Kinds.ps vdp_record_out.Kinds.r vdp_record_out.Reads.Asked vdp_record_out.Reads.Learnt
+vdp_record_out_once κs a q z z' w w' e f = (e.word ∙ sym f.word, λ i. ((e.lent ∙ sym f.lent) i, w.1))
 
-pub vdp-record-input-once : OneOutcome 1 vdp_record_input.Kinds.ps vdp_record_input.Kinds.r vdp_record_input.Reads.Asked vdp_record_input.Reads.Learnt
-vdp-record-input-once κs a q z z' w w' e f = (e.word ∙ sym f.word, λ i. ((e.lent ∙ sym f.lent) i, w.1))
+pub vdp_record_input_once : OneOutcome 1 vdp_record_input.Kinds.ps vdp_record_input.Kinds.r vdp_record_input.Reads.Asked vdp_record_input.Reads.Learnt
+vdp_record_input_once κs a q z z' w w' e f = (e.word ∙ sym f.word, λ i. ((e.lent ∙ sym f.lent) i, w.1))
 
-pub vdp-record-step-once : OneOutcome 1 vdp_record_step.Kinds.ps vdp_record_step.Kinds.r vdp_record_step.Reads.Asked vdp_record_step.Reads.Learnt
-vdp-record-step-once κs a q z z' w w' e f = (e.word ∙ sym f.word, λ i. ((e.lent ∙ sym f.lent) i, w.1))
+pub vdp_record_step_once : OneOutcome 1 vdp_record_step.Kinds.ps vdp_record_step.Kinds.r vdp_record_step.Reads.Asked vdp_record_step.Reads.Learnt
+vdp_record_step_once κs a q z z' w w' e f = (e.word ∙ sym f.word, λ i. ((e.lent ∙ sym f.lent) i, w.1))
 
-pub vdp-record-next-once : OneOutcome 1 vdp_record_next.Kinds.ps vdp_record_next.Kinds.r vdp_record_next.Reads.Asked vdp_record_next.Reads.Learnt
-vdp-record-next-once κs a q z z' w w' e f = (e ∙ sym f, refl)
+pub vdp_record_next_once : OneOutcome 1 vdp_record_next.Kinds.ps vdp_record_next.Kinds.r vdp_record_next.Reads.Asked vdp_record_next.Reads.Learnt
+vdp_record_next_once κs a q z z' w w' e f = (e ∙ sym f, refl)
 
 -- ---- word
-pub asked-once : OneOutcome 0 asked.Kinds.ps asked.Kinds.r asked.Reads.Asked asked.Reads.Learnt
-asked-once κs a q z z' w w' e f = (e ∙ sym f, refl)
+pub asked_once : OneOutcome 0 asked.Kinds.ps asked.Kinds.r asked.Reads.Asked asked.Reads.Learnt
+asked_once κs a q z z' w w' e f = (e ∙ sym f, refl)
 
-pub number-once : OneOutcome 0 number.Kinds.ps number.Kinds.r number.Reads.Asked number.Reads.Learnt
-number-once κs a q z z' w w' e f = (e.0 ∙ sym f.0, refl)
+pub number_once : OneOutcome 0 number.Kinds.ps number.Kinds.r number.Reads.Asked number.Reads.Learnt
+number_once κs a q z z' w w' e f = (e.0 ∙ sym f.0, refl)
 
-pub word-of-once : OneOutcome 0 word_of.Kinds.ps word_of.Kinds.r word_of.Reads.Asked word_of.Reads.Learnt
-word-of-once κs a q z z' w w' e f = (e ∙ sym f, refl)
+pub word_of_once : OneOutcome 0 word_of.Kinds.ps word_of.Kinds.r word_of.Reads.Asked word_of.Reads.Learnt
+word_of_once κs a q z z' w w' e f = (e ∙ sym f, refl)
 
 -- ---- a trace
-pub put-numbered-once : OneOutcome 2 put_numbered.Kinds.ps put_numbered.Kinds.r put_numbered.Reads.Asked put_numbered.Reads.Learnt
-put-numbered-once κs a q z z' w w' e f = (e.0 ∙ sym f.0, λ i. ((e.1 ∙ sym f.1) i, w.1))
+pub put_numbered_once : OneOutcome 2 put_numbered.Kinds.ps put_numbered.Kinds.r put_numbered.Reads.Asked put_numbered.Reads.Learnt
+put_numbered_once κs a q z z' w w' e f = (e.0 ∙ sym f.0, λ i. ((e.1 ∙ sym f.1) i, w.1))
 
-pub put-last-once : OneOutcome 2 put_last.Kinds.ps put_last.Kinds.r put_last.Reads.Asked put_last.Reads.Learnt
-put-last-once κs a q z z' w w' e f = (e.0 ∙ sym f.0, λ i. ((e.1 ∙ sym f.1) i, w.1))
+pub put_last_once : OneOutcome 2 put_last.Kinds.ps put_last.Kinds.r put_last.Reads.Asked put_last.Reads.Learnt
+put_last_once κs a q z z' w w' e f = (e.0 ∙ sym f.0, λ i. ((e.1 ∙ sym f.1) i, w.1))
 
-pub pixel-count-once : OneOutcome 0 pixel_count.Kinds.ps pixel_count.Kinds.r pixel_count.Reads.Asked pixel_count.Reads.Learnt
-pixel-count-once κs a q z z' w w' e f = (e.0 ∙ sym f.0, refl)
+pub pixel_count_once : OneOutcome 0 pixel_count.Kinds.ps pixel_count.Kinds.r pixel_count.Reads.Asked pixel_count.Reads.Learnt
+pixel_count_once κs a q z z' w w' e f = (e.0 ∙ sym f.0, refl)
 
-pub put-picture-once : OneOutcome 3 put_picture.Kinds.ps put_picture.Kinds.r put_picture.Reads.Asked put_picture.Reads.Learnt
-put-picture-once κs a q z z' w w' e f = (e.0 ∙ sym f.0, λ i. ((e.1 ∙ sym f.1) i, w.1))
+pub put_picture_once : OneOutcome 3 put_picture.Kinds.ps put_picture.Kinds.r put_picture.Reads.Asked put_picture.Reads.Learnt
+put_picture_once κs a q z z' w w' e f = (e.0 ∙ sym f.0, λ i. ((e.1 ∙ sym f.1) i, w.1))
 
-pub put-answer-once : OneOutcome 1 put_answer.Kinds.ps put_answer.Kinds.r put_answer.Reads.Asked put_answer.Reads.Learnt
-put-answer-once κs a q z z' w w' e f = (e.0 ∙ sym f.0, λ i. ((e.1 ∙ sym f.1) i, w.1))
+pub put_answer_once : OneOutcome 1 put_answer.Kinds.ps put_answer.Kinds.r put_answer.Reads.Asked put_answer.Reads.Learnt
+put_answer_once κs a q z z' w w' e f = (e.0 ∙ sym f.0, λ i. ((e.1 ∙ sym f.1) i, w.1))
 
-pub turn-once : OneOutcome 4 turn.Kinds.ps turn.Kinds.r turn.Reads.Asked turn.Reads.Learnt
-turn-once κs a q z z' w w' e f = (
+pub turn_once : OneOutcome 4 turn.Kinds.ps turn.Kinds.r turn.Reads.Asked turn.Reads.Learnt
+turn_once κs a q z z' w w' e f = (
   λ i. record {
     answer = (e.answer ∙ sym f.answer) i;
     run = ap (λ (x : World). x.run) (e.world ∙ sym f.world) i;
@@ -791,20 +791,20 @@ turn-once κs a q z z' w w' e f = (
   ),
 )
 
-pub device-handheld-once : OneOutcome 0 device-handheld.Kinds.ps device-handheld.Kinds.r device-handheld.Reads.Asked device-handheld.Reads.Learnt
-device-handheld-once κs a q z z' w w' e f = (e ∙ sym f, refl)
+pub device_handheld_once : OneOutcome 0 device-handheld.Kinds.ps device-handheld.Kinds.r device-handheld.Reads.Asked device-handheld.Reads.Learnt
+device_handheld_once κs a q z z' w w' e f = (e ∙ sym f, refl)
 
-pub device-home-once : OneOutcome 0 device-home.Kinds.ps device-home.Kinds.r device-home.Reads.Asked device-home.Reads.Learnt
-device-home-once κs a q z z' w w' e f = (e ∙ sym f, refl)
+pub device_home_once : OneOutcome 0 device-home.Kinds.ps device-home.Kinds.r device-home.Reads.Asked device-home.Reads.Learnt
+device_home_once κs a q z z' w w' e f = (e ∙ sym f, refl)
 
-pub trace-once : OneOutcome 4 trace.Kinds.ps trace.Kinds.r trace.Reads.Asked trace.Reads.Learnt
-trace-once κs a q z z' w w' e f = (
+pub trace_once : OneOutcome 4 trace.Kinds.ps trace.Kinds.r trace.Reads.Asked trace.Reads.Learnt
+trace_once κs a q z z' w w' e f = (
   e.0.count ∙ sym f.0.count,
   λ i. (tt, (tt, ((e.0.memory ∙ sym f.0.memory) i, ((e.0.pixels ∙ sym f.0.pixels) i, ((e.0.bytes ∙ sym f.0.bytes) i, tt))))),
 )
 
-pub snapshot-once : OneOutcome 5 snapshot.Kinds.ps snapshot.Kinds.r snapshot.Reads.Asked snapshot.Reads.Learnt
-snapshot-once κs a q z z' w w' e f = (
+pub snapshot_once : OneOutcome 5 snapshot.Kinds.ps snapshot.Kinds.r snapshot.Reads.Asked snapshot.Reads.Learnt
+snapshot_once κs a q z z' w w' e f = (
   e.0.count ∙ sym f.0.count,
   λ i. (
     tt,

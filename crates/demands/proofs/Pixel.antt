@@ -7,41 +7,41 @@ use lib.ListN.{drop}
 use Rattle.picture.specs.declared.Screen.{Screen}
 use Rattle.picture.specs.declared.Screen.TheVariants.{Home}
 use Rattle.picture.specs.declared.RenderArea.{RenderArea}
-use Rattle.picture.specs.Screen.{rowSize, pictureOf}
-use Rattle.picture.specs.Area.{screenOf}
+use Rattle.picture.specs.Screen.{row_size, picture_of}
+use Rattle.picture.specs.Area.{screen_of}
 use Rattle.points.specs.Points.{Reading}
 use Rattle.vdp.specs.declared.VdpState.{VdpState}
 use Rattle.pixel.specs.declared.Pixel.{Pixel}
-use Rattle.pixel.specs.Pixel.{pixelOf}
-use Rattle.pixel.proofs.Spots.{pixel-inside, pixel-outside, pixel-refused, pixel-drawn}
+use Rattle.pixel.specs.Pixel.{pixel_of}
+use Rattle.pixel.proofs.Spots.{pixel_inside, pixel_outside, pixel_refused, pixel_drawn}
 use Rattle.step.specs.Step.{reading_of}
 use Rattle.home.specs.declared.HomeState.{HomeState}
 use Rattle.home.specs.Step as home
-use Rattle.look.proofs.Pixels.{pixel-after-step}
+use Rattle.look.proofs.Pixels.{pixel_after_step}
 use Rattle.look.proofs.HomePixels as home-look
 use Rattle.demands.specs.Pixel.{PixelIsRow, HandheldPixel, HomePixel}
 
 -- of any machine, by what a step reads of it
 is_row : (s : Screen) (vram : List ℕ) (k : Reading) (y x : ℕ)
-    → PixelIsRow s k.colours vram (pictureOf s k.reg k.raster.vertical_scroll vram) y x (pixelOf s vram k y x)
+    → PixelIsRow s k.colours vram (picture_of s k.reg k.raster.vertical_scroll vram) y x (pixel_of s vram k y x)
 is_row s vram k y x =
     record {
-      there = λ m h l. ap (λ (p : Pixel). p.there) (pixel-inside s vram k y x m h l);
-      bytes = λ m h l row₀ row bits b c e. pixel-drawn s vram k y x b c m h l (drop (rowSize s) row₀) e.bytes;
-      outside = pixel-outside s vram k y x;
-      refused = pixel-refused s vram k y x;
+      there = λ m h l. ap (λ (p : Pixel). p.there) (pixel_inside s vram k y x m h l);
+      bytes = λ m h l row₀ row bits b c e. pixel_drawn s vram k y x b c m h l (drop (row_size s) row₀) e.bytes;
+      outside = pixel_outside s vram k y x;
+      refused = pixel_refused s vram k y x;
     }
 
-pub pixel-is-row : (a : RenderArea) (vram : List ℕ) (d : VdpState) (y x : ℕ) → HandheldPixel a vram d y x
-pixel-is-row a vram d y x =
+pub pixel_is_row : (a : RenderArea) (vram : List ℕ) (d : VdpState) (y x : ℕ) → HandheldPixel a vram d y x
+pixel_is_row a vram d y x =
     record {
-      now = is_row (screenOf a) vram (reading_of d) y x;
-      after-step = λ l buffer buffer' r b s e q. pixel-after-step a vram d y x b s l buffer buffer' r e q;
+      now = is_row (screen_of a) vram (reading_of d) y x;
+      after_step = λ l buffer buffer' r b s e q. pixel_after_step a vram d y x b s l buffer buffer' r e q;
     }
 
-pub home-pixel-is-row : (vram : List ℕ) (h : HomeState) (y x : ℕ) → HomePixel vram h y x
-home-pixel-is-row vram h y x =
+pub home_pixel_is_row : (vram : List ℕ) (h : HomeState) (y x : ℕ) → HomePixel vram h y x
+home_pixel_is_row vram h y x =
     record {
       now = is_row Home vram (home.reading_of h) y x;
-      after-step = λ l buffer buffer' r b s e q. home-look.pixel-after-step vram h y x b s l buffer buffer' r e q;
+      after_step = λ l buffer buffer' r b s e q. home-look.pixel_after_step vram h y x b s l buffer buffer' r e q;
     }

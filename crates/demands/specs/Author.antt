@@ -3,15 +3,15 @@
 -- Assumes nothing.
 use Rattle.std.specs.Prelude.{◌≡◌, ◌↔◌, ◌≢◌, cond, List, [], ◌∷◌, ℕ, suc, ◌+◌, ◌*◌, ◌%◌, ◌≤◌, ◌<◌, eqb, length, set}
 use Rattle.laws.specs.Lists.{at}
-use Rattle.laws.specs.Paint.{byteOfColour}
-use Rattle.colour.specs.Colour.{colour, coloursOf}
+use Rattle.laws.specs.Paint.{byte_of_colour}
+use Rattle.colour.specs.Colour.{colour, colours_of}
 use Rattle.picture.specs.declared.RenderArea.TheVariants.{VisibleOnly}
-use Rattle.picture.specs.Area.{pictureOf}
+use Rattle.picture.specs.Area.{picture_of}
 use Rattle.raster.specs.declared.LineTable.{LineTable}
 use Rattle.vdp.specs.declared.VdpState.{VdpState}
 use Rattle.refusal.specs.declared.Refusal.TheVariants.{Accepted}
 use Rattle.vdp.specs.Device.{made}
-use Rattle.step.specs.Step.{frameStep}
+use Rattle.step.specs.Step.{frame_step_of}
 use Rattle.demands.specs.Handheld.{out, after, handheld}
 use Rattle.passes.specs.Pass.{Between, Run, Watched, pass}
 use Rattle.passes.specs.Split.{New, Split, Changed}
@@ -35,29 +35,29 @@ pub record AsksNot (w w₀ : Watched handheld VisibleOnly) : Type 0 where
   pub on : (i : ℕ) → w₀.ready (suc i) ≡ (w₀.answer i).device
 
 -- ---- the answer
-abbrev pub newPalette : (low high : ℕ) → LineTable → List ℕ
-newPalette low high t = set (set (made t).cram 6 low) 7 (high % 16)
+abbrev pub new_palette : (low high : ℕ) → LineTable → List ℕ
+new_palette low high t = set (set (made t).cram 6 low) 7 (high % 16)
 
 -- The pixels of number 3 in the new rows, which are those from 67 on, change to the colour of the two bytes, and no others.
 pub record Answered (low high : ℕ) (w w₀ : Watched handheld VisibleOnly) : Type 0 where
-  pub split : Split w 90 (made w.table).cram (newPalette low high w.table)
+  pub split : Split w 90 (made w.table).cram (new_palette low high w.table)
   pub changed : Changed split w₀ 3
-  pub new-rows : (y : ℕ) → y < 144 → New split.moment y ↔ (67 ≤ y)
-  pub new-colour : at (coloursOf (newPalette low high w.table)) 3 ≡ colour low (high % 16)
+  pub new_rows_lem : (y : ℕ) → y < 144 → New split.moment y ↔ (67 ≤ y)
+  pub new_colour : at (colours_of (new_palette low high w.table)) 3 ≡ colour low (high % 16)
 
 -- The same in the bytes of the caller's frame. Byte j of pixel x of row y stands at 640 y + 4 x + j. Row y is drawn by step y + 23, with the registers of a
 -- fresh device, no scroll, and the video memory at that step: so the picture gives the number of the pixel's colour.
 abbrev pub number_at : LineTable → (vram : ℕ → List ℕ) (x y : ℕ) → ℕ
-number_at t vram x y = (pictureOf VisibleOnly (made t).reg 0 (vram (y + 23)) y).colour x
+number_at t vram x y = (picture_of VisibleOnly (made t).reg 0 (vram (y + 23)) y).colour x
 
 pub record WhichBytes (low high : ℕ) (w w₀ : Watched handheld VisibleOnly) : Type 0 where
   -- those of the pixels of number 3 from row 67 on: the new colour's, and without the writes black
   pub these :
       (x y j : ℕ) → x < 160 → 67 ≤ y → y < 144 → j < 4 → number_at w.table w.vram x y ≡ 3 →
-      (at (w.frame (pass w)) (640 * y + 4 * x + j) ≡ byteOfColour (colour low (high % 16)) j)
-      × (at (w₀.frame (pass w)) (640 * y + 4 * x + j) ≡ byteOfColour (colour 0 0) j)
+      (at (w.frame (pass w)) (640 * y + 4 * x + j) ≡ byte_of_colour (colour low (high % 16)) j)
+      × (at (w₀.frame (pass w)) (640 * y + 4 * x + j) ≡ byte_of_colour (colour 0 0) j)
   -- all others are the same with the writes and without
-  pub no-others :
+  pub no_others :
       (x y j : ℕ) → x < 160 → y < 144 → j < 4 → (67 ≤ y → number_at w.table w.vram x y ≢ 3) →
       at (w.frame (pass w)) (640 * y + 4 * x + j) ≡ at (w₀.frame (pass w)) (640 * y + 4 * x + j)
 
@@ -71,7 +71,7 @@ recolour low high vram = write 0xBF 0x06 vram ∷ write 0xBF 0xC0 vram ∷ write
 
 module _
     (t : LineTable) (vram : ℕ → List ℕ) (frame : List ℕ)
-    (accepted : (i : ℕ) (d : VdpState) → (frameStep VisibleOnly (vram i) (length frame) d).refusal ≡ Accepted) (low high : ℕ)
+    (accepted : (i : ℕ) (d : VdpState) → (frame_step_of VisibleOnly (vram i) (length frame) d).refusal ≡ Accepted) (low high : ℕ)
   where
     abbrev pub asked : Run handheld VisibleOnly
     asked =

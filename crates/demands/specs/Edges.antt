@@ -6,11 +6,11 @@ use Rattle.laws.specs.Bits.{bit, any}
 use Rattle.laws.specs.Lists.{at}
 use Rattle.picture.specs.declared.RenderArea.{RenderArea}
 use Rattle.picture.specs.declared.RenderArea.TheVariants.{VisibleOnly, TrueEdges}
-use Rattle.picture.specs.Tile.{code_of, code_at, entry_at, tileLine, entryCode, entryColour, entryFront, mapColour, mapFront}
-use Rattle.picture.specs.View.{early, cutMark, visibleEnd, visibleSeen, visibleStand, visible, edgeStand, trueEdges}
-use Rattle.picture.specs.Picture.{Row, back, front, table_at, top_of, onLine, listed, spriteLine, solid, heldBack, marked, struck, drawn, laid}
-use Rattle.picture.specs.Picture.{spriteCode, withSprite, withSprites, bare, picture}
-use Rattle.picture.specs.Area.{view_of, pictureOf, layersOf, rowBytes}
+use Rattle.picture.specs.Tile.{code_of, code_at, entry_at, tile_line, entry_code, entry_colour, entry_front, map_colour, map_front}
+use Rattle.picture.specs.View.{early, cut_mark, visible_end, visible_seen, visible_stand, visible, edge_stand, true_edges}
+use Rattle.picture.specs.Picture.{Row, back, front, table_at, top_of, on_line, listed, sprite_line, solid, held_back, marked, struck, drawn, laid}
+use Rattle.picture.specs.Picture.{sprite_code, with_sprite, with_sprites, bare, picture}
+use Rattle.picture.specs.Area.{view_of, picture_of, layers_of, row_bytes}
 use Rattle.demands.specs.Layers.{OneOf}
 
 -- ---- R18.3
@@ -21,27 +21,27 @@ Uncut e h = (h ≤ 40 + e) ⊎ (((48 + e ≤ h) × (h < 208)) ⊎ ((208 + e ≤ 
 
 module _ (reg vram : List ℕ) (scroll y : ℕ) where
   -- the sprites that are laid on row y, and their X bytes
-  abbrev pub onRow : List ℕ
-  onRow = take 8 (listed (at vram) (at reg) (y + 24) 64 0)
+  abbrev pub on_row : List ℕ
+  on_row = take 8 (listed (at vram) (at reg) (y + 24) 64 0)
 
-  abbrev pub xByte : ℕ → ℕ
-  xByte n = at vram (table_at (at reg) + 128 + 2 * n)
+  abbrev pub x_byte : ℕ → ℕ
+  x_byte n = at vram (table_at (at reg) + 128 + 2 * n)
 
   -- scroll cuts no tile at the left edge, and every sprite of the row is uncut
   pub record NothingCut : Type 0 where
     pub tiles : at reg 8 % 8 ≡ 0
-    pub sprites : (n : ℕ) → OneOf onRow n → Uncut (early (at reg)) (xByte n)
+    pub sprites : (n : ℕ) → OneOf on_row n → Uncut (early (at reg)) (x_byte n)
 
   -- The rows are the same byte for byte, in any colours, and so are their layers and the ninth sprite. Two sprites that are right of the screen meet in
   -- area 0 alone, so where there are none status bit 5 is the same too.
   pub record SameRow : Type 0 where
     pub bytes :
-        (colours : List ℕ) → rowBytes colours 160 (pictureOf TrueEdges reg scroll vram y) ≡ rowBytes colours 160 (pictureOf VisibleOnly reg scroll vram y)
-    pub layer : (x : ℕ) → layersOf TrueEdges reg scroll vram y x ≡ layersOf VisibleOnly reg scroll vram y x
-    pub ninth : (pictureOf TrueEdges reg scroll vram y).ninth ≡ (pictureOf VisibleOnly reg scroll vram y).ninth
+        (colours : List ℕ) → row_bytes colours 160 (picture_of TrueEdges reg scroll vram y) ≡ row_bytes colours 160 (picture_of VisibleOnly reg scroll vram y)
+    pub layer : (x : ℕ) → layers_of TrueEdges reg scroll vram y x ≡ layers_of VisibleOnly reg scroll vram y x
+    pub ninth : (picture_of TrueEdges reg scroll vram y).ninth ≡ (picture_of VisibleOnly reg scroll vram y).ninth
     pub hit :
-        ((n : ℕ) → OneOf onRow n → xByte n ≤ 208 + early (at reg)) →
-        (pictureOf TrueEdges reg scroll vram y).hit ≡ (pictureOf VisibleOnly reg scroll vram y).hit
+        ((n : ℕ) → OneOf on_row n → x_byte n ≤ 208 + early (at reg)) →
+        (picture_of TrueEdges reg scroll vram y).hit ≡ (picture_of VisibleOnly reg scroll vram y).hit
 
 -- ---- R18.4
 -- Row 0 of a map whose tile at column 5 is solid and has priority, all others clear, with solid sprites at these X bytes; register 0 and register 8.
@@ -65,34 +65,34 @@ seen p x (suc n) = p.colour x ∷ seen p (suc x) n
 
 -- Scroll 5 shows five columns of the tile, and a sprite stands at column 0, X 48: area 0 tests priority three columns off, so that only two of the five
 -- hold it back; area 2 all five.
-pub scrolledEdge : RenderArea → List ℕ
-scrolledEdge a = seen (row_by a 0 5 (48 ∷ [])) 0 10
+pub scrolled_edge : RenderArea → List ℕ
+scrolled_edge a = seen (row_by a 0 5 (48 ∷ [])) 0 10
 
 -- The left edge cuts three columns of a sprite at X 45; another at X 50 covers columns 2 to 9. In area 0 they do not meet; in area 2 they meet in
 -- columns 2 to 4, which status bit 5 tells.
-pub metAtEdge : RenderArea → Bool
-metAtEdge a = (row_by a 0 0 (45 ∷ 50 ∷ [])).hit
+pub met_at_edge : RenderArea → Bool
+met_at_edge a = (row_by a 0 0 (45 ∷ 50 ∷ [])).hit
 
 -- With the early clock, X 208 to 215: how many columns show the sprite, of the last ten.
 abbrev sprites : List ℕ → ℕ
 sprites [] = 0
 sprites (c ∷ cs) = cond (eqb c 31) 1 0 + sprites cs
 
-abbrev lastTen : RenderArea → ℕ → ℕ
-lastTen a h = sprites (seen (row_by a 8 0 (h ∷ [])) 150 10)
+abbrev last_ten : RenderArea → ℕ → ℕ
+last_ten a h = sprites (seen (row_by a 8 0 (h ∷ [])) 150 10)
 
-pub rightEdge : RenderArea → List ℕ
-rightEdge a =
-    lastTen a 208 ∷ lastTen a 209 ∷ lastTen a 210 ∷ lastTen a 211 ∷ lastTen a 212 ∷ lastTen a 213 ∷ lastTen a 214 ∷ lastTen a 215 ∷ lastTen a 216 ∷ []
+pub right_edge : RenderArea → List ℕ
+right_edge a =
+    last_ten a 208 ∷ last_ten a 209 ∷ last_ten a 210 ∷ last_ten a 211 ∷ last_ten a 212 ∷ last_ten a 213 ∷ last_ten a 214 ∷ last_ten a 215 ∷ last_ten a 216 ∷ []
 
-pub edges-computed :
-    (scrolledEdge VisibleOnly ≡ 15 ∷ 15 ∷ 31 ∷ 31 ∷ 31 ∷ 31 ∷ 31 ∷ 31 ∷ 0 ∷ 0 ∷ [])
-    × (scrolledEdge TrueEdges ≡ 15 ∷ 15 ∷ 15 ∷ 15 ∷ 15 ∷ 31 ∷ 31 ∷ 31 ∷ 0 ∷ 0 ∷ [])
-    × (metAtEdge VisibleOnly ≡ false)
-    × (metAtEdge TrueEdges ≡ true)
-    × (rightEdge VisibleOnly ≡ 0 ∷ 0 ∷ 0 ∷ 0 ∷ 0 ∷ 0 ∷ 0 ∷ 0 ∷ 0 ∷ [])
-    × (rightEdge TrueEdges ≡ 8 ∷ 7 ∷ 6 ∷ 5 ∷ 4 ∷ 3 ∷ 2 ∷ 1 ∷ 0 ∷ [])
-unfolding scrolledEdge metAtEdge rightEdge picture visible trueEdges visibleStand visibleEnd visibleSeen edgeStand cutMark back front table_at top_of
-    onLine listed spriteLine solid heldBack marked struck drawn laid spriteCode withSprite withSprites bare code_of code_at entry_at tileLine entryCode
-    entryColour entryFront mapColour mapFront bit any
-edges-computed = (refl, refl, refl, refl, refl, refl)
+pub edges_computed :
+    (scrolled_edge VisibleOnly ≡ 15 ∷ 15 ∷ 31 ∷ 31 ∷ 31 ∷ 31 ∷ 31 ∷ 31 ∷ 0 ∷ 0 ∷ [])
+    × (scrolled_edge TrueEdges ≡ 15 ∷ 15 ∷ 15 ∷ 15 ∷ 15 ∷ 31 ∷ 31 ∷ 31 ∷ 0 ∷ 0 ∷ [])
+    × (met_at_edge VisibleOnly ≡ false)
+    × (met_at_edge TrueEdges ≡ true)
+    × (right_edge VisibleOnly ≡ 0 ∷ 0 ∷ 0 ∷ 0 ∷ 0 ∷ 0 ∷ 0 ∷ 0 ∷ 0 ∷ [])
+    × (right_edge TrueEdges ≡ 8 ∷ 7 ∷ 6 ∷ 5 ∷ 4 ∷ 3 ∷ 2 ∷ 1 ∷ 0 ∷ [])
+unfolding scrolled_edge met_at_edge right_edge picture visible true_edges visible_stand visible_end visible_seen edge_stand cut_mark back front table_at top_of
+    on_line listed sprite_line solid held_back marked struck drawn laid sprite_code with_sprite with_sprites bare code_of code_at entry_at tile_line entry_code
+    entry_colour entry_front map_colour map_front bit any
+edges_computed = (refl, refl, refl, refl, refl, refl)

@@ -1,22 +1,22 @@
 -- THE HANDHELD as a machine: its calls, and what each does to the device. What the demands say of any machine they say of this one.
 -- Assumes nothing.
 use Rattle.std.specs.Prelude.{◌≡◌, List, ℕ}
-use Rattle.colour.specs.Colour.{coloursOf}
+use Rattle.colour.specs.Colour.{colours_of}
 use Rattle.picture.specs.declared.RenderArea.{RenderArea}
-use Rattle.picture.specs.Area.{screenOf, columns}
+use Rattle.picture.specs.Area.{screen_of, columns}
 use Rattle.vdp.specs.declared.VdpState.{VdpState}
 use Rattle.refusal.specs.declared.Refusal.{Refusal}
 use Rattle.refusal.specs.declared.Refusal.TheVariants.{Accepted}
 use Rattle.vdp.specs.Device.{made}
 use Rattle.vdp.specs.Refusals.{size}
-use Rattle.vdp.specs.Ports.{portWrite, portRead}
+use Rattle.vdp.specs.Ports.{port_write, port_read}
 use Rattle.step.specs.declared.Stepped.{Stepped}
-use Rattle.step.specs.Step.{reading_of, row_lines, frameLines, stepWith, rowStep, frameStep}
-use Rattle.step.specs.Frame.{frameAfter}
-use Rattle.points.specs.Bytes.{alsoLayers}
-use Rattle.dump.specs.Sheet.{dumpRefusal}
-use Rattle.pixel.specs.Pixel.{pixelOf}
-use Rattle.tile_codes.specs.Calls.{readTileRefusal, writeTileRefusal}
+use Rattle.step.specs.Step.{reading_of, row_lines, frame_lines, step_with, row_step_of, frame_step_of}
+use Rattle.step.specs.Frame.{frame_after}
+use Rattle.points.specs.Bytes.{also_layers}
+use Rattle.dump.specs.Sheet.{dump_refusal}
+use Rattle.pixel.specs.Pixel.{pixel_of}
+use Rattle.tile_codes.specs.Calls.{read_tile_refusal, write_tile_refusal}
 use Rattle.passes.specs.Machine.{Told, Machine}
 
 -- A call, with the video memory lent to it; `size` is the length of the pixel buffer lent to it (of a tile read, of the buffer for the codes), and
@@ -32,45 +32,45 @@ pub data Call : Type 0 where
   input : (port : ℕ) (vram : List ℕ) → Call
   frame_step : (area : RenderArea) (vram : List ℕ) (size : ℕ) → Call
   row_step : (area : RenderArea) (vram : List ℕ) (size : ℕ) → Call
-  layer-frame-step : (area : RenderArea) (vram : List ℕ) (size layers : ℕ) → Call
-  layer-row-step : (area : RenderArea) (vram : List ℕ) (size layers : ℕ) → Call
-  dump-tileset : (vram : List ℕ) (size : ℕ) → Call
-  pixel-at : (area : RenderArea) (vram : List ℕ) (row column : ℕ) → Call
-  write-tile : (vram : List ℕ) (tile : ℕ) (codes : List ℕ) → Call
-  read-tile : (vram : List ℕ) (tile size : ℕ) → Call
+  layer_frame_step_lem : (area : RenderArea) (vram : List ℕ) (size layers : ℕ) → Call
+  layer_row_step_lem : (area : RenderArea) (vram : List ℕ) (size layers : ℕ) → Call
+  dump_tileset : (vram : List ℕ) (size : ℕ) → Call
+  pixel_at : (area : RenderArea) (vram : List ℕ) (row column : ℕ) → Call
+  write_tile : (vram : List ℕ) (tile : ℕ) (codes : List ℕ) → Call
+  read_tile : (vram : List ℕ) (tile size : ℕ) → Call
 
 -- R15.3, R15.4: the two steps with a layer buffer of so many bytes
-abbrev pub layerFrameStep : RenderArea → List ℕ → (size layers : ℕ) → VdpState → Stepped
-layerFrameStep a vram size layers d = stepWith (alsoLayers (columns a) layers (frameLines a vram size)) a vram d
+abbrev pub layer_frame_step : RenderArea → List ℕ → (size layers : ℕ) → VdpState → Stepped
+layer_frame_step a vram size layers d = step_with (also_layers (columns a) layers (frame_lines a vram size)) a vram d
 
-abbrev pub layerRowStep : RenderArea → List ℕ → (size layers : ℕ) → VdpState → Stepped
-layerRowStep a vram size layers d = stepWith (alsoLayers (columns a) layers (row_lines a vram size)) a vram d
+abbrev pub layer_row_step : RenderArea → List ℕ → (size layers : ℕ) → VdpState → Stepped
+layer_row_step a vram size layers d = step_with (also_layers (columns a) layers (row_lines a vram size)) a vram d
 
 -- the device that a call leaves, refused or not; what only reads it, or takes none, leaves it as it is
 unfoldable pub after : Call → VdpState → VdpState
-after (out port value vram) d = (portWrite d vram port value).answer.vdp
-after (input port vram) d = (portRead d vram port).vdp
-after (frame_step a vram size) d = (frameStep a vram size d).vdp
-after (row_step a vram size) d = (rowStep a vram size d).vdp
-after (layer-frame-step a vram size layers) d = (layerFrameStep a vram size layers d).vdp
-after (layer-row-step a vram size layers) d = (layerRowStep a vram size layers d).vdp
-after (dump-tileset vram size) d = d
-after (pixel-at a vram row column) d = d
-after (write-tile vram tile codes) d = d
-after (read-tile vram tile size) d = d
+after (out port value vram) d = (port_write d vram port value).answer.vdp
+after (input port vram) d = (port_read d vram port).vdp
+after (frame_step a vram size) d = (frame_step_of a vram size d).vdp
+after (row_step a vram size) d = (row_step_of a vram size d).vdp
+after (layer_frame_step_lem a vram size layers) d = (layer_frame_step a vram size layers d).vdp
+after (layer_row_step_lem a vram size layers) d = (layer_row_step a vram size layers d).vdp
+after (dump_tileset vram size) d = d
+after (pixel_at a vram row column) d = d
+after (write_tile vram tile codes) d = d
+after (read_tile vram tile size) d = d
 
 -- the refusal that it gives, 0 among them
-unfoldable pub refusalOf : Call → VdpState → Refusal
-refusalOf (out port value vram) d = (portWrite d vram port value).answer.refusal
-refusalOf (input port vram) d = (portRead d vram port).refusal
-refusalOf (frame_step a vram size) d = (frameStep a vram size d).refusal
-refusalOf (row_step a vram size) d = (rowStep a vram size d).refusal
-refusalOf (layer-frame-step a vram size layers) d = (layerFrameStep a vram size layers d).refusal
-refusalOf (layer-row-step a vram size layers) d = (layerRowStep a vram size layers d).refusal
-refusalOf (dump-tileset vram size) d = dumpRefusal vram size
-refusalOf (pixel-at a vram row column) d = (pixelOf (screenOf a) vram (reading_of d) row column).refusal
-refusalOf (write-tile vram tile codes) d = writeTileRefusal vram tile codes
-refusalOf (read-tile vram tile size) d = readTileRefusal vram tile size
+unfoldable pub refusal_of : Call → VdpState → Refusal
+refusal_of (out port value vram) d = (port_write d vram port value).answer.refusal
+refusal_of (input port vram) d = (port_read d vram port).refusal
+refusal_of (frame_step a vram size) d = (frame_step_of a vram size d).refusal
+refusal_of (row_step a vram size) d = (row_step_of a vram size d).refusal
+refusal_of (layer_frame_step_lem a vram size layers) d = (layer_frame_step a vram size layers d).refusal
+refusal_of (layer_row_step_lem a vram size layers) d = (layer_row_step a vram size layers d).refusal
+refusal_of (dump_tileset vram size) d = dump_refusal vram size
+refusal_of (pixel_at a vram row column) d = (pixel_of (screen_of a) vram (reading_of d) row column).refusal
+refusal_of (write_tile vram tile codes) d = write_tile_refusal vram tile codes
+refusal_of (read_tile vram tile size) d = read_tile_refusal vram tile size
 
 -- what a step answers, and the device that it leaves
 abbrev pub told : Stepped → Told VdpState
@@ -80,14 +80,14 @@ told s = record { refusal = s.refusal; interrupt = s.interrupt; report = s.repor
 abbrev pub Steps : Call → VdpState → Told VdpState → Type 0
 Steps (out port value vram) d s = ⊥
 Steps (input port vram) d s = ⊥
-Steps (frame_step a vram size) d s = (s ≡ told (frameStep a vram size d)) × (s.refusal ≡ Accepted)
-Steps (row_step a vram size) d s = (s ≡ told (rowStep a vram size d)) × (s.refusal ≡ Accepted)
-Steps (layer-frame-step a vram size layers) d s = (s ≡ told (layerFrameStep a vram size layers d)) × (s.refusal ≡ Accepted)
-Steps (layer-row-step a vram size layers) d s = (s ≡ told (layerRowStep a vram size layers d)) × (s.refusal ≡ Accepted)
-Steps (dump-tileset vram size) d s = ⊥
-Steps (pixel-at a vram row column) d s = ⊥
-Steps (write-tile vram tile codes) d s = ⊥
-Steps (read-tile vram tile size) d s = ⊥
+Steps (frame_step a vram size) d s = (s ≡ told (frame_step_of a vram size d)) × (s.refusal ≡ Accepted)
+Steps (row_step a vram size) d s = (s ≡ told (row_step_of a vram size d)) × (s.refusal ≡ Accepted)
+Steps (layer_frame_step_lem a vram size layers) d s = (s ≡ told (layer_frame_step a vram size layers d)) × (s.refusal ≡ Accepted)
+Steps (layer_row_step_lem a vram size layers) d s = (s ≡ told (layer_row_step a vram size layers d)) × (s.refusal ≡ Accepted)
+Steps (dump_tileset vram size) d s = ⊥
+Steps (pixel_at a vram row column) d s = ⊥
+Steps (write_tile vram tile codes) d s = ⊥
+Steps (read_tile vram tile size) d s = ⊥
 
 abbrev pub handheld : Machine
 handheld =
@@ -95,7 +95,7 @@ handheld =
       Device = VdpState;
       Area = RenderArea;
       Call = Call;
-      screen = screenOf;
+      screen = screen_of;
       registers = λ d. d.reg;
       raster = λ d. d.raster;
       palette = λ d. d.cram;
@@ -103,12 +103,12 @@ handheld =
       cache = λ d. d.color_cache;
       addr = λ d. d.addr;
       room = λ d. size d.dest;
-      coloursOf = coloursOf;
+      colours_of = colours_of;
       made = made;
       after = after;
-      refusalOf = refusalOf;
+      refusal_of = refusal_of;
       Steps = Steps;
       frame_step = frame_step;
-      frameStep = λ a vram size d. told (frameStep a vram size d);
-      frameAfter = frameAfter;
+      frame_step_of = λ a vram size d. told (frame_step_of a vram size d);
+      frame_after = frame_after;
     }

@@ -1,19 +1,19 @@
 -- R20.10, THE HOME MACHINE as a machine: its calls, and what each does to the device. What the demands say of any machine they say of this one.
 -- Assumes nothing.
 use Rattle.std.specs.Prelude.{◌≡◌, ◌≢◌, List, ℕ}
-use Rattle.colour.specs.Home.{homeColoursOf}
+use Rattle.colour.specs.Home.{home_colours_of}
 use Rattle.picture.specs.declared.Screen.TheVariants.{Home}
 use Rattle.refusal.specs.declared.Refusal.{Refusal}
 use Rattle.refusal.specs.declared.Refusal.TheVariants.{Accepted}
-use Rattle.refusal.specs.Refusals.{refusalNumber}
+use Rattle.refusal.specs.Refusals.{refusal_number}
 use Rattle.front.specs.Lines.{size_of}
-use Rattle.dump.specs.Sheet.{dumpRefusal}
+use Rattle.dump.specs.Sheet.{dump_refusal}
 use Rattle.home.specs.declared.HomeState.{HomeState}
 use Rattle.home.specs.declared.HomeStepped.{HomeStepped}
-use Rattle.home.specs.Home.{paletteSize, made}
-use Rattle.home.specs.Ports.{portWrite, portRead}
-use Rattle.home.specs.Step.{rowStep, frameStep, frameAfter}
-use Rattle.tile_codes.specs.Calls.{readTileRefusal, writeTileRefusal}
+use Rattle.home.specs.Home.{palette_size, made}
+use Rattle.home.specs.Ports.{port_write, port_read}
+use Rattle.home.specs.Step.{row_step_of, frame_step_of, frame_after}
+use Rattle.tile_codes.specs.Calls.{read_tile_refusal, write_tile_refusal}
 use Rattle.passes.specs.Machine.{Told, Machine}
 
 -- R20.8: a call, said as the handheld's are (Handheld.antt), in the one area that there is: it tells no layers, and is asked for no single pixel. The other
@@ -26,29 +26,29 @@ pub data Call : Type 0 where
   input : (port : ℕ) (vram : List ℕ) → Call
   frame_step : (vram : List ℕ) (size : ℕ) → Call
   row_step : (vram : List ℕ) (size : ℕ) → Call
-  dump-tileset : (vram : List ℕ) (size : ℕ) → Call
-  write-tile : (vram : List ℕ) (tile : ℕ) (codes : List ℕ) → Call
-  read-tile : (vram : List ℕ) (tile size : ℕ) → Call
+  dump_tileset : (vram : List ℕ) (size : ℕ) → Call
+  write_tile : (vram : List ℕ) (tile : ℕ) (codes : List ℕ) → Call
+  read_tile : (vram : List ℕ) (tile size : ℕ) → Call
 
 -- the device that a call leaves, refused or not; what only reads it, or takes none, leaves it as it is
 unfoldable pub after : Call → HomeState → HomeState
-after (out port value vram) h = (portWrite h vram port value).answer.home
-after (input port vram) h = (portRead h vram port).home
-after (frame_step vram size) h = (frameStep vram size h).home
-after (row_step vram size) h = (rowStep vram size h).home
-after (dump-tileset vram size) h = h
-after (write-tile vram tile codes) h = h
-after (read-tile vram tile size) h = h
+after (out port value vram) h = (port_write h vram port value).answer.home
+after (input port vram) h = (port_read h vram port).home
+after (frame_step vram size) h = (frame_step_of vram size h).home
+after (row_step vram size) h = (row_step_of vram size h).home
+after (dump_tileset vram size) h = h
+after (write_tile vram tile codes) h = h
+after (read_tile vram tile size) h = h
 
 -- the refusal that it gives, 0 among them
-unfoldable pub refusalOf : Call → HomeState → Refusal
-refusalOf (out port value vram) h = (portWrite h vram port value).answer.refusal
-refusalOf (input port vram) h = (portRead h vram port).refusal
-refusalOf (frame_step vram size) h = (frameStep vram size h).refusal
-refusalOf (row_step vram size) h = (rowStep vram size h).refusal
-refusalOf (dump-tileset vram size) h = dumpRefusal vram size
-refusalOf (write-tile vram tile codes) h = writeTileRefusal vram tile codes
-refusalOf (read-tile vram tile size) h = readTileRefusal vram tile size
+unfoldable pub refusal_of : Call → HomeState → Refusal
+refusal_of (out port value vram) h = (port_write h vram port value).answer.refusal
+refusal_of (input port vram) h = (port_read h vram port).refusal
+refusal_of (frame_step vram size) h = (frame_step_of vram size h).refusal
+refusal_of (row_step vram size) h = (row_step_of vram size h).refusal
+refusal_of (dump_tileset vram size) h = dump_refusal vram size
+refusal_of (write_tile vram tile codes) h = write_tile_refusal vram tile codes
+refusal_of (read_tile vram tile size) h = read_tile_refusal vram tile size
 
 -- what a step answers, and the device that it leaves
 abbrev pub told : HomeStepped → Told HomeState
@@ -58,11 +58,11 @@ told s = record { refusal = s.refusal; interrupt = s.interrupt; report = s.repor
 abbrev pub Steps : Call → HomeState → Told HomeState → Type 0
 Steps (out port value vram) h s = ⊥
 Steps (input port vram) h s = ⊥
-Steps (frame_step vram size) h s = (s ≡ told (frameStep vram size h)) × (s.refusal ≡ Accepted)
-Steps (row_step vram size) h s = (s ≡ told (rowStep vram size h)) × (s.refusal ≡ Accepted)
-Steps (dump-tileset vram size) h s = ⊥
-Steps (write-tile vram tile codes) h s = ⊥
-Steps (read-tile vram tile size) h s = ⊥
+Steps (frame_step vram size) h s = (s ≡ told (frame_step_of vram size h)) × (s.refusal ≡ Accepted)
+Steps (row_step vram size) h s = (s ≡ told (row_step_of vram size h)) × (s.refusal ≡ Accepted)
+Steps (dump_tileset vram size) h s = ⊥
+Steps (write_tile vram tile codes) h s = ⊥
+Steps (read_tile vram tile size) h s = ⊥
 
 abbrev pub home : Machine
 home =
@@ -77,17 +77,17 @@ home =
       dirty = λ h. h.cram_dirty;
       cache = λ h. h.color_cache;
       addr = λ h. h.front.addr;
-      room = λ h. size_of paletteSize h.front.dest;
-      coloursOf = homeColoursOf;
+      room = λ h. size_of palette_size h.front.dest;
+      colours_of = home_colours_of;
       made = made;
       after = after;
-      refusalOf = refusalOf;
+      refusal_of = refusal_of;
       Steps = Steps;
       frame_step = λ _. frame_step;
-      frameStep = λ _ vram size h. told (frameStep vram size h);
-      frameAfter = λ _. frameAfter;
+      frame_step_of = λ _ vram size h. told (frame_step_of vram size h);
+      frame_after = λ _. frame_after;
     }
 
 -- R20.3: no call of any record, whatever it holds, is refused by 6
 abbrev pub NeverSix : Type 0
-NeverSix = (c : Call) (h : HomeState) → refusalNumber (refusalOf c h) ≢ 6
+NeverSix = (c : Call) (h : HomeState) → refusal_number (refusal_of c h) ≢ 6

@@ -10,8 +10,8 @@ use borrow.Fn.Kind.{ParamKind, ResultKind}
 use borrow.Fn.Kinds.{In, Out, Dens, res_t, ended_of}
 use Rattle.laws.specs.Lists.{at}
 use Rattle.laws.specs.Paint.{painted}
-use Rattle.bitmap.specs.Mask.{bytesOf}
-use Rattle.picture.specs.Layers.{layersIn}
+use Rattle.bitmap.specs.Mask.{bytes_of}
+use Rattle.picture.specs.Layers.{layers_in}
 
 module _ (n : ℕ) (ps : List (ParamKind n)) (r : ResultKind n) where
   -- For any arguments a that meet `asked`: two answers z, z', each with what the lent buffers hold at exit, w, w', of which a caller learns what the
@@ -46,6 +46,6 @@ pub record PaintedRow (row layers colours : List ℕ) (width : ℕ) (prio : List
   pub layers₀ : List ℕ
   pub colour : ℕ → ℕ
   pub mask : ℕ → Bool
-  pub is-mask : prio ≡ bytesOf mask
-  pub is-painted : row ≡ painted row₀ 0 width (λ x. at colours (colour x))
-  pub is-clear : layers ≡ layersIn layers₀ width (λ x. 0)
+  pub is_mask : prio ≡ bytes_of mask
+  pub is_painted : row ≡ painted row₀ 0 width (λ x. at colours (colour x))
+  pub is_clear : layers ≡ layers_in layers₀ width (λ x. 0)

@@ -1,33 +1,33 @@
 -- R8.1, R9.2, the marked examples P1 to P13: one table, a line for each, computed from the definitions.
 -- Assumes nothing.
 use Rattle.std.specs.Prelude.{◌≡◌, refl, false, cond, List, [], ◌∷◌, ℕ, zero, suc, ◌-◌, eqb, length, replicate}
-use Rattle.laws.specs.Sizes.{vramSize}
+use Rattle.laws.specs.Sizes.{vram_size}
 use Rattle.laws.specs.Bits.{bit, any}
 use Rattle.laws.specs.Lists.{at}
-use Rattle.laws.specs.Table.{tableFrom, table as table_of}
-use Rattle.colour.specs.Colour.{colour, coloursOf}
+use Rattle.laws.specs.Table.{table_from, table as table_of}
+use Rattle.colour.specs.Colour.{colour, colours_of}
 use Rattle.picture.specs.declared.RenderArea.TheVariants.{VisibleOnly}
-use Rattle.picture.specs.View.{visibleEnd, visibleSeen, visibleStand}
-use Rattle.picture.specs.Picture.{bare, solid, heldBack, marked, struck, drawn, laid}
+use Rattle.picture.specs.View.{visible_end, visible_seen, visible_stand}
+use Rattle.picture.specs.Picture.{bare, solid, held_back, marked, struck, drawn, laid}
 use Rattle.picture.specs.Examples.{spot, places}
 use Rattle.raster.specs.declared.LineTable.{LineTable}
 use Rattle.raster.specs.declared.LineTable.TheVariants.{Steps261, Steps262}
-use Rattle.raster.specs.Raster.{passLength, jumps, starts, advanced, lineInterrupt, counted}
+use Rattle.raster.specs.Raster.{pass_length, jumps, starts, advanced, line_interrupt, counted}
 use Rattle.vdp.specs.declared.VdpState.{VdpState}
 use Rattle.vdp.specs.Device.{made, fresh}
-use Rattle.refusal.specs.Refusals.{refusalNumber}
-use Rattle.front.specs.Ports.{frontWrite, frontRead}
-use Rattle.vdp.specs.Ports.{portWrite, portRead}
-use Rattle.vdp.specs.Calls.{Call, write, read, Answer, w, r, after, answer, afterAll, answers, start}
-use Rattle.points.specs.Points.{rowOn, bits_of, endedBy, reportBy, interruptBy, points_of, interruptNumber}
-use Rattle.step.specs.Step.{line_of, stepped, stepWith, frameStep}
-use Rattle.passes.specs.Split.{fourBytes}
+use Rattle.refusal.specs.Refusals.{refusal_number}
+use Rattle.front.specs.Ports.{front_write, front_read}
+use Rattle.vdp.specs.Ports.{port_write, port_read}
+use Rattle.vdp.specs.Calls.{Call, write, read, Answer, w, r, after, answer, after_all, answers, start}
+use Rattle.points.specs.Points.{row_on, bits_of, ended_by, report_by, interrupt_by, points_of, interrupt_number}
+use Rattle.step.specs.Step.{line_of, stepped, step_with, frame_step_of}
+use Rattle.passes.specs.Split.{four_bytes}
 
 -- ---- port calls on a fresh device with zeroed memory: the bytes that they read, and the numbers of their refusals
-abbrev bytesRead : List Answer → List ℕ
-bytesRead [] = []
-bytesRead (w n ∷ l) = bytesRead l
-bytesRead (r n b ∷ l) = b ∷ bytesRead l
+abbrev bytes_read : List Answer → List ℕ
+bytes_read [] = []
+bytes_read (w n ∷ l) = bytes_read l
+bytes_read (r n b ∷ l) = b ∷ bytes_read l
 
 abbrev refusals : List Answer → List ℕ
 refusals [] = []
@@ -36,50 +36,50 @@ refusals (r n b ∷ l) = n ∷ refusals l
 
 -- the four bytes of the palette's colour i after them
 abbrev shown : ℕ → List Call → List ℕ
-shown i cs = fourBytes (at (coloursOf (afterAll start cs).device.cram) i)
+shown i cs = four_bytes (at (colours_of (after_all start cs).device.cram) i)
 
 -- ---- accepted visible-area steps
 abbrev pub zeroed : List ℕ
-zeroed = replicate vramSize 0
+zeroed = replicate vram_size 0
 
 -- the device after n of them, the line that it then has, and the lines at which the next n report an interrupt
-unfoldable pub stepsOn : ℕ → VdpState → VdpState
-stepsOn zero d = d
-stepsOn (suc n) d = stepsOn n (stepped VisibleOnly zeroed d).vdp
+unfoldable pub steps_on : ℕ → VdpState → VdpState
+steps_on zero d = d
+steps_on (suc n) d = steps_on n (stepped VisibleOnly zeroed d).vdp
 
-abbrev lineAfter : LineTable → ℕ → ℕ
-lineAfter t n = line_of (stepsOn n (made t))
+abbrev line_after : LineTable → ℕ → ℕ
+line_after t n = line_of (steps_on n (made t))
 
-unfoldable pub interruptLines : ℕ → VdpState → List ℕ
-interruptLines zero d = []
-interruptLines (suc n) d =
+unfoldable pub interrupt_lines : ℕ → VdpState → List ℕ
+interrupt_lines zero d = []
+interrupt_lines (suc n) d =
     let s = stepped VisibleOnly zeroed d in
-    let rest = interruptLines n s.vdp in
-    cond (eqb (interruptNumber s.interrupt) 1) (line_of s.vdp ∷ rest) rest
+    let rest = interrupt_lines n s.vdp in
+    cond (eqb (interrupt_number s.interrupt) 1) (line_of s.vdp ∷ rest) rest
 
 -- a fresh device with register 0 at 10 (hex) and register 10 at N; and after all steps of its first pass but the last, which sets line 0
 abbrev pub every : LineTable → ℕ → VdpState
 every t n =
-    (afterAll (record { device = made t; vram = zeroed }) (write 0xBF 0x10 ∷ write 0xBF 0x80 ∷ write 0xBF n ∷ write 0xBF 0x8A ∷ [])).device
+    (after_all (record { device = made t; vram = zeroed }) (write 0xBF 0x10 ∷ write 0xBF 0x80 ∷ write 0xBF n ∷ write 0xBF 0x8A ∷ [])).device
 
-abbrev pub beforeLine0 : LineTable → ℕ → VdpState
-beforeLine0 t n = stepsOn (passLength t - 1) (every t n)
+abbrev pub before_line0 : LineTable → ℕ → VdpState
+before_line0 t n = steps_on (pass_length t - 1) (every t n)
 
 -- the refusal of a step on a frame of n bytes
-abbrev refusedOn : ℕ → ℕ
-refusedOn n = refusalNumber (frameStep VisibleOnly zeroed n fresh).refusal
+abbrev refused_on : ℕ → ℕ
+refused_on n = refusal_number (frame_step_of VisibleOnly zeroed n fresh).refusal
 
 -- ---- a sprite of eight solid pixels with X byte h, alone on its row: how many places it marks
 abbrev marks : ℕ → ℕ
-marks h = length (places (laid (visibleStand 0 h) (λ p. 1) (λ i. false) (bare (λ x. 0))).mask)
+marks h = length (places (laid (visible_stand 0 h) (λ p. 1) (λ i. false) (bare (λ x. 0))).mask)
 
 pub examples : List (List ℕ)
 examples =
     -- P1 a step, then 7E reads
-    ((portRead (stepsOn 1 fresh) zeroed 0x7E).byte ∷ [])
+    ((port_read (steps_on 1 fresh) zeroed 0x7E).byte ∷ [])
     -- P2, P3 reads
-    ∷ bytesRead (answers start (write 0xBF 0x00 ∷ write 0xBF 0x00 ∷ write 0xBE 0x42 ∷ read 0xBE ∷ read 0xBE ∷ []))
-    ∷ bytesRead
+    ∷ bytes_read (answers start (write 0xBF 0x00 ∷ write 0xBF 0x00 ∷ write 0xBE 0x42 ∷ read 0xBE ∷ read 0xBE ∷ []))
+    ∷ bytes_read
     (answers start
     (write 0xBF 0xFE ∷ write 0xBF 0x7F ∷ write 0xBE 0xA1 ∷ write 0xBE 0xB2 ∷ write 0xBF 0xFE ∷ write 0xBF 0x3F ∷ read 0xBE ∷ read 0xBE ∷ []))
     -- P4 palette colour 3
@@ -88,18 +88,18 @@ examples =
     ∷ refusals (answers start (write 0xBF 0x01 ∷ write 0xBF 0xC0 ∷ write 0xBE 0x77 ∷ []))
     ∷ refusals (answers start (write 0xBF 0x00 ∷ write 0xBF 0x8A ∷ write 0xBF 0x00 ∷ write 0xBF 0x8B ∷ []))
     -- P7 the counter after so many steps, by table 0 and by table 1
-    ∷ (lineAfter Steps261 217 ∷ lineAfter Steps261 218 ∷ lineAfter Steps261 260 ∷ lineAfter Steps261 261 ∷ [])
-    ∷ (lineAfter Steps262 218 ∷ lineAfter Steps262 219 ∷ lineAfter Steps262 261 ∷ lineAfter Steps262 262 ∷ [])
+    ∷ (line_after Steps261 217 ∷ line_after Steps261 218 ∷ line_after Steps261 260 ∷ line_after Steps261 261 ∷ [])
+    ∷ (line_after Steps262 218 ∷ line_after Steps262 219 ∷ line_after Steps262 261 ∷ line_after Steps262 262 ∷ [])
     -- P8 X 45, P9 X 203, P10 early clock X 49: x, start, end
-    ∷ spot (visibleStand 0 45)
-    ∷ spot (visibleStand 0 203)
-    ∷ spot (visibleStand 8 49)
+    ∷ spot (visible_stand 0 45)
+    ∷ spot (visible_stand 0 203)
+    ∷ spot (visible_stand 8 49)
     -- P11 unseen X 208, then 209
     ∷ (marks 208 ∷ marks 209 ∷ [])
     -- P12 line interrupts on, N = 3: the first of the next 12 steps, lines 0 to 11
-    ∷ interruptLines 12 (beforeLine0 Steps262 3)
+    ∷ interrupt_lines 12 (before_line0 Steps262 3)
     -- P13 frame 92,159, then 92,160
-    ∷ (refusedOn 92159 ∷ refusedOn 92160 ∷ [])
+    ∷ (refused_on 92159 ∷ refused_on 92160 ∷ [])
     ∷ []
 
 pub table :
@@ -119,7 +119,7 @@ pub table :
     ∷ (2 ∷ 6 ∷ 10 ∷ [])
     ∷ (9 ∷ 0 ∷ [])
     ∷ []
-unfolding examples stepsOn interruptLines portWrite portRead frontWrite frontRead after answer answers afterAll start colour coloursOf tableFrom
-    table_of jumps starts advanced lineInterrupt counted bit rowOn bits_of endedBy reportBy interruptBy points_of stepped stepWith visibleEnd visibleSeen
-    visibleStand solid heldBack marked struck drawn laid bare any
+unfolding examples steps_on interrupt_lines port_write port_read front_write front_read after answer answers after_all start colour colours_of table_from
+    table_of jumps starts advanced line_interrupt counted bit row_on bits_of ended_by report_by interrupt_by points_of stepped step_with visible_end visible_seen
+    visible_stand solid held_back marked struck drawn laid bare any
 table = refl

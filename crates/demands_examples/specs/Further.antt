@@ -3,33 +3,33 @@
 use Rattle.std.specs.Prelude.{◌≡◌, refl, Bool, true, false, List, [], ◌∷◌, ◌++◌, ℕ, zero, suc, ◌+◌, ◌-◌, eqb, length}
 use Rattle.laws.specs.Bits.{bit}
 use Rattle.laws.specs.Lists.{at}
-use Rattle.laws.specs.Table.{tableFrom, table}
-use Rattle.colour.specs.Colour.{colour, coloursOf}
+use Rattle.laws.specs.Table.{table_from, table}
+use Rattle.colour.specs.Colour.{colour, colours_of}
 use Rattle.picture.specs.declared.RenderArea.{RenderArea}
 use Rattle.picture.specs.declared.RenderArea.TheVariants.{VisibleOnly, EffectiveArea}
-use Rattle.picture.specs.Area.{screenOf}
+use Rattle.picture.specs.Area.{screen_of}
 use Rattle.raster.specs.declared.LineTable.{LineTable}
 use Rattle.raster.specs.declared.LineTable.TheVariants.{Steps261, Steps262}
-use Rattle.raster.specs.Raster.{passLength, jumps, starts, advanced, lineInterrupt, counted}
+use Rattle.raster.specs.Raster.{pass_length, jumps, starts, advanced, line_interrupt, counted}
 use Rattle.vdp.specs.declared.VdpState.{VdpState}
 use Rattle.vdp.specs.Device.{made}
-use Rattle.front.specs.Ports.{frontWrite}
-use Rattle.vdp.specs.Ports.{portWrite}
-use Rattle.vdp.specs.Calls.{write, after, afterAll, start}
+use Rattle.front.specs.Ports.{front_write}
+use Rattle.vdp.specs.Ports.{port_write}
+use Rattle.vdp.specs.Calls.{write, after, after_all, start}
 use Rattle.points.specs.declared.DrawnRow.{DrawnRow}
 use Rattle.points.specs.declared.DrawnRow.TheVariants.{NoRow, Drawn}
-use Rattle.points.specs.Points.{rowOn, bits_of, endedBy, interruptBy, points_of}
+use Rattle.points.specs.Points.{row_on, bits_of, ended_by, interrupt_by, points_of}
 use Rattle.step.specs.Step.{stepped}
-use Rattle.passes.specs.Split.{firstNew}
-use Rattle.demands_examples.specs.Examples.{zeroed, stepsOn, interruptLines, every, beforeLine0}
+use Rattle.passes.specs.Split.{first_new}
+use Rattle.demands_examples.specs.Examples.{zeroed, steps_on, interrupt_lines, every, before_line0}
 
 -- ---- the lines that interrupt, with line interrupts on and register 10 at N before the first step of a fresh device
 -- those of its first pass, lines 1 to FF, and those of a pass from line 0
 abbrev first_lines : LineTable → ℕ → List ℕ
-first_lines t n = interruptLines (passLength t - 1) (every t n)
+first_lines t n = interrupt_lines (pass_length t - 1) (every t n)
 
-abbrev laterLines : LineTable → ℕ → List ℕ
-laterLines t n = interruptLines (passLength t) (beforeLine0 t n)
+abbrev later_lines : LineTable → ℕ → List ℕ
+later_lines t n = interrupt_lines (pass_length t) (before_line0 t n)
 
 -- ---- rows
 -- those that the next n steps draw, where the device that the step leaves passes the test
@@ -45,22 +45,22 @@ rows_by a test (suc n) d =
     listed s.row (test s.vdp) (rows_by a test n s.vdp)
 
 -- all rows of the first pass of a fresh device
-abbrev passRows : RenderArea → LineTable → List ℕ
-passRows a t = rows_by a (λ d. true) (passLength t) (made t)
+abbrev pass_rows : RenderArea → LineTable → List ℕ
+pass_rows a t = rows_by a (λ d. true) (pass_length t) (made t)
 
 -- those drawn in the new colour, of a first pass in which colour 3 becomes 5A, 3 once the counter reads L (below D5)
-abbrev isNew : VdpState → Bool
-isNew d = eqb (at d.color_cache 3) (colour 0x5A 3)
+abbrev is_new : VdpState → Bool
+is_new d = eqb (at d.color_cache 3) (colour 0x5A 3)
 
 abbrev recoloured : VdpState → VdpState
 recoloured d =
-    (afterAll (record { device = d; vram = zeroed }) (write 0xBF 0x06 ∷ write 0xBF 0xC0 ∷ write 0xBE 0x5A ∷ write 0xBE 3 ∷ [])).device
+    (after_all (record { device = d; vram = zeroed }) (write 0xBF 0x06 ∷ write 0xBF 0xC0 ∷ write 0xBE 0x5A ∷ write 0xBE 3 ∷ [])).device
 
-abbrev newRows : LineTable → ℕ → List ℕ
-newRows t l = rows_by VisibleOnly isNew l (made t) ++ rows_by VisibleOnly isNew (passLength t - l) (recoloured (stepsOn l (made t)))
+abbrev new_rows : LineTable → ℕ → List ℕ
+new_rows t l = rows_by VisibleOnly is_new l (made t) ++ rows_by VisibleOnly is_new (pass_length t - l) (recoloured (steps_on l (made t)))
 
 abbrev first : ℕ → ℕ
-first l = firstNew (screenOf VisibleOnly) l
+first l = first_new (screen_of VisibleOnly) l
 
 -- n numbers from k on
 abbrev from : ℕ → ℕ → List ℕ
@@ -70,22 +70,22 @@ pub further : LineTable → List (List ℕ)
 further t =
     -- N = 60, the first pass and a later one
     first_lines t 60
-    ∷ laterLines t 60
+    ∷ later_lines t 60
     -- N = 0: how many lines of each
-    ∷ (length (first_lines t 0) ∷ length (laterLines t 0) ∷ [])
+    ∷ (length (first_lines t 0) ∷ length (later_lines t 0) ∷ [])
     -- N = 194 and N = 195, a later pass
-    ∷ laterLines t 194
-    ∷ laterLines t 195
+    ∷ later_lines t 194
+    ∷ later_lines t 195
     -- the first new row, and the new rows, of a change at line 10, 90, 166, 167, 200
     ∷ (first 10 ∷ first 90 ∷ first 166 ∷ first 167 ∷ first 200 ∷ [])
-    ∷ newRows t 10
-    ∷ newRows t 90
-    ∷ newRows t 166
-    ∷ newRows t 167
-    ∷ newRows t 200
+    ∷ new_rows t 10
+    ∷ new_rows t 90
+    ∷ new_rows t 166
+    ∷ new_rows t 167
+    ∷ new_rows t 200
     -- the rows of a pass, visible and effective: the lines go 1 to D9 or DA, D5 to FF, 0
-    ∷ passRows VisibleOnly t
-    ∷ passRows EffectiveArea t
+    ∷ pass_rows VisibleOnly t
+    ∷ pass_rows EffectiveArea t
     ∷ []
 
 -- what they are: two differ from table to table, how many lines interrupt where all do, and the effective rows
@@ -107,6 +107,6 @@ found steps up =
     ∷ []
 
 pub computed : (further Steps261 ≡ found 261 217) × (further Steps262 ≡ found 262 218)
-unfolding further stepsOn interruptLines rows_by portWrite frontWrite after afterAll start colour coloursOf tableFrom table jumps starts advanced
-    lineInterrupt counted bit rowOn bits_of endedBy interruptBy points_of stepped
+unfolding further steps_on interrupt_lines rows_by port_write front_write after after_all start colour colours_of table_from table jumps starts advanced
+    line_interrupt counted bit row_on bits_of ended_by interrupt_by points_of stepped
 computed = (refl, refl)

@@ -9,88 +9,88 @@ use Rattle.picture.specs.declared.Screen.TheVariants.{Home}
 use Rattle.picture.specs.Screen.{columns}
 use Rattle.raster.specs.declared.LineTable.{LineTable}
 use Rattle.refusal.specs.declared.Refusal.TheVariants.{Accepted}
-use Rattle.refusal.specs.Refusals.{refusalNumber, Line}
-use Rattle.points.specs.Points.{frameLines}
-use Rattle.points.specs.Bytes.{frameFilled}
-use Rattle.points.proofs.Laws.{frame-refusing}
-use Rattle.points.proofs.Order.{under-also}
-use Rattle.word.specs.Word.{refusalIn}
+use Rattle.refusal.specs.Refusals.{refusal_number, Line}
+use Rattle.points.specs.Points.{frame_lines}
+use Rattle.points.specs.Bytes.{frame_filled}
+use Rattle.points.proofs.Laws.{frame_refusing}
+use Rattle.points.proofs.Order.{under_also}
+use Rattle.word.specs.Word.{refusal_in}
 use Rattle.home.specs.declared.HomeState.{HomeState}
 use Rattle.home.specs.declared.HomeStepped.{HomeStepped}
-use Rattle.home.specs.Step.{reading_of, refusedStep, stepped, stepWith, frameStep, frameAfter}
-use Rattle.home.proofs.Laws.{step-exact, frame-taken}
+use Rattle.home.specs.Step.{reading_of, refused_step, stepped, step_with, frame_step_of, frame_after}
+use Rattle.home.proofs.Laws.{step_exact, frame_taken}
 use Rattle.home_block.specs.HomeBlock.{block_of}
-use Rattle.face.specs.Home.{steppedTo, stepOn}
-use Rattle.face.specs.HomeLayers.{layerLines, layerOn}
+use Rattle.face.specs.Home.{stepped_to, step_on}
+use Rattle.face.specs.HomeLayers.{layer_lines, layer_on}
 use Rattle.demands.specs.Home.{home}
 use Rattle.passes.specs.Pass.{Demand3, pass}
 use Rattle.passes.specs.Chart.{InOrder}
 use Rattle.passes.specs.Split.{Split, ColourSplit, OnlyColour, Twins, Changed}
 use Rattle.passes.proofs.Chart.{in_order}
-use Rattle.demands.proofs.Home.{home-lawful, demand3-home, colour-split-home, changed-home}
-use Rattle.demands_face.specs.Face.{Way, plain, with-layers, FaceRun, Goes, watchedBy, Through}
-use Rattle.demands_face.specs.HomeCalls.{HomeCall, homeCalled, MadeHomeBlock, on-home-frame, home-face}
+use Rattle.demands.proofs.Home.{home_lawful, demand3_home, colour_split-home, changed_home}
+use Rattle.demands_face.specs.Face.{Way, plain, with_layers, FaceRun, Goes, watched_by, Through}
+use Rattle.demands_face.specs.HomeCalls.{HomeCall, home_called, MadeHomeBlock, on_home_frame, home_face}
 use Rattle.demands_face.specs.Seven.{FaceNeverSeven}
 use Rattle.demands_face.proofs.Lawful.{Steps, LawfulFace}
-use Rattle.demands_face.proofs.Watched.{through-face, both-through}
-use Rattle.demands_face.proofs.Words.{accepted-0, by-step, layers-fit}
-use Rattle.demands_face.proofs.Reached.{never-seven}
-use Rattle.demands_face.proofs.HomeStands.{accepts, HomeStands, made-stands, in_block, step_is, layer-is, step-stands, step-byte, calls, quietly, begun}
+use Rattle.demands_face.proofs.Watched.{through_face, both_through}
+use Rattle.demands_face.proofs.Words.{accepted_0, by_step, layers_fit}
+use Rattle.demands_face.proofs.Reached.{never_seven}
+use Rattle.demands_face.proofs.HomeStands.{accepts, HomeStands, made_stands, in_block, step_is, layer_is, step_stands, step_byte, calls, quietly, begun}
 use Rattle.demands_face.proofs.HomeAnswers.{answers}
 
 module _ (a : Unit {0}) (m x b : List ℕ) (h : HomeState) (s : HomeStands b h) where
   abbrev lines : List Line
-  lines = frameLines Home m (length x)
+  lines = frame_lines Home m (length x)
 
   abbrev step : HomeStepped
-  step = frameStep m (length x) h
+  step = frame_step_of m (length x) h
 
-  on_step : (w : Way) → homeCalled (on-home-frame w m x) b ≡ steppedTo step (frameAfter m h x) → step.refusal ≡ Accepted → Steps home-face HomeStands a
+  on_step : (w : Way) → home_called (on_home_frame w m x) b ≡ stepped_to step (frame_after m h x) → step.refusal ≡ Accepted → Steps home_face HomeStands a
       w m x b h
   on_step w e ok =
-      let left : HomeStands (block_of step.home) step.home = step-stands s lines m (frameAfter m h x) {c = steppedTo step (frameAfter m h x)} refl in
-      by-step home-lawful home-face HomeStands a (omega arith) w m x b (block_of step.home) h e left (in_block left)
-      (λ h'. accepts lines m h' (frame-taken m (length x) h ok))
+      let left : HomeStands (block_of step.home) step.home = step_stands s lines m (frame_after m h x) {c = stepped_to step (frame_after m h x)} refl in
+      by_step home_lawful home_face HomeStands a (omega arith) w m x b (block_of step.home) h e left (in_block left)
+      (λ h'. accepts lines m h' (frame_taken m (length x) h ok))
 
-  plain-is : homeCalled (on-home-frame plain m x) b ≡ stepOn m x h
-  unfolding homeCalled
-  plain-is = step_is s m x
+  plain_is : home_called (on_home_frame plain m x) b ≡ step_on m x h
+  unfolding home_called
+  plain_is = step_is s m x
 
-  plain-steps : refusalIn (homeCalled (on-home-frame plain m x) b).word ≡ 0 → Steps home-face HomeStands a plain m x b h
-  plain-steps z = on_step plain plain-is (accepted-0 step.refusal (sym (step-byte s lines m (frameAfter m h x) plain-is) ∙ z))
+  plain_steps : refusal_in (home_called (on_home_frame plain m x) b).word ≡ 0 → Steps home_face HomeStands a plain m x b h
+  plain_steps z = on_step plain plain_is (accepted_0 step.refusal (sym (step_byte s lines m (frame_after m h x) plain_is) ∙ z))
 
-  takes : step.refusal ≡ Accepted → refusalIn (homeCalled (on-home-frame plain m x) b).word ≡ 0
-  takes ok = step-byte s lines m (frameAfter m h x) plain-is ∙ ap refusalNumber ok
+  takes : step.refusal ≡ Accepted → refusal_in (home_called (on_home_frame plain m x) b).word ≡ 0
+  takes ok = step_byte s lines m (frame_after m h x) plain_is ∙ ap refusal_number ok
 
   -- with room for the layers it is the step without
   module _ (layers : List ℕ) where
     abbrev also : List Line
-    also = layerLines lines layers
+    also = layer_lines lines layers
 
-    layer-is-on : homeCalled (on-home-frame (with-layers layers) m x) b ≡ layerOn lines (λ k. frameFilled Home m (reading_of k) x) m x layers h
-    unfolding homeCalled
-    layer-is-on = layer-is s lines (λ k. frameFilled Home m (reading_of k) x) m x layers
+    layer_is_on : home_called (on_home_frame (with_layers layers) m x) b ≡ layer_on lines (λ k. frame_filled Home m (reading_of k) x) m x layers h
+    unfolding home_called
+    layer_is_on = layer_is s lines (λ k. frame_filled Home m (reading_of k) x) m x layers
 
-    layer-steps : refusalIn (homeCalled (on-home-frame (with-layers layers) m x) b).word ≡ 0 → Steps home-face HomeStands a (with-layers layers) m x b h
-    unfolding stepWith frameAfter
-    layer-steps z =
-        let ok : (stepWith also m h).refusal ≡ Accepted = accepted-0 (stepWith also m h).refusal (sym (step-byte s also m _ layer-is-on) ∙ z) in
-        let fit = layers-fit (columns Home) (length layers) lines (frame-refusing Home m (length x)) (sym (step-exact also m h) ∙ ok) in
-        let answer : stepWith also m h ≡ step = under-also (columns Home) (length layers) lines (λ r. refusedStep r h) (stepped m h) fit in
-        let pixels = under-also (columns Home) (length layers) lines (λ r. x) (frameFilled Home m (reading_of h) x) fit in
-        on_step (with-layers layers) (layer-is-on ∙ (λ j. steppedTo (answer j) (pixels j))) (sym (ap (λ (t : HomeStepped). t.refusal) answer) ∙ ok)
+    layer_steps : refusal_in (home_called (on_home_frame (with_layers layers) m x) b).word ≡ 0 → Steps home_face HomeStands a (with_layers layers) m x b h
+    unfolding step_with frame_after
+    layer_steps z =
+        let ok : (step_with also m h).refusal ≡ Accepted = accepted_0 (step_with also m h).refusal (sym (step_byte s also m _ layer_is_on) ∙ z) in
+        let fit = layers_fit (columns Home) (length layers) lines (frame_refusing Home m (length x)) (sym (step_exact also m h) ∙ ok) in
+        let answer : step_with also m h ≡ step = under_also (columns Home) (length layers) lines (λ r. refused_step r h) (stepped m h) fit in
+        let pixels = under_also (columns Home) (length layers) lines (λ r. x) (frame_filled Home m (reading_of h) x) fit in
+        on_step (with_layers layers) (layer_is_on ∙ (λ j. stepped_to (answer j) (pixels j))) (sym (ap (λ (t : HomeStepped). t.refusal) answer) ∙ ok)
 
 steps :
-    (a : Unit {0}) (w : Way) (m x b : List ℕ) (h : HomeState) → HomeStands b h → refusalIn (homeCalled (on-home-frame w m x) b).word ≡ 0 →
-    Steps home-face HomeStands a w m x b h
-steps a plain m x b h s z = plain-steps a m x b h s z
-steps a (with-layers layers) m x b h s z = layer-steps a m x b h s layers z
+    (a : Unit {0}) (w : Way) (m x b : List ℕ) (h : HomeState) → HomeStands b h → refusal_in (home_called (on_home_frame w m x) b).word ≡ 0 →
+    Steps home_face HomeStands a w m x b h
+steps a plain m x b h s z = plain_steps a m x b h s z
+steps a (with_layers layers) m x b h s z = layer_steps a m x b h s layers z
 
-pub home-face-lawful : LawfulFace home-face
-home-face-lawful =
+pub home_face_lawful : LawfulFace home_face
+home_face_lawful =
     record {
       Stands = HomeStands;
-      made-stands = made-stands;
+      made_stands = made_stands;
       in_block = in_block;
       calls = λ c b h k s q. calls c b h s q;
       quietly = λ c b h k s q. quietly c b h s q;
@@ -101,31 +101,31 @@ home-face-lawful =
     }
 
 -- ---- what the demands say of it: all that they say of every run on records
-pub through-home : Through home-face tt
-through-home = through-face home-lawful home-face-lawful tt
+pub through_home : Through home_face tt
+through_home = through_face home_lawful home_face_lawful tt
 
-pub demand3-home-face : (f : FaceRun home-face tt) → Goes f → Demand3 (watchedBy f)
-demand3-home-face = through-home Demand3 demand3-home
+pub demand3_home_face : (f : FaceRun home_face tt) → Goes f → Demand3 (watched_by f)
+demand3_home_face = through_home Demand3 demand3_home
 
 -- the author's question, and which rows a write reaches, in any pass
-pub colour-split-home-face : (f : FaceRun home-face tt) → Goes f → (L : ℕ) (old new : List ℕ) (s : Split (watchedBy f) L old new) → ColourSplit s
-colour-split-home-face = through-home (λ w. (L : ℕ) (old new : List ℕ) (s : Split w L old new) → ColourSplit s) (λ r L old new s. colour-split-home r s)
+pub colour_split-home_face : (f : FaceRun home_face tt) → Goes f → (L : ℕ) (old new : List ℕ) (s : Split (watched_by f) L old new) → ColourSplit s
+colour_split-home_face = through_home (λ w. (L : ℕ) (old new : List ℕ) (s : Split w L old new) → ColourSplit s) (λ r L old new s. colour_split-home r s)
 
-pub in-order-home-face : (f : FaceRun home-face tt) → Goes f → InOrder (watchedBy f)
-in-order-home-face = through-home InOrder (in_order home-lawful)
+pub in_order_home_face : (f : FaceRun home_face tt) → Goes f → InOrder (watched_by f)
+in_order_home_face = through_home InOrder (in_order home_lawful)
 
 -- with the change and without it: the pixels that change
-pub changed-home-face :
-    (f f₀ : FaceRun home-face tt) → Goes f → Goes f₀ → (L : ℕ) (old new : List ℕ) → Twins (watchedBy f) (watchedBy f₀) →
-    (s : Split (watchedBy f) L old new) → ((i : ℕ) → i < pass (watchedBy f) → ((watchedBy f₀).ready i).cram ≡ old) →
-    (c : ℕ) → OnlyColour home c old new → Changed s (watchedBy f₀) c
-changed-home-face =
-    both-through home-lawful home-face-lawful tt
+pub changed_home_face :
+    (f f₀ : FaceRun home_face tt) → Goes f → Goes f₀ → (L : ℕ) (old new : List ℕ) → Twins (watched_by f) (watched_by f₀) →
+    (s : Split (watched_by f) L old new) → ((i : ℕ) → i < pass (watched_by f) → ((watched_by f₀).ready i).cram ≡ old) →
+    (c : ℕ) → OnlyColour home c old new → Changed s (watched_by f₀) c
+changed_home_face =
+    both_through home_lawful home_face_lawful tt
     (λ w w₀.
     (L : ℕ) (old new : List ℕ) → Twins w w₀ → (s : Split w L old new) → ((i : ℕ) → i < pass w → (w₀.ready i).cram ≡ old) →
     (c : ℕ) → OnlyColour home c old new → Changed s w₀ c)
-    (λ r r₀ L old new t s kept c only. changed-home r r₀ t s kept c only)
+    (λ r r₀ L old new t s kept c only. changed_home r r₀ t s kept c only)
 
 -- 7 never comes
-pub face-never-seven-home : (t : LineTable) (b : List ℕ) → MadeHomeBlock t b → (h : List HomeCall) → FaceNeverSeven home-face b h
-face-never-seven-home = never-seven home-lawful home-face-lawful
+pub face_never_seven_home : (t : LineTable) (b : List ℕ) → MadeHomeBlock t b → (h : List HomeCall) → FaceNeverSeven home_face b h
+face_never_seven_home = never_seven home_lawful home_face_lawful

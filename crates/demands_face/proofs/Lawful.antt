@@ -8,12 +8,12 @@ use Prim.Native.Nat.{ℕ}
 use lib.ListN.{length}
 use Rattle.raster.specs.declared.LineTable.{LineTable}
 use Rattle.refusal.specs.declared.Refusal.TheVariants.{Accepted}
-use Rattle.word.specs.Word.{refusalIn}
+use Rattle.word.specs.Word.{refusal_in}
 use Rattle.passes.specs.Machine.{Machine}
 use Rattle.passes.specs.Pass.{Between}
 use Rattle.passes.proofs.Lawful.{Clean, Aimed}
 use Rattle.passes.proofs.Sound.{Sound}
-use Rattle.demands_face.specs.Face.{Way, plain, Face, toldBy, makes, steps, Refused}
+use Rattle.demands_face.specs.Face.{Way, plain, Face, told_by, makes, steps, Refused}
 
 -- clean colours are the palette's, and the address lies in its memory
 pub record Fine (M : Machine) (d : M.Device) : Type 0 where
@@ -30,17 +30,17 @@ pub data Does (M : Machine) (S : List ℕ → M.Device → Type 0) (b : List ℕ
 
 -- the same, where it is no accepted step
 pub data Quietly (M : Machine) (S : List ℕ → M.Device → Type 0) (b : List ℕ) (d : M.Device) (b' : List ℕ) : Type 0 where
-  stays-so : b' ≡ b → Quietly M S b d b'
-  does-so : (c : Between M) → S b' (M.after c.call d) → Quietly M S b d b'
+  stays_so : b' ≡ b → Quietly M S b d b'
+  does_so : (c : Between M) → S b' (M.after c.call d) → Quietly M S b d b'
 
 -- an accepted step on a frame is the machine's
 pub record Steps {M : Machine} (F : Face M) (S : List ℕ → M.Device → Type 0) (a : M.Area) (w : Way) (vram frame : List ℕ) (b : List ℕ)
     (d : M.Device) : Type 0 where
-  pub accepted : (d' : M.Device) → (M.frameStep a vram (length frame) d').refusal ≡ Accepted
-  pub told : toldBy (F.called (F.on-frame a w vram frame) b).word (F.device (F.called (F.on-frame a w vram frame) b).block) ≡ M.frameStep a
+  pub accepted : (d' : M.Device) → (M.frame_step_of a vram (length frame) d').refusal ≡ Accepted
+  pub told : told_by (F.called (F.on_frame_lem a w vram frame) b).word (F.device (F.called (F.on_frame_lem a w vram frame) b).block) ≡ M.frame_step_of a
       vram (length frame) d
-  pub stands : S (F.called (F.on-frame a w vram frame) b).block (M.frameStep a vram (length frame) d).device
-  pub lent : (F.called (F.on-frame a w vram frame) b).lent ≡ M.frameAfter a vram d frame
+  pub stands : S (F.called (F.on_frame_lem a w vram frame) b).block (M.frame_step_of a vram (length frame) d).device
+  pub lent : (F.called (F.on_frame_lem a w vram frame) b).lent ≡ M.frame_after a vram d frame
 
 -- a block that a call has made
 pub record Begun {M : Machine} (F : Face M) (b : List ℕ) : Type 0 where
@@ -50,7 +50,7 @@ pub record Begun {M : Machine} (F : Face M) (b : List ℕ) : Type 0 where
 pub record LawfulFace {M : Machine} (F : Face M) : Type 1 where
   -- the block stands for the device
   pub Stands : List ℕ → M.Device → Type 0
-  pub made-stands : (t : LineTable) (b : List ℕ) → F.Made t b → Stands b (M.made t)
+  pub made_stands : (t : LineTable) (b : List ℕ) → F.Made t b → Stands b (M.made t)
   pub in_block : {b : List ℕ} {d : M.Device} → Stands b d → F.device b ≡ d
   -- a call that makes no device anew, one that is no accepted step either, and an accepted step on a frame
   pub calls :
@@ -60,13 +60,13 @@ pub record LawfulFace {M : Machine} (F : Face M) : Type 1 where
       (c : F.Call) (b : List ℕ) (d : M.Device) → Fine M d → Stands b d → ((makes F c || steps F c) ≡ true → Refused F c b) →
       Quietly M Stands b d (F.called c b).block
   pub steps :
-      (a : M.Area) (w : Way) (vram frame b : List ℕ) (d : M.Device) → Stands b d → refusalIn (F.called (F.on-frame a w vram frame) b).word ≡
+      (a : M.Area) (w : Way) (vram frame b : List ℕ) (d : M.Device) → Stands b d → refusal_in (F.called (F.on_frame_lem a w vram frame) b).word ≡
       0 →
       Steps F Stands a w vram frame b d
   -- the step without layers is accepted where the machine's is
   pub takes :
-      (a : M.Area) (vram frame b : List ℕ) (d : M.Device) → Stands b d → (M.frameStep a vram (length frame) d).refusal ≡ Accepted →
-      refusalIn (F.called (F.on-frame a plain vram frame) b).word ≡ 0
+      (a : M.Area) (vram frame b : List ℕ) (d : M.Device) → Stands b d → (M.frame_step_of a vram (length frame) d).refusal ≡ Accepted →
+      refusal_in (F.called (F.on_frame_lem a plain vram frame) b).word ≡ 0
   -- an accepted call that makes a device, and 7
-  pub begun : (c : F.Call) (b : List ℕ) → makes F c ≡ true → refusalIn (F.called c b).word ≡ 0 → Begun F (F.called c b).block
-  pub no_seven : (c : F.Call) (b : List ℕ) (d : M.Device) → Fine M d → Stands b d → refusalIn (F.called c b).word ≢ 7
+  pub begun : (c : F.Call) (b : List ℕ) → makes F c ≡ true → refusal_in (F.called c b).word ≡ 0 → Begun F (F.called c b).block
+  pub no_seven : (c : F.Call) (b : List ℕ) (d : M.Device) → Fine M d → Stands b d → refusal_in (F.called c b).word ≢ 7

@@ -8,12 +8,12 @@ use lib.Dec.{eqb}
 use borrow.Author.Tests.{eqb-true, eqb-false}
 use Rattle.laws.proofs.Tests.{split, clash}
 use Rattle.raster.specs.declared.LineTable.{LineTable}
-use Rattle.word.specs.Word.{refusalIn}
+use Rattle.word.specs.Word.{refusal_in}
 use Rattle.passes.specs.Machine.{Machine}
-use Rattle.passes.specs.Pass.{History, deviceAfter}
+use Rattle.passes.specs.Pass.{History, device_after}
 use Rattle.passes.proofs.Lawful.{Lawful}
 use Rattle.passes.proofs.Sound.{sound}
-use Rattle.demands_face.specs.Face.{Face, makes, blockAfter}
+use Rattle.demands_face.specs.Face.{Face, makes, block_after}
 use Rattle.demands_face.specs.Seven.{NoSeven, FaceNeverSeven}
 use Rattle.demands_face.proofs.Lawful.{Fine, fine, Does, stays, does, LawfulFace}
 
@@ -27,38 +27,38 @@ module _ {M : Machine} (ok : Lawful M) {F : Face M} (law : LawfulFace F) where
   goes c b d k s =
       split (makes F c)
       (λ m.
-      split (eqb (refusalIn (F.called c b).word) 0)
+      split (eqb (refusal_in (F.called c b).word) 0)
       (λ z.
-      let new = law.begun c b m (eqb-true (refusalIn (F.called c b).word) 0 z) in
-      begins new.table (law.made-stands new.table (F.called c b).block new.made))
-      (λ z. goes_on (law.calls c b d k s (λ _. eqb-false (refusalIn (F.called c b).word) 0 z))))
+      let new = law.begun c b m (eqb-true (refusal_in (F.called c b).word) 0 z) in
+      begins new.table (law.made_stands new.table (F.called c b).block new.made))
+      (λ z. goes_on (law.calls c b d k s (λ _. eqb-false (refusal_in (F.called c b).word) 0 z))))
       (λ m. goes_on (law.calls c b d k s (λ e. clash (sym e ∙ m))))
 
   -- ---- a block that a call has made
   pub record Reached (b : List ℕ) : Type 0 where
     pub table : LineTable
     pub calls : History M
-    pub stands : law.Stands b (deviceAfter M table calls)
+    pub stands : law.Stands b (device_after M table calls)
 
-  pub reached : (t : LineTable) (b : List ℕ) → F.Made t b → (h : List F.Call) → Reached (blockAfter F b h)
-  unfolding blockAfter deviceAfter
-  reached t b w [] = record { table = t; calls = []; stands = law.made-stands t b w }
+  pub reached : (t : LineTable) (b : List ℕ) → F.Made t b → (h : List F.Call) → Reached (block_after F b h)
+  unfolding block_after device_after
+  reached t b w [] = record { table = t; calls = []; stands = law.made_stands t b w }
   reached t b w (c ∷ h) = go (reached t b w h)
     where
-      go : Reached (blockAfter F b h) → Reached (F.called c (blockAfter F b h)).block
-      go r = by (goes c (blockAfter F b h) (deviceAfter M r.table r.calls) (fine (sound ok r.table r.calls)) r.stands)
+      go : Reached (block_after F b h) → Reached (F.called c (block_after F b h)).block
+      go r = by (goes c (block_after F b h) (device_after M r.table r.calls) (fine (sound ok r.table r.calls)) r.stands)
         where
-          by : Goes_on M law.Stands (blockAfter F b h) (deviceAfter M r.table r.calls) (F.called c (blockAfter F b h)).block → Reached
-              (F.called c (blockAfter F b h)).block
+          by : Goes_on M law.Stands (block_after F b h) (device_after M r.table r.calls) (F.called c (block_after F b h)).block → Reached
+              (F.called c (block_after F b h)).block
           by (goes_on (stays e)) = subst Reached (sym e) r
           by (goes_on (does x s)) = record { table = r.table; calls = x ∷ r.calls; stands = s }
           by (begins u s) = record { table = u; calls = []; stands = s }
 
-  pub never-seven : (t : LineTable) (b : List ℕ) → F.Made t b → (h : List F.Call) → FaceNeverSeven F b h
-  never-seven t b w h =
+  pub never_seven : (t : LineTable) (b : List ℕ) → F.Made t b → (h : List F.Call) → FaceNeverSeven F b h
+  never_seven t b w h =
       let r = reached t b w h in
       record {
-        no_seven = λ c. law.no_seven c (blockAfter F b h) (deviceAfter M r.table r.calls) (fine (sound ok r.table r.calls)) r.stands;
+        no_seven = λ c. law.no_seven c (block_after F b h) (device_after M r.table r.calls) (fine (sound ok r.table r.calls)) r.stands;
         table = r.table;
         calls = r.calls;
         device = law.in_block r.stands;
@@ -70,15 +70,15 @@ module _ {M : Machine} (ok : Lawful M) {F : Face M} (law : LawfulFace F) where
     pub stands : law.Stands b device
     pub right : Fine M device
 
-  good-after : (b : List ℕ) → Good b → (h : List F.Call) → Good (blockAfter F b h)
-  unfolding blockAfter deviceAfter
-  good-after b g [] = g
-  good-after b g (c ∷ h) = go (good-after b g h)
+  good_after : (b : List ℕ) → Good b → (h : List F.Call) → Good (block_after F b h)
+  unfolding block_after device_after
+  good_after b g [] = g
+  good_after b g (c ∷ h) = go (good_after b g h)
     where
-      go : Good (blockAfter F b h) → Good (F.called c (blockAfter F b h)).block
-      go r = by (goes c (blockAfter F b h) r.device r.right r.stands)
+      go : Good (block_after F b h) → Good (F.called c (block_after F b h)).block
+      go r = by (goes c (block_after F b h) r.device r.right r.stands)
         where
-          by : Goes_on M law.Stands (blockAfter F b h) r.device (F.called c (blockAfter F b h)).block → Good (F.called c (blockAfter F b h)).block
+          by : Goes_on M law.Stands (block_after F b h) r.device (F.called c (block_after F b h)).block → Good (F.called c (block_after F b h)).block
           by (goes_on (stays e)) = subst Good (sym e) r
           by (goes_on (does x s)) =
               let l = ok.left x r.device in
@@ -89,7 +89,7 @@ module _ {M : Machine} (ok : Lawful M) {F : Face M} (law : LawfulFace F) where
               }
           by (begins u s) = record { device = M.made u; stands = s; right = fine (sound ok u []) }
 
-  pub good-answers : (b : List ℕ) → Good b → (h : List F.Call) → NoSeven F b h
-  good-answers b g h c =
-      let r = good-after b g h in
-      law.no_seven c (blockAfter F b h) r.device r.right r.stands
+  pub good_answers : (b : List ℕ) → Good b → (h : List F.Call) → NoSeven F b h
+  good_answers b g h c =
+      let r = good_after b g h in
+      law.no_seven c (block_after F b h) r.device r.right r.stands

@@ -6,7 +6,7 @@ use Prim.Native.Nat.{ℕ, ◌+◌, ◌*◌, ◌/◌, ◌%◌, ◌<◌, ◌≤◌
 use native.Mathlib.Decide.{dec_lt}
 use native.Mathlib.Omega.{arith}
 use borrow.Author.Tests.{le-leb, lt-leb}
-use Rattle.dump.specs.Dump.{tileColumn, tileRow, tileAt}
+use Rattle.dump.specs.Dump.{tile_column, tile_row, tile_at}
 
 -- the two parts of a pair's row
 half : (q r : ℕ) → r < 2 → (2 * q + r) / 2 ≡ q
@@ -19,9 +19,9 @@ pair : (c : ℕ) → 32 * (c / 32) + 2 * (c % 32 / 2) + c % 2 ≡ c
 pair c = omega arith
 
 -- where tile c stands, tile c stands
-pub tile-there : (tall : Bool) (c : ℕ) → c < 512 → tileAt tall (tileColumn tall c) (tileRow tall c) ≡ c
-unfolding tileColumn tileRow tileAt
-tile-there true c h =
+pub tile_there : (tall : Bool) (c : ℕ) → c < 512 → tile_at tall (tile_column tall c) (tile_row tall c) ≡ c
+unfolding tile_column tile_row tile_at
+tile_there true c h =
     elim (dec_lt c 256) [
       | yes l ↦ let r : c / 16 < 16 = omega arith in rw (lt-leb 256 c l, lt-leb 16 (c / 16) r) (omega arith)
       | no n ↦
@@ -30,33 +30,33 @@ tile-there true c h =
           let s : c % 2 < 2 = omega arith in
           rw (le-leb 256 c l, le-leb 16 (2 * (c / 32) + c % 2) r, half (c / 32) (c % 2) s, rest (c / 32) (c % 2) s) (pair c)
     ]
-tile-there false c h = omega arith
+tile_there false c h = omega arith
 
 -- at column i of row j stands the tile that is at column i of row j
 module _ (i j : ℕ) (hi : i < 16) (hj : j < 32) where
-  paired-high : 16 ≤ j → 256 ≤ 32 * (j / 2) + 2 * i + j % 2
-  paired-high h = omega arith
+  paired_high : 16 ≤ j → 256 ≤ 32 * (j / 2) + 2 * i + j % 2
+  paired_high h = omega arith
 
-  pub column-there : (tall : Bool) → tileColumn tall (tileAt tall i j) ≡ i
-  unfolding tileColumn tileAt
-  column-there true =
+  pub column_there : (tall : Bool) → tile_column tall (tile_at tall i j) ≡ i
+  unfolding tile_column tile_at
+  column_there true =
       elim (dec_lt j 16) [
         | yes l ↦ let r : 16 * j + i < 256 = omega arith in rw (lt-leb 16 j l, lt-leb 256 (16 * j + i) r) (omega arith)
         | no n ↦
             let l : 16 ≤ j = omega arith in
-            let r = paired-high l in
+            let r = paired_high l in
             rw (le-leb 16 j l, le-leb 256 (32 * (j / 2) + 2 * i + j % 2) r) (omega arith)
       ]
-  column-there false = omega arith
+  column_there false = omega arith
 
-  pub row-there : (tall : Bool) → tileRow tall (tileAt tall i j) ≡ j
-  unfolding tileRow tileAt
-  row-there true =
+  pub row_there : (tall : Bool) → tile_row tall (tile_at tall i j) ≡ j
+  unfolding tile_row tile_at
+  row_there true =
       elim (dec_lt j 16) [
         | yes l ↦ let r : 16 * j + i < 256 = omega arith in rw (lt-leb 16 j l, lt-leb 256 (16 * j + i) r) (omega arith)
         | no n ↦
             let l : 16 ≤ j = omega arith in
-            let r = paired-high l in
+            let r = paired_high l in
             rw (le-leb 16 j l, le-leb 256 (32 * (j / 2) + 2 * i + j % 2) r) (omega arith)
       ]
-  row-there false = omega arith
+  row_there false = omega arith

@@ -1,9 +1,9 @@
 // All tiles of video memory on one sheet (R5.13): 256 as background, and the same numbers as sprites.
 ghost use Rattle.std.specs.Prelude.{◌≡◌, cond, ◌&&◌, List, ℕ, ◌+◌, ◌-◌, ◌*◌, ◌/◌, ◌%◌, ◌<◌, ◌≤◌, ltb, leb, length};
 ghost use Rattle.laws.specs.Lists.{at};
-ghost use Rattle.laws.specs.Sizes.{vramSize};
+ghost use Rattle.laws.specs.Sizes.{vram_size};
 ghost use Rattle.picture.specs.Tile.{code_at};
-ghost use Rattle.dump.specs.Dump.{tileColumn, tileRow, pixelByte, dumpSize, dumped};
+ghost use Rattle.dump.specs.Dump.{tile_column, tile_row, pixel_byte, dump_size, dumped};
 ghost use Rattle.dump.specs.Lines.{Dumping};
 ghost use Rattle.dump.specs.Sheet.{SheetLeaves};
 
@@ -15,7 +15,7 @@ const DUMP_SIZE: usize = 131072;
 // R5.14: the sheet's pixel at which tile chr starts.
 fn place_of(tall: bool, chr: usize) -> usize
     requires { chr < 512 }
-    ensures value { result ≡ 1024 * tileRow tall chr + 8 * tileColumn tall chr }
+    ensures value { result ≡ 1024 * tile_row tall chr + 8 * tile_column tall chr }
     ensures result_bound { result + 904 ≤ 32768 }
 {
     if tall & (256 <= chr) {
@@ -34,8 +34,8 @@ fn dump_line(
     addr: usize,
     x: usize,
 )
-    requires { (length pixels.old ≡ dumpSize) × (addr + 4 ≤ length vram.now) × (x + 8 ≤ 32768) }
-    ensures { (k : ℕ) → at pixels.new k ≡ cond (leb x (k / 4) && ltb (k / 4 - x) 8) (pixelByte colours.now sprite (code_at (at vram.now) addr (k / 4 - x)) (k % 4) (at pixels.old k)) (at pixels.old k) }
+    requires { (length pixels.old ≡ dump_size) × (addr + 4 ≤ length vram.now) × (x + 8 ≤ 32768) }
+    ensures { (k : ℕ) → at pixels.new k ≡ cond (leb x (k / 4) && ltb (k / 4 - x) 8) (pixel_byte colours.now sprite (code_at (at vram.now) addr (k / 4 - x)) (k % 4) (at pixels.old k)) (at pixels.old k) }
 {
     if sprite {
         tile::sprite_columns(pixels, vram, colours, addr, 0, 0, 32768, x, 0, 8);
@@ -53,7 +53,7 @@ fn dump_tile(
     high: bool,
     chr: usize,
 )
-    requires { (length pixels.old ≡ dumpSize) × (length vram.now ≡ vramSize) × (chr < 512) }
+    requires { (length pixels.old ≡ dump_size) × (length vram.now ≡ vram_size) × (chr < 512) }
     ensures { (pixels₀ : List ℕ) → Dumping vram.now tall high colours.now pixels₀ (8 * chr) pixels.old → Dumping vram.now tall high colours.now pixels₀ (8 * (chr + 1)) pixels.new }
 {
     let place = place_of(tall, chr);
@@ -75,7 +75,7 @@ fn dump_tile(
 
 // All tiles, by these colours (R5.15).
 fn draw_tileset(pixels: &mut [u8], vram: &[u8], colours: &[u32; 32], reg: [u8; 11])
-    requires { (length pixels.old ≡ dumpSize) × (length vram.now ≡ vramSize) }
+    requires { (length pixels.old ≡ dump_size) × (length vram.now ≡ vram_size) }
     ensures { pixels.new ≡ dumped vram.now reg colours.now pixels.old }
 {
     let tall = small::is_set(reg[1], 1);

@@ -11,32 +11,32 @@ use lib.Seq.{get_or-take, get_or-drop}
 use mathlib.Core.Bool.{cond}
 use borrow.Author.Tests.{eq-eqb, ne_eqb, eqb-false, le-leb}
 use Rattle.laws.specs.Lists.{at}
-use Rattle.laws.specs.Sizes.{vramSize}
-use Rattle.laws.proofs.Tables.{getD-table}
+use Rattle.laws.specs.Sizes.{vram_size}
+use Rattle.laws.proofs.Tables.{get_d_table}
 use Rattle.laws.proofs.Tests.{split}
-use Rattle.colour.specs.Colour.{colour, coloursOf}
+use Rattle.colour.specs.Colour.{colour, colours_of}
 use Rattle.picture.specs.declared.Screen.{Screen}
-use Rattle.picture.specs.Area.{areaFrom, screenOf}
+use Rattle.picture.specs.Area.{area_from, screen_of}
 use Rattle.raster.specs.declared.Raster.{Raster}
-use Rattle.refusal.specs.Refusals.{refusalNumber, first, whole}
-use Rattle.block.specs.Block.{wellFormed, state_of}
+use Rattle.refusal.specs.Refusals.{refusal_number, first, whole}
+use Rattle.block.specs.Block.{well_formed, state_of}
 use Rattle.pixel.specs.declared.Spot.{Spot}
-use Rattle.pixel.specs.Pixel.{pixelLines, spot_of, pixelOf}
-use Rattle.pixel.proofs.Spots.{pixel-exact, pixel-refused}
-use Rattle.step.specs.Step.{coloursNow, reading_of}
-use Rattle.face.specs.Refused.{refusalIn, stepCallLines}
-use Rattle.face.specs.Pixel.{pixelCall}
-use Rattle.word.specs.Word.{pixelBits}
-use Rattle.word.specs.Called.{askedLines}
-use Rattle.word.proofs.Words.{pixel-byte}
-use Rattle.word.proofs.Calls.{asked-both}
+use Rattle.pixel.specs.Pixel.{pixel_lines, spot_of, pixel_of}
+use Rattle.pixel.proofs.Spots.{pixel_exact, pixel_refused}
+use Rattle.step.specs.Step.{colours_now, reading_of}
+use Rattle.face.specs.Refused.{refusal_in, step_call_lines}
+use Rattle.face.specs.Pixel.{pixel_call}
+use Rattle.word.specs.Word.{pixel_bits}
+use Rattle.word.specs.Called.{asked_lines}
+use Rattle.word.proofs.Words.{pixel_byte_lem}
+use Rattle.word.proofs.Calls.{asked_both}
 
 module _ (b : List ℕ) (n : ℕ) where
-  pub colour-dirty : n < 32 → at b 26 ≡ 1 → colour (at b (27 + 2 * n)) (at b (27 + (2 * n + 1))) ≡ at (coloursNow (state_of b)) n
-  unfolding state_of coloursOf
-  colour-dirty h e =
+  pub colour_dirty : n < 32 → at b 26 ≡ 1 → colour (at b (27 + 2 * n)) (at b (27 + (2 * n + 1))) ≡ at (colours_now (state_of b)) n
+  unfolding state_of colours_of
+  colour_dirty h e =
       rw (eq-eqb (at b 26) 1 e)
-      (sym (getD-table 32 (λ i. colour (at (take 64 (drop 27 b)) (2 * i)) (at (take 64 (drop 27 b)) (2 * i + 1))) n h
+      (sym (get_d_table 32 (λ i. colour (at (take 64 (drop 27 b)) (2 * i)) (at (take 64 (drop 27 b)) (2 * i + 1))) n h
       ∙ rw (
         get_or-take 64 (drop 27 b) (2 * n) 0 (omega arith),
         get_or-take 64 (drop 27 b) (2 * n + 1) 0 (omega arith),
@@ -44,51 +44,51 @@ module _ (b : List ℕ) (n : ℕ) where
         get_or-drop 27 b (2 * n + 1) 0,
       )))
 
-  pub colour-clean : (at b 26 ≡ 1 → ⊥) → at (state_of b).color_cache n ≡ at (coloursNow (state_of b)) n
+  pub colour_clean : (at b 26 ≡ 1 → ⊥) → at (state_of b).color_cache n ≡ at (colours_now (state_of b)) n
   unfolding state_of
-  colour-clean e = rw (ne_eqb (at b 26) 1 e)
+  colour_clean e = rw (ne_eqb (at b 26) 1 e)
 
 -- ---- the call: refused by 10 or 11, and else from what its parts give
-module _ (b m : List ℕ) (n y x : ℕ) {q : ℕ} (eq : q ≡ refusalNumber (first (askedLines (wellFormed b) n))) where
-  pub pixel-asked : q ≢ 0 → q ≡ pixelCall b m n y x
-  unfolding pixelCall
-  pixel-asked h = eq ∙ split (wellFormed b) (λ e. split (leb n 2) (λ f. absurd (h (eq ∙ rw (e, f)))) (λ f. rw (e, f))) (λ e. rw e)
+module _ (b m : List ℕ) (n y x : ℕ) {q : ℕ} (eq : q ≡ refusal_number (first (asked_lines (well_formed b) n))) where
+  pub pixel_asked : q ≢ 0 → q ≡ pixel_call b m n y x
+  unfolding pixel_call
+  pixel_asked h = eq ∙ split (well_formed b) (λ e. split (leb n 2) (λ f. absurd (h (eq ∙ rw (e, f)))) (λ f. rw (e, f))) (λ e. rw e)
 
-  pub pixel-done :
-      q ≡ 0 → {z : Screen} {reg : List ℕ} {raster : Raster} {s : Spot} {c r : ℕ} → z ≡ screenOf (areaFrom n) → reg ≡ (state_of b).reg → raster ≡ (state_of b).raster
-      → s ≡ spot_of z reg raster.vertical_scroll m y x → c ≡ cond s.there (at (coloursNow (state_of b)) s.colour) 0
-      → r ≡ refusalNumber s.refusal + pixelBits s.there c → r ≡ pixelCall b m n y x
-  unfolding pixelCall pixelOf
-  pixel-done zero ez eg et es ec er = let t = asked-both (wellFormed b) n eq zero in er ∙ rw (ec, es, eg, et, ez, t.0, le-leb n 2 t.1)
+  pub pixel_done :
+      q ≡ 0 → {z : Screen} {reg : List ℕ} {raster : Raster} {s : Spot} {c r : ℕ} → z ≡ screen_of (area_from n) → reg ≡ (state_of b).reg → raster ≡ (state_of b).raster
+      → s ≡ spot_of z reg raster.vertical_scroll m y x → c ≡ cond s.there (at (colours_now (state_of b)) s.colour) 0
+      → r ≡ refusal_number s.refusal + pixel_bits s.there c → r ≡ pixel_call b m n y x
+  unfolding pixel_call pixel_of
+  pixel_done zero ez eg et es ec er = let t = asked_both (well_formed b) n eq zero in er ∙ rw (ec, es, eg, et, ez, t.0, le-leb n 2 t.1)
 
 -- R16.3: refused by the first line of its table that holds; R16.6: and then its word is the refusal alone, with no pixel and four zero bytes
 module _ (b m : List ℕ) (n y x : ℕ) where
-  pub pixel-call-exact : refusalIn (pixelCall b m n y x) ≡ refusalNumber (first (stepCallLines b n (pixelLines m)))
-  unfolding pixelCall
-  pixel-call-exact =
-      split (wellFormed b)
+  pub pixel_call_exact : refusal_in (pixel_call b m n y x) ≡ refusal_number (first (step_call_lines b n (pixel_lines m)))
+  unfolding pixel_call
+  pixel_call_exact =
+      split (well_formed b)
       (λ e.
       split (leb n 2)
       (λ l.
       simp (e, l)
-      (let p = pixelOf (screenOf (areaFrom n)) m (reading_of (state_of b)) y x in
-      pixel-byte p.refusal p.there p.colour ∙ ap refusalNumber (pixel-exact (screenOf (areaFrom n)) m (reading_of (state_of b)) y x)))
+      (let p = pixel_of (screen_of (area_from n)) m (reading_of (state_of b)) y x in
+      pixel_byte_lem p.refusal p.there p.colour ∙ ap refusal_number (pixel_exact (screen_of (area_from n)) m (reading_of (state_of b)) y x)))
       (λ l. simp (e, l)))
       (λ e. simp e)
 
-  pub pixel-call-alone : refusalIn (pixelCall b m n y x) ≢ 0 → pixelCall b m n y x < 256
-  unfolding pixelCall
-  pixel-call-alone =
-      split (wellFormed b)
+  pub pixel_call_alone : refusal_in (pixel_call b m n y x) ≢ 0 → pixel_call b m n y x < 256
+  unfolding pixel_call
+  pixel_call_alone =
+      split (well_formed b)
       (λ e.
       split (leb n 2)
       (λ l.
       split (whole m)
       (λ f.
-      let p = pixelOf (screenOf (areaFrom n)) m (reading_of (state_of b)) y x in
+      let p = pixel_of (screen_of (area_from n)) m (reading_of (state_of b)) y x in
       simp (e, l)
-      (λ h. absurd (h (pixel-byte p.refusal p.there p.colour ∙ ap refusalNumber (pixel-exact (screenOf (areaFrom n)) m (reading_of (state_of b)) y x)
+      (λ h. absurd (h (pixel_byte_lem p.refusal p.there p.colour ∙ ap refusal_number (pixel_exact (screen_of (area_from n)) m (reading_of (state_of b)) y x)
       ∙ rw f))))
-      (λ f. simp (e, l) (λ h. rw (pixel-refused (screenOf (areaFrom n)) m (reading_of (state_of b)) y x (eqb-false (length m) vramSize f)) (omega arith))))
+      (λ f. simp (e, l) (λ h. rw (pixel_refused (screen_of (area_from n)) m (reading_of (state_of b)) y x (eqb-false (length m) vram_size f)) (omega arith))))
       (λ l. simp (e, l) (λ h. omega arith)))
       (λ e. simp e (λ h. omega arith))

@@ -9,34 +9,34 @@ use Rattle.refusal.specs.Refusals.{Line, under}
 use Rattle.points.specs.declared.DrawnRow.TheVariants.{Drawn}
 use Rattle.points.specs.declared.Due.{Due}
 use Rattle.points.specs.declared.Points.{Points}
-use Rattle.points.specs.Points.{Reading, bits_of, pointsWith}
-use Rattle.points.specs.Bytes.{rowWith, frameWith, layersBy, rowFilled, frameFilled, layersUnder}
-use Rattle.points.specs.Due.{dueOf, duePicture, dueLayers, pointsBy}
-use Rattle.row.proofs.Steps.{due-row, answered, owned, row-filled, frame-filled}
+use Rattle.points.specs.Points.{Reading, bits_of, points_with}
+use Rattle.points.specs.Bytes.{row_with, frame_with, layers_by, row_filled, frame_filled, layers_under}
+use Rattle.points.specs.Due.{due_of, due_picture, due_layers, points_by}
+use Rattle.row.proofs.Steps.{due_row, answered, owned, row_filled_lem, frame-filled}
 
 module _ (ls : List Line) (z : Screen) (m : List ℕ) (k : Reading) {reg : List ℕ} {raster : Raster} {status : ℕ} {d : Due} {colours : List ℕ} {p : Points}
     (eg : reg ≡ k.reg) (et : raster ≡ k.raster) (eu : status ≡ k.status) (ec : (y : ℕ) → d.row ≡ Drawn y → colours ≡ k.colours)
-    (ep : p ≡ pointsBy reg status (bits_of d.row (duePicture z m reg d)) d) (ed : d ≡ dueOf ls z reg raster) where
-  due-by : d ≡ dueOf ls z k.reg k.raster
-  due-by = rw (eg, et) at ed
+    (ep : p ≡ points_by reg status (bits_of d.row (due_picture z m reg d)) d) (ed : d ≡ due_of ls z reg raster) where
+  due_by : d ≡ due_of ls z k.reg k.raster
+  due_by = rw (eg, et) at ed
 
-  points-by : p ≡ pointsBy k.reg k.status (bits_of d.row (duePicture z m k.reg d)) d
-  points-by = rw (eg, eu) at ep
+  points_by_lem : p ≡ points_by k.reg k.status (bits_of d.row (due_picture z m k.reg d)) d
+  points_by_lem = rw (eg, eu) at ep
 
-  pub answer-by : p ≡ pointsWith ls z m k
-  answer-by = answered ls z m k due-by points-by
+  pub answer_by : p ≡ points_with ls z m k
+  answer_by = answered ls z m k due_by points_by_lem
 
   -- the row that was due
-  pub row-due-by : p.row ≡ d.row
-  row-due-by = due-row ls z m k due-by points-by
+  pub row_due_by : p.row ≡ d.row
+  row_due_by = due_row ls z m k due_by points_by_lem
 
   -- what it leaves in its buffers
   module _ (x : List ℕ) {x' : List ℕ} where
-    pub row_by : x' ≡ rowWith d.row z colours (duePicture z m reg d) x → x' ≡ under ls (λ r. x) (rowFilled z m k x)
-    row_by e = row-filled ls z m k due-by ec x (rw eg at e)
+    pub row_by : x' ≡ row_with d.row z colours (due_picture z m reg d) x → x' ≡ under ls (λ r. x) (row_filled z m k x)
+    row_by e = row_filled_lem ls z m k due_by ec x (rw eg at e)
 
-    pub frame-by : x' ≡ frameWith d.row z colours (duePicture z m reg d) x → x' ≡ under ls (λ r. x) (frameFilled z m k x)
-    frame-by e = frame-filled ls z m k due-by ec x (rw eg at e)
+    pub frame_by : x' ≡ frame_with d.row z colours (due_picture z m reg d) x → x' ≡ under ls (λ r. x) (frame_filled z m k x)
+    frame_by e = frame-filled ls z m k due_by ec x (rw eg at e)
 
-    pub layers-by : x' ≡ layersBy d.row z (dueLayers z m reg d) x → x' ≡ layersUnder ls z m k x
-    layers-by e = owned ls z m k due-by x (rw eg at e)
+    pub layers_by_lem : x' ≡ layers_by d.row z (due_layers z m reg d) x → x' ≡ layers_under ls z m k x
+    layers_by_lem e = owned ls z m k due_by x (rw eg at e)

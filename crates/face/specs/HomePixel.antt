@@ -2,13 +2,13 @@
 -- Assumes nothing.
 use Rattle.std.specs.Prelude.{cond, List, ℕ}
 use Rattle.refusal.specs.declared.Refusal.TheVariants.{BlockMalformed}
-use Rattle.refusal.specs.Refusals.{refusalNumber}
+use Rattle.refusal.specs.Refusals.{refusal_number}
 use Rattle.picture.specs.declared.Screen.TheVariants.{Home}
-use Rattle.pixel.specs.Pixel.{pixelOf}
+use Rattle.pixel.specs.Pixel.{pixel_of}
 use Rattle.home.specs.Step.{reading_of}
-use Rattle.home_block.specs.HomeBlock.{state_of, wellFormed}
-use Rattle.face.specs.Pixel.{pixelWord}
+use Rattle.home_block.specs.HomeBlock.{state_of, well_formed}
+use Rattle.face.specs.Pixel.{pixel_word}
 
 -- the block, then video memory
-unfoldable pub pixelCall : List ℕ → List ℕ → ℕ → ℕ → ℕ
-pixelCall b m y x = cond (wellFormed b) (pixelWord (pixelOf Home m (reading_of (state_of b)) y x)) (refusalNumber BlockMalformed)
+unfoldable pub pixel_call : List ℕ → List ℕ → ℕ → ℕ → ℕ
+pixel_call b m y x = cond (well_formed b) (pixel_word (pixel_of Home m (reading_of (state_of b)) y x)) (refusal_number BlockMalformed)

@@ -3,18 +3,18 @@
 use Rattle.std.specs.Prelude.{not, ◌&&◌, List, [], ◌∷◌, ℕ, leb, eqb, length}
 use Rattle.refusal.specs.declared.Refusal.TheVariants.{BlockMalformed}
 use Rattle.refusal.specs.Refusals.{Line, line}
-use Rattle.home.specs.Ports.{writeLines, readLines}
-use Rattle.home_block.specs.HomeBlock.{blockSize, wellFormed, state_of}
+use Rattle.home.specs.Ports.{write_lines, read_lines}
+use Rattle.home_block.specs.HomeBlock.{block_size, well_formed, state_of}
 
 -- the block, and then the lines of the call's own
-abbrev pub callLines : List ℕ → List Line → List Line
-callLines b lines = line (not (wellFormed b)) BlockMalformed ∷ lines
+abbrev pub call_lines : List ℕ → List Line → List Line
+call_lines b lines = line (not (well_formed b)) BlockMalformed ∷ lines
 
-abbrev pub newLines : List ℕ → ℕ → List Line
-newLines b t = line (not (leb t 1 && eqb (length b) blockSize)) BlockMalformed ∷ []
+abbrev pub new_lines : List ℕ → ℕ → List Line
+new_lines b t = line (not (leb t 1 && eqb (length b) block_size)) BlockMalformed ∷ []
 
-abbrev pub outLines : List ℕ → List ℕ → ℕ → ℕ → List Line
-outLines b m p v = callLines b (writeLines (state_of b) m p v)
+abbrev pub out_lines : List ℕ → List ℕ → ℕ → ℕ → List Line
+out_lines b m p v = call_lines b (write_lines (state_of b) m p v)
 
-abbrev pub inputLines : List ℕ → List ℕ → ℕ → List Line
-inputLines b m p = callLines b (readLines (state_of b) m p)
+abbrev pub input_lines : List ℕ → List ℕ → ℕ → List Line
+input_lines b m p = call_lines b (read_lines (state_of b) m p)

@@ -3,30 +3,30 @@
 use Rattle.std.specs.Prelude.{not, ◌&&◌, List, [], ◌∷◌, ℕ, leb, length}
 use Rattle.refusal.specs.declared.Refusal.TheVariants.{BlockMalformed, UnknownArea}
 use Rattle.refusal.specs.Refusals.{Line, line}
-use Rattle.vdp.specs.Refusals.{writeLines, readLines}
-use Rattle.raster.specs.Raster.{lineTableFrom}
-use Rattle.block.specs.Block.{fits, wellFormed, state_of}
-use Rattle.dump.specs.Sheet.{dumpLines}
+use Rattle.vdp.specs.Refusals.{write_lines, read_lines}
+use Rattle.raster.specs.Raster.{line_table_from}
+use Rattle.block.specs.Block.{fits, well_formed, state_of}
+use Rattle.dump.specs.Sheet.{dump_lines}
 -- what a refusal leaves of a block is said of either machine's
-pub use Rattle.word.specs.Word.{refusalIn}
-pub use Rattle.word.specs.Called.{blockLeft, LeftBehind}
+pub use Rattle.word.specs.Word.{refusal_in}
+pub use Rattle.word.specs.Called.{block_left, LeftBehind}
 
 -- ---- R2.4: the block, the area, and then the tests of the port or the step
 abbrev pub malformed : List ℕ → Line
-malformed b = line (not (wellFormed b)) BlockMalformed
+malformed b = line (not (well_formed b)) BlockMalformed
 
-abbrev pub newLines : List ℕ → ℕ → List Line
-newLines b t = line (not (leb t 1 && fits (lineTableFrom t) (length b))) BlockMalformed ∷ []
+abbrev pub new_lines : List ℕ → ℕ → List Line
+new_lines b t = line (not (leb t 1 && fits (line_table_from t) (length b))) BlockMalformed ∷ []
 
-abbrev pub outLines : List ℕ → List ℕ → ℕ → ℕ → List Line
-outLines b m p v = malformed b ∷ writeLines (state_of b) m p v
+abbrev pub out_lines : List ℕ → List ℕ → ℕ → ℕ → List Line
+out_lines b m p v = malformed b ∷ write_lines (state_of b) m p v
 
-abbrev pub inputLines : List ℕ → List ℕ → ℕ → List Line
-inputLines b m p = malformed b ∷ readLines (state_of b) m p
+abbrev pub input_lines : List ℕ → List ℕ → ℕ → List Line
+input_lines b m p = malformed b ∷ read_lines (state_of b) m p
 
 -- a step of area number n whose own lines are `lines`, and a dump
-abbrev pub stepCallLines : List ℕ → ℕ → List Line → List Line
-stepCallLines b n lines = malformed b ∷ line (not (leb n 2)) UnknownArea ∷ lines
+abbrev pub step_call_lines : List ℕ → ℕ → List Line → List Line
+step_call_lines b n lines = malformed b ∷ line (not (leb n 2)) UnknownArea ∷ lines
 
-abbrev pub dumpCallLines : List ℕ → List ℕ → ℕ → List Line
-dumpCallLines b m size = malformed b ∷ dumpLines m size
+abbrev pub dump_call_lines : List ℕ → List ℕ → ℕ → List Line
+dump_call_lines b m size = malformed b ∷ dump_lines m size

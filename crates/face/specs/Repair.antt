@@ -3,10 +3,10 @@
 use Rattle.std.specs.Prelude.{List, ℕ, ◌*◌, length}
 use Rattle.laws.specs.Lists.{written}
 use Rattle.refusal.specs.Refusals.{under}
-use Rattle.block_repair.specs.Repair.{mended, changes, repairLines}
+use Rattle.block_repair.specs.Repair.{mended, changes, repair_lines}
 use Rattle.face.specs.Face.{Called, refused}
 
-unfoldable pub repairCall : List ℕ → List ℕ → Called
-repairCall b l =
-    under (repairLines b (length l)) (λ r. refused r b l)
+unfoldable pub repair_call : List ℕ → List ℕ → Called
+repair_call b l =
+    under (repair_lines b (length l)) (λ r. refused r b l)
     (record { word = 256 * length (changes b); block = mended b; lent = written l 0 (changes b) })

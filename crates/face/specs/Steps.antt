@@ -7,18 +7,18 @@ use Rattle.points.specs.declared.DrawnRow.{DrawnRow}
 use Rattle.points.specs.declared.DrawnRow.TheVariants.{NoRow, Drawn}
 use Rattle.points.specs.declared.Due.{Due}
 use Rattle.points.specs.declared.Points.{Points}
-use Rattle.points.specs.Due.{pointsBy}
-use Rattle.block_parts.specs.Parts.{registersIn, rasterStored, cacheStored}
+use Rattle.points.specs.Due.{points_by}
+use Rattle.block_parts.specs.Parts.{registers_in, raster_stored, cache_stored}
 
 -- the points of what was due, once a row that sets these bits is drawn, if one was to be
-abbrev pub pointsIn : List ℕ → ℕ → Due → Points
-pointsIn b bits d = pointsBy (registersIn b) (at b 2) bits d
+abbrev pub points_in : List ℕ → ℕ → Due → Points
+points_in b bits d = points_by (registers_in b) (at b 2) bits d
 
 -- R4.2: the colours that a row is drawn with, where they are dirty
-abbrev pub coloursStored : ℕ → ℕ → DrawnRow → List ℕ → List ℕ → List ℕ
-coloursStored dirty cache NoRow colours b = b
-coloursStored dirty cache (Drawn y) colours b = cond (eqb (at b dirty) 1) (cacheStored cache dirty colours b) b
+abbrev pub colours_stored : ℕ → ℕ → DrawnRow → List ℕ → List ℕ → List ℕ
+colours_stored dirty cache NoRow colours b = b
+colours_stored dirty cache (Drawn y) colours b = cond (eqb (at b dirty) 1) (cache_stored cache dirty colours b) b
 
 -- the status and the raster that the points leave
-abbrev pub pointsStored : ℕ → Points → List ℕ → List ℕ
-pointsStored scroll p b = rasterStored scroll p.status p.raster b
+abbrev pub points_stored : ℕ → Points → List ℕ → List ℕ
+points_stored scroll p b = raster_stored scroll p.status p.raster b

@@ -2,14 +2,14 @@
 -- read buffer neither.
 -- Assumes nothing.
 use Rattle.std.specs.Prelude.{List, [], ℕ, length}
-use Rattle.refusal.specs.Refusals.{refusalNumber}
-use Rattle.tile_codes.specs.Calls.{readTileRefusal, writeTileRefusal, tileWritten, tileRead}
+use Rattle.refusal.specs.Refusals.{refusal_number}
+use Rattle.tile_codes.specs.Calls.{read_tile_refusal, write_tile_refusal, tile_written, tile_read}
 use Rattle.face.specs.Face.{Called}
 
 -- the buffer that it may write is video memory
-unfoldable pub writeTileCall : List ℕ → ℕ → List ℕ → Called
-writeTileCall m n codes = record { word = refusalNumber (writeTileRefusal m n codes); block = []; lent = tileWritten m n codes }
+unfoldable pub write_tile_call : List ℕ → ℕ → List ℕ → Called
+write_tile_call m n codes = record { word = refusal_number (write_tile_refusal m n codes); block = []; lent = tile_written m n codes }
 
 -- the buffer that it may write is the one for the codes
-unfoldable pub readTileCall : List ℕ → ℕ → List ℕ → Called
-readTileCall m n codes = record { word = refusalNumber (readTileRefusal m n (length codes)); block = []; lent = tileRead m n codes }
+unfoldable pub read_tile_call : List ℕ → ℕ → List ℕ → Called
+read_tile_call m n codes = record { word = refusal_number (read_tile_refusal m n (length codes)); block = []; lent = tile_read m n codes }

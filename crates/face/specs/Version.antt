@@ -3,8 +3,8 @@
 use Rattle.std.specs.Prelude.{ℕ, ◌+◌, ◌*◌}
 
 -- major, minor and small: major goes up where a program that was right may have to change, minor where calls are added, small where neither is so
-abbrev pub versionOf : ℕ → ℕ → ℕ → ℕ
-versionOf major minor small = 65536 * major + 256 * minor + small
+abbrev pub version_of : ℕ → ℕ → ℕ → ℕ
+version_of major minor small = 65536 * major + 256 * minor + small
 
 abbrev pub version : ℕ
-version = versionOf 4 6 0
+version = version_of 4 6 0

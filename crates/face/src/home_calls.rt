@@ -1,13 +1,13 @@
 // The home machine's calls of the C face (R21.1): as the handheld's, on a home block.
 ghost use Rattle.std.specs.Prelude.{[], ◌≡◌, cond, ℕ, ◌<◌, length};
 ghost use Rattle.laws.specs.Lists.{at};
-ghost use Rattle.refusal.specs.Refusals.{refusalNumber, first};
-ghost use Rattle.word.specs.Called.{Leaves, askedLines};
-ghost use Rattle.home.specs.Step.{coloursNow};
+ghost use Rattle.refusal.specs.Refusals.{refusal_number, first};
+ghost use Rattle.word.specs.Called.{Leaves, asked_lines};
+ghost use Rattle.home.specs.Step.{colours_now};
 ghost use Rattle.points.specs.declared.DrawnRow.TheVariants.{Drawn};
-ghost use Rattle.home_block.specs.HomeBlock.{blockSize, state_of, wellFormed};
-ghost use Rattle.face.specs.Home.{newTableCall, newCall, outCall, inputCall, stepCall, rowStepCall, dumpCall};
-ghost use Rattle.face.specs.HomePixel.{pixelCall};
+ghost use Rattle.home_block.specs.HomeBlock.{block_size, state_of, well_formed};
+ghost use Rattle.face.specs.Home.{new_table_call, new_call, out_call, input_call, step_call, row_step_call, dump_call};
+ghost use Rattle.face.specs.HomePixel.{pixel_call};
 ghost use Rattle.face.specs.HomeLayers.{LayerRowLeaves, LayerFrameLeaves};
 
 use super::{left, store_colours};
@@ -19,7 +19,7 @@ use row::points_run;
 // A fresh device of this table into the block.
 #[unsafe(no_mangle)]
 pub extern "C" fn vdp_home_new_table(state: &mut [u8], table: u8) -> u32
-    ensures { Leaves (newTableCall state.old table) result state.new [] }
+    ensures { Leaves (new_table_call state.old table) result state.new [] }
 {
     if !small::both(table <= 1, state.len() == home_block::BLOCK_SIZE) {
         return word::number(Refusal::BlockMalformed);
@@ -31,14 +31,14 @@ pub extern "C" fn vdp_home_new_table(state: &mut [u8], table: u8) -> u32
 // The same with no table named: the chart's.
 #[unsafe(no_mangle)]
 pub extern "C" fn vdp_home_new(state: &mut [u8]) -> u32
-    ensures { Leaves (newCall state.old) result state.new [] }
+    ensures { Leaves (new_call state.old) result state.new [] }
 {
     vdp_home_new_table(state, raster::unnamed_table())
 }
 
 // The number by which a call on the block is refused before its own tests, 0 where it is not: no area is asked for, so that it is the block's alone.
 fn asked(state: &[u8]) -> u32
-    ensures { result ≡ refusalNumber (first (askedLines (wellFormed state.now) 0)) }
+    ensures { result ≡ refusal_number (first (asked_lines (well_formed state.now) 0)) }
 {
     word::asked(home_block::well_formed(state), 0)
 }
@@ -46,7 +46,7 @@ fn asked(state: &[u8]) -> u32
 // A port write.
 #[unsafe(no_mangle)]
 pub extern "C" fn vdp_home_out(state: &mut [u8], vram: &mut [u8], port: u16, value: u8) -> u32
-    ensures { Leaves (outCall state.old vram.old port value) result state.new vram.new }
+    ensures { Leaves (out_call state.old vram.old port value) result state.new vram.new }
 {
     let refused = asked(state);
     if refused != 0 {
@@ -58,7 +58,7 @@ pub extern "C" fn vdp_home_out(state: &mut [u8], vram: &mut [u8], port: u16, val
 // A port read; its byte is in bits 8 to 15 of the answer.
 #[unsafe(no_mangle)]
 pub extern "C" fn vdp_home_input(state: &mut [u8], vram: &[u8], port: u16) -> u32
-    ensures { Leaves (inputCall state.old vram.now port) result state.new [] }
+    ensures { Leaves (input_call state.old vram.now port) result state.new [] }
 {
     let refused = asked(state);
     if refused != 0 {
@@ -71,8 +71,8 @@ pub extern "C" fn vdp_home_input(state: &mut [u8], vram: &[u8], port: u16) -> u3
 
 // The colours that a step of the block's device which is due draws a row with; where it draws none, none are made.
 fn colours_of(state: &[u8], due: Due) -> [u32; 32]
-    requires { length state.now ≡ blockSize }
-    ensures { (y : ℕ) → due.row ≡ Drawn y → result ≡ coloursNow (state_of state.now) }
+    requires { length state.now ≡ block_size }
+    ensures { (y : ℕ) → due.row ≡ Drawn y → result ≡ colours_now (state_of state.now) }
 {
     let row = due.row;
     let DrawnRow::Drawn(_) = row else {
@@ -87,7 +87,7 @@ fn colours_of(state: &[u8], due: Due) -> [u32; 32]
 // A step, whose row goes to its place in the frame.
 #[unsafe(no_mangle)]
 pub extern "C" fn vdp_home_step(state: &mut [u8], vram: &[u8], frame: &mut [u8]) -> u32
-    ensures { Leaves (stepCall state.old vram.now frame.old) result state.new frame.new }
+    ensures { Leaves (step_call state.old vram.now frame.old) result state.new frame.new }
 {
     let view: &[u8] = state;
     let refused = asked(view);
@@ -109,7 +109,7 @@ pub extern "C" fn vdp_home_step(state: &mut [u8], vram: &[u8], frame: &mut [u8])
 // A step, whose row goes to the first bytes of the row buffer.
 #[unsafe(no_mangle)]
 pub extern "C" fn vdp_home_row_step(state: &mut [u8], vram: &[u8], row: &mut [u8]) -> u32
-    ensures { Leaves (rowStepCall state.old vram.now row.old) result state.new row.new }
+    ensures { Leaves (row_step_call state.old vram.now row.old) result state.new row.new }
 {
     let view: &[u8] = state;
     let refused = asked(view);
@@ -185,7 +185,7 @@ pub extern "C" fn vdp_home_layer_row_step(
 // All tiles into the pixels; the block is only read.
 #[unsafe(no_mangle)]
 pub extern "C" fn vdp_home_dump_tileset(state: &[u8], vram: &[u8], pixels: &mut [u8]) -> u32
-    ensures { Leaves (dumpCall state.now vram.now pixels.old) result state.now pixels.new }
+    ensures { Leaves (dump_call state.now vram.now pixels.old) result state.now pixels.new }
 {
     let refused = asked(state);
     if refused != 0 {
@@ -198,8 +198,8 @@ pub extern "C" fn vdp_home_dump_tileset(state: &[u8], vram: &[u8], pixels: &mut 
 // The colour of a pixel, 0 where there is none: of the number n that a row of the block's device is drawn with. Where the colours are dirty that one is made
 // of the palette.
 fn shown(state: &[u8], there: bool, n: usize) -> u32
-    requires { (length state.now ≡ blockSize) × (n < 32) }
-    ensures { result ≡ cond there (at (coloursNow (state_of state.now)) n) 0 }
+    requires { (length state.now ≡ block_size) × (n < 32) }
+    ensures { result ≡ cond there (at (colours_now (state_of state.now)) n) 0 }
 {
     if !there {
         return 0;
@@ -213,7 +213,7 @@ fn shown(state: &[u8], there: bool, n: usize) -> u32
 // One pixel of the row as it would be drawn now, the fill among it; the block is only read.
 #[unsafe(no_mangle)]
 pub extern "C" fn vdp_home_pixel(state: &[u8], vram: &[u8], row: u32, column: u32) -> u64
-    ensures { result ≡ pixelCall state.now vram.now row column }
+    ensures { result ≡ pixel_call state.now vram.now row column }
 {
     let refused = asked(state);
     if refused != 0 {

@@ -1,23 +1,23 @@
 // The C face (R7.4): the device's calls over a state block, and answers by R7.7. A slice passes as a pointer and a length.
 ghost use Rattle.std.specs.Prelude.{[], ◌≡◌, cond, ℕ, ◌+◌, ◌*◌, ◌≤◌, ◌<◌, length};
-ghost use Rattle.refusal.specs.Refusals.{refusalNumber, first};
+ghost use Rattle.refusal.specs.Refusals.{refusal_number, first};
 ghost use Rattle.laws.specs.Lists.{at};
 ghost use Rattle.points.specs.declared.DrawnRow.TheVariants.{Drawn};
-ghost use Rattle.word.specs.Word.{pointsWord};
-ghost use Rattle.word.specs.Called.{askedLines};
-ghost use Rattle.picture.specs.Area.{areaFrom, screenOf};
-ghost use Rattle.fields.specs.Stored.{frontEnd};
-ghost use Rattle.block.specs.Block.{oldSize, wellFormed, state_of};
-ghost use Rattle.step.specs.Step.{coloursNow};
-ghost use Rattle.face.specs.Steps.{pointsIn, coloursStored, pointsStored};
-ghost use Rattle.face.specs.Tiles.{writeTileCall, readTileCall};
-ghost use Rattle.face.specs.Face.{newTableCall, newCall, outCall, inputCall, stepCall, rowStepCall, dumpCall, Leaves};
+ghost use Rattle.word.specs.Word.{points_word};
+ghost use Rattle.word.specs.Called.{asked_lines};
+ghost use Rattle.picture.specs.Area.{area_from, screen_of};
+ghost use Rattle.fields.specs.Stored.{front_end};
+ghost use Rattle.block.specs.Block.{old_size, well_formed, state_of};
+ghost use Rattle.step.specs.Step.{colours_now};
+ghost use Rattle.face.specs.Steps.{points_in, colours_stored, points_stored};
+ghost use Rattle.face.specs.Tiles.{write_tile_call, read_tile_call};
+ghost use Rattle.face.specs.Face.{new_table_call, new_call, out_call, input_call, step_call, row_step_call, dump_call, Leaves};
 ghost use Rattle.face.specs.Layers.{LayerRowLeaves, LayerFrameLeaves};
 ghost use Rattle.trace_record.specs.declared.Record.TheVariants.{Write, Read};
-ghost use Rattle.face.specs.Record.{recordCall, recordStepCall, bytesWord, nextCall};
-ghost use Rattle.face.specs.Repair.{repairCall};
+ghost use Rattle.face.specs.Record.{record_call, record_step_call, bytes_word, next_call};
+ghost use Rattle.face.specs.Repair.{repair_call};
 ghost use Rattle.face.specs.Version.{version};
-ghost use Rattle.face.specs.Pixel.{pixelCall};
+ghost use Rattle.face.specs.Pixel.{pixel_call};
 
 pub mod home_calls;
 
@@ -30,7 +30,7 @@ use trace_record::{Record, Recorded};
 // A fresh device of this table into the block, in the version that the block's length tells.
 #[unsafe(no_mangle)]
 pub extern "C" fn vdp_new_table(state: &mut [u8], table: u8) -> u32
-    ensures { Leaves (newTableCall state.old table) result state.new [] }
+    ensures { Leaves (new_table_call state.old table) result state.new [] }
 {
     let named = raster::table_from(table);
     if !small::both(table <= 1, block::has_room(named, state.len())) {
@@ -43,14 +43,14 @@ pub extern "C" fn vdp_new_table(state: &mut [u8], table: u8) -> u32
 // The same with no table named: the chart's.
 #[unsafe(no_mangle)]
 pub extern "C" fn vdp_new(state: &mut [u8]) -> u32
-    ensures { Leaves (newCall state.old) result state.new [] }
+    ensures { Leaves (new_call state.old) result state.new [] }
 {
     vdp_new_table(state, raster::unnamed_table())
 }
 
 // The number by which a call on the block is refused before its own tests, 0 where it is not; one that asks for no area has area 0.
 fn asked(state: &[u8], area: u8) -> u32
-    ensures { result ≡ refusalNumber (first (askedLines (wellFormed state.now) area)) }
+    ensures { result ≡ refusal_number (first (asked_lines (well_formed state.now) area)) }
 {
     word::asked(block::well_formed(state), area)
 }
@@ -58,7 +58,7 @@ fn asked(state: &[u8], area: u8) -> u32
 // A port write.
 #[unsafe(no_mangle)]
 pub extern "C" fn vdp_out(state: &mut [u8], vram: &mut [u8], port: u16, value: u8) -> u32
-    ensures { Leaves (outCall state.old vram.old port value) result state.new vram.new }
+    ensures { Leaves (out_call state.old vram.old port value) result state.new vram.new }
 {
     let refused = asked(state, 0);
     if refused != 0 {
@@ -70,7 +70,7 @@ pub extern "C" fn vdp_out(state: &mut [u8], vram: &mut [u8], port: u16, value: u
 // A port read; its byte is in bits 8 to 15 of the answer.
 #[unsafe(no_mangle)]
 pub extern "C" fn vdp_input(state: &mut [u8], vram: &[u8], port: u16) -> u32
-    ensures { Leaves (inputCall state.old vram.now port) result state.new [] }
+    ensures { Leaves (input_call state.old vram.now port) result state.new [] }
 {
     let refused = asked(state, 0);
     if refused != 0 {
@@ -83,8 +83,8 @@ pub extern "C" fn vdp_input(state: &mut [u8], vram: &[u8], port: u16) -> u32
 
 // The colours that a step of the block's device which is due draws a row with; where it draws none, none are made.
 fn colours_of(state: &[u8], due: Due) -> [u32; 32]
-    requires { oldSize ≤ length state.now }
-    ensures { (y : ℕ) → due.row ≡ Drawn y → result ≡ coloursNow (state_of state.now) }
+    requires { old_size ≤ length state.now }
+    ensures { (y : ℕ) → due.row ≡ Drawn y → result ≡ colours_now (state_of state.now) }
 {
     let row = due.row;
     let DrawnRow::Drawn(_) = row else {
@@ -101,7 +101,7 @@ fn colours_of(state: &[u8], due: Due) -> [u32; 32]
 // The colours into the block, whose dirty flag and cache stand at these places, if a row is drawn with them and they are not there already.
 fn store_colours(state: &mut [u8], due: Due, colours: &[u32; 32], dirty: usize, cache: usize)
     requires { (dirty < length state.old) × (cache + 128 ≤ length state.old) }
-    ensures { state.new ≡ coloursStored dirty cache due.row colours.now state.old }
+    ensures { state.new ≡ colours_stored dirty cache due.row colours.now state.old }
 {
     let row = due.row;
     let DrawnRow::Drawn(_) = row else {
@@ -115,9 +115,9 @@ fn store_colours(state: &mut [u8], due: Due, colours: &[u32; 32], dirty: usize, 
 // What the points of a step that was due leave of status and raster once its row, which set these bits, is drawn: into the block, whose scroll stands at this
 // place. Answered by their word.
 fn left(due: Due, bits: u8, state: &mut [u8], scroll: usize) -> u32
-    requires { (frontEnd ≤ length state.old) × (scroll < length state.old) }
-    ensures value { result ≡ pointsWord (pointsIn state.old bits due) }
-    ensures state_after { state.new ≡ pointsStored scroll (pointsIn state.old bits due) state.old }
+    requires { (front_end ≤ length state.old) × (scroll < length state.old) }
+    ensures value { result ≡ points_word (points_in state.old bits due) }
+    ensures state_after { state.new ≡ points_stored scroll (points_in state.old bits due) state.old }
 {
     let view: &[u8] = state;
     let reg = block_parts::registers(view);
@@ -131,7 +131,7 @@ fn left(due: Due, bits: u8, state: &mut [u8], scroll: usize) -> u32
 
 // The screen of an area's number.
 fn screen_from(area: u8) -> Screen
-    ensures { result ≡ screenOf (areaFrom area) }
+    ensures { result ≡ screen_of (area_from area) }
 {
     picture::screen_of(picture::area_from(area))
 }
@@ -139,7 +139,7 @@ fn screen_from(area: u8) -> Screen
 // A step, whose row goes to its place in the frame.
 #[unsafe(no_mangle)]
 pub extern "C" fn vdp_step(state: &mut [u8], vram: &[u8], frame: &mut [u8], area: u8) -> u32
-    ensures { Leaves (stepCall state.old vram.now frame.old area) result state.new frame.new }
+    ensures { Leaves (step_call state.old vram.now frame.old area) result state.new frame.new }
 {
     let view: &[u8] = state;
     let refused = asked(view, area);
@@ -161,7 +161,7 @@ pub extern "C" fn vdp_step(state: &mut [u8], vram: &[u8], frame: &mut [u8], area
 // A step, whose row goes to the first bytes of the row buffer.
 #[unsafe(no_mangle)]
 pub extern "C" fn vdp_row_step(state: &mut [u8], vram: &[u8], row: &mut [u8], area: u8) -> u32
-    ensures { Leaves (rowStepCall state.old vram.now row.old area) result state.new row.new }
+    ensures { Leaves (row_step_call state.old vram.now row.old area) result state.new row.new }
 {
     let view: &[u8] = state;
     let refused = asked(view, area);
@@ -239,7 +239,7 @@ pub extern "C" fn vdp_layer_row_step(
 // All tiles into the pixels; the block is only read.
 #[unsafe(no_mangle)]
 pub extern "C" fn vdp_dump_tileset(state: &[u8], vram: &[u8], pixels: &mut [u8]) -> u32
-    ensures { Leaves (dumpCall state.now vram.now pixels.old) result state.now pixels.new }
+    ensures { Leaves (dump_call state.now vram.now pixels.old) result state.now pixels.new }
 {
     let refused = asked(state, 0);
     if refused != 0 {
@@ -260,7 +260,7 @@ pub extern "C" fn vdp_version() -> u32
 // The tile of these 64 codes into video memory; no device is asked.
 #[unsafe(no_mangle)]
 pub extern "C" fn vdp_write_tile(vram: &mut [u8], tile: u16, codes: &[u8]) -> u32
-    ensures { Leaves (writeTileCall vram.old tile codes.now) result [] vram.new }
+    ensures { Leaves (write_tile_call vram.old tile codes.now) result [] vram.new }
 {
     word::number(tile_codes::write_tile(vram, tile, codes))
 }
@@ -268,7 +268,7 @@ pub extern "C" fn vdp_write_tile(vram: &mut [u8], tile: u16, codes: &[u8]) -> u3
 // The 64 codes of a tile; video memory is only read.
 #[unsafe(no_mangle)]
 pub extern "C" fn vdp_read_tile(vram: &[u8], tile: u16, codes: &mut [u8]) -> u32
-    ensures { Leaves (readTileCall vram.now tile codes.old) result [] codes.new }
+    ensures { Leaves (read_tile_call vram.now tile codes.old) result [] codes.new }
 {
     word::number(tile_codes::read_tile(vram, tile, codes))
 }
@@ -278,8 +278,8 @@ pub extern "C" fn vdp_read_tile(vram: &[u8], tile: u16, codes: &mut [u8]) -> u32
 // The colour of a pixel, 0 where there is none: of the number n that a row of the block's device is drawn with. Where the colours are dirty that one is made
 // of the palette.
 fn shown(state: &[u8], there: bool, n: usize) -> u32
-    requires { (oldSize ≤ length state.now) × (n < 32) }
-    ensures { result ≡ cond there (at (coloursNow (state_of state.now)) n) 0 }
+    requires { (old_size ≤ length state.now) × (n < 32) }
+    ensures { result ≡ cond there (at (colours_now (state_of state.now)) n) 0 }
 {
     if !there {
         return 0;
@@ -296,7 +296,7 @@ fn shown(state: &[u8], there: bool, n: usize) -> u32
 // One pixel of the row as it would be drawn now; the block is only read.
 #[unsafe(no_mangle)]
 pub extern "C" fn vdp_pixel(state: &[u8], vram: &[u8], area: u8, row: u32, column: u32) -> u64
-    ensures { result ≡ pixelCall state.now vram.now area row column }
+    ensures { result ≡ pixel_call state.now vram.now area row column }
 {
     let refused = asked(state, area);
     if refused != 0 {
@@ -319,7 +319,7 @@ pub extern "C" fn vdp_pixel(state: &[u8], vram: &[u8], area: u8, row: u32, colum
 // A damaged block mended, and the changed offsets at the start of the list.
 #[unsafe(no_mangle)]
 pub extern "C" fn vdp_repair(state: &mut [u8], list: &mut [u8]) -> u32
-    ensures { Leaves (repairCall state.old list.old) result state.new list.new }
+    ensures { Leaves (repair_call state.old list.old) result state.new list.new }
 {
     let repaired = block_repair::repair(state, list);
     let refusal = repaired.refusal;
@@ -330,7 +330,7 @@ pub extern "C" fn vdp_repair(state: &mut [u8], list: &mut [u8]) -> u32
 
 // What the writer answers as a word: the refusal, and from bit 8 on the bytes that the record took.
 fn recorded_word(recorded: Recorded) -> u32
-    ensures { result ≡ refusalNumber recorded.refusal + 256 * recorded.count }
+    ensures { result ≡ refusal_number recorded.refusal + 256 * recorded.count }
 {
     let refusal = recorded.refusal;
     word::number(refusal) + 256 * (recorded.count as u32)
@@ -339,7 +339,7 @@ fn recorded_word(recorded: Recorded) -> u32
 // A port write as a record, into the bytes from `used` on.
 #[unsafe(no_mangle)]
 pub extern "C" fn vdp_record_out(recording: &mut [u8], used: usize, port: u8, value: u8) -> u32
-    ensures { Leaves (recordCall recording.old used (Write port value)) result [] recording.new }
+    ensures { Leaves (record_call recording.old used (Write port value)) result [] recording.new }
 {
     recorded_word(trace_record::put_record(recording, used, Record::Write(port, value)))
 }
@@ -347,7 +347,7 @@ pub extern "C" fn vdp_record_out(recording: &mut [u8], used: usize, port: u8, va
 // A port read.
 #[unsafe(no_mangle)]
 pub extern "C" fn vdp_record_input(recording: &mut [u8], used: usize, port: u8) -> u32
-    ensures { Leaves (recordCall recording.old used (Read port)) result [] recording.new }
+    ensures { Leaves (record_call recording.old used (Read port)) result [] recording.new }
 {
     recorded_word(trace_record::put_record(recording, used, Record::Read(port)))
 }
@@ -355,7 +355,7 @@ pub extern "C" fn vdp_record_input(recording: &mut [u8], used: usize, port: u8) 
 // A step.
 #[unsafe(no_mangle)]
 pub extern "C" fn vdp_record_step(recording: &mut [u8], used: usize, area: u8) -> u32
-    ensures { Leaves (recordStepCall recording.old used area) result [] recording.new }
+    ensures { Leaves (record_step_call recording.old used area) result [] recording.new }
 {
     if picture::LAST_AREA < area {
         return word::number(Refusal::UnknownArea);
@@ -366,7 +366,7 @@ pub extern "C" fn vdp_record_step(recording: &mut [u8], used: usize, area: u8) -
 
 // Four bytes as a word, the first lowest.
 fn bytes_word(a: u8, b: u8, c: u8, d: u8) -> u32
-    ensures { result ≡ bytesWord a b c d }
+    ensures { result ≡ bytes_word a b c d }
 {
     (a as u32) + 256 * (b as u32) + 65536 * (c as u32) + 16777216 * (d as u32)
 }
@@ -374,7 +374,7 @@ fn bytes_word(a: u8, b: u8, c: u8, d: u8) -> u32
 // What stands at an offset of a recording: which kind of record, its port or area, its value and its length.
 #[unsafe(no_mangle)]
 pub extern "C" fn vdp_record_next(recording: &[u8], at: usize) -> u32
-    ensures { result ≡ nextCall recording.now at }
+    ensures { result ≡ next_call recording.now at }
 {
     match trace_record::record_at(recording, at) {
         Record::Write(port, value) => bytes_word(1, port, value, 4),

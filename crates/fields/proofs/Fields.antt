@@ -10,60 +10,60 @@ use Rattle.front.specs.declared.WriteDest.{WriteDest}
 use Rattle.front.specs.declared.WriteDest.TheVariants.{None, Vram, Cram}
 use Rattle.front.specs.declared.Latch.{Latch}
 use Rattle.front.specs.declared.Latch.TheVariants.{Empty, Held}
-use Rattle.fields.specs.Fields.{flagOf, flagFrom, chosen_of, chosenFrom, latchFlag, latchByte, latchFrom, latchFits}
+use Rattle.fields.specs.Fields.{flag_of, flag_from, chosen_of, chosen_from, latch_flag, latch_byte, latch_from, latch_fits}
 
 -- ---- a field is read back
-pub flag-back : (t : Bool) → flagFrom (flagOf t) ≡ t
-flag-back true = refl
-flag-back false = refl
+pub flag_back : (t : Bool) → flag_from (flag_of t) ≡ t
+flag_back true = refl
+flag_back false = refl
 
-pub chosen-back : (w : WriteDest) → chosenFrom (chosen_of w) ≡ w
-chosen-back None = refl
-chosen-back Vram = refl
-chosen-back Cram = refl
+pub chosen_back : (w : WriteDest) → chosen_from (chosen_of w) ≡ w
+chosen_back None = refl
+chosen_back Vram = refl
+chosen_back Cram = refl
 
-pub latch-back : (l : Latch) → latchFrom (latchFlag l) (latchByte l) ≡ l
-latch-back Empty = refl
-latch-back (Held b) = refl
+pub latch_back : (l : Latch) → latch_from (latch_flag l) (latch_byte l) ≡ l
+latch_back Empty = refl
+latch_back (Held b) = refl
 
-pub address-back : (a : ℕ) → a % 256 + 256 * (a / 256) ≡ a
-address-back a = omega arith
+pub address_back : (a : ℕ) → a % 256 + 256 * (a / 256) ≡ a
+address_back a = omega arith
 
 -- ---- and its bytes are what they may be
-pub flag_ok : (t : Bool) → leb (flagOf t) 1 ≡ true
+pub flag_ok : (t : Bool) → leb (flag_of t) 1 ≡ true
 flag_ok true = refl
 flag_ok false = refl
 
-pub chosen-ok : (w : WriteDest) → leb (chosen_of w) 2 ≡ true
-chosen-ok None = refl
-chosen-ok Vram = refl
-chosen-ok Cram = refl
+pub chosen_ok : (w : WriteDest) → leb (chosen_of w) 2 ≡ true
+chosen_ok None = refl
+chosen_ok Vram = refl
+chosen_ok Cram = refl
 
-pub latch-ok : (l : Latch) → leb (latchFlag l) 1 ≡ true
-latch-ok Empty = refl
-latch-ok (Held b) = refl
+pub latch_ok : (l : Latch) → leb (latch_flag l) 1 ≡ true
+latch_ok Empty = refl
+latch_ok (Held b) = refl
 
-pub byte-ok : (l : Latch) → latchFits (latchFlag l) (latchByte l) ≡ true
-byte-ok Empty = refl
-byte-ok (Held b) = refl
+pub byte_ok : (l : Latch) → latch_fits (latch_flag l) (latch_byte l) ≡ true
+byte_ok Empty = refl
+byte_ok (Held b) = refl
 
 -- ---- a byte that may be one is that of the field that is read
-pub flag-in : (x : ℕ) → x ≤ 1 → flagOf (flagFrom x) ≡ x
-flag-in zero h = refl
-flag-in (suc zero) h = refl
-flag-in (suc (suc x)) h = absurd (omega arith)
+pub flag_in : (x : ℕ) → x ≤ 1 → flag_of (flag_from x) ≡ x
+flag_in zero h = refl
+flag_in (suc zero) h = refl
+flag_in (suc (suc x)) h = absurd (omega arith)
 
-pub chosen-in : (x : ℕ) → x ≤ 2 → chosen_of (chosenFrom x) ≡ x
-chosen-in zero h = refl
-chosen-in (suc zero) h = refl
-chosen-in (suc (suc zero)) h = refl
-chosen-in (suc (suc (suc x))) h = absurd (omega arith)
+pub chosen_in : (x : ℕ) → x ≤ 2 → chosen_of (chosen_from x) ≡ x
+chosen_in zero h = refl
+chosen_in (suc zero) h = refl
+chosen_in (suc (suc zero)) h = refl
+chosen_in (suc (suc (suc x))) h = absurd (omega arith)
 
-pub latch-flag-in : (f y : ℕ) → f ≤ 1 → latchFlag (latchFrom f y) ≡ f
-latch-flag-in zero y h = refl
-latch-flag-in (suc zero) y h = refl
-latch-flag-in (suc (suc f)) y h = absurd (omega arith)
+pub latch_flag_in : (f y : ℕ) → f ≤ 1 → latch_flag (latch_from f y) ≡ f
+latch_flag_in zero y h = refl
+latch_flag_in (suc zero) y h = refl
+latch_flag_in (suc (suc f)) y h = absurd (omega arith)
 
-pub latch-byte-in : (f y : ℕ) → latchFits f y ≡ true → latchByte (latchFrom f y) ≡ y
-latch-byte-in zero y h = sym (eqb-true y 0 h)
-latch-byte-in (suc f) y h = rw (ne_eqb (suc f) 0 (λ e. omega arith))
+pub latch_byte_in : (f y : ℕ) → latch_fits f y ≡ true → latch_byte (latch_from f y) ≡ y
+latch_byte_in zero y h = sym (eqb-true y 0 h)
+latch_byte_in (suc f) y h = rw (ne_eqb (suc f) 0 (λ e. omega arith))

@@ -6,32 +6,32 @@ use Rattle.front.specs.declared.WriteDest.TheVariants.{None, Vram, Cram}
 use Rattle.front.specs.declared.Latch.{Latch}
 use Rattle.front.specs.declared.Latch.TheVariants.{Empty, Held}
 
-abbrev pub flagOf : Bool → ℕ
-flagOf true = 1
-flagOf false = 0
+abbrev pub flag_of : Bool → ℕ
+flag_of true = 1
+flag_of false = 0
 
-abbrev pub flagFrom : ℕ → Bool
-flagFrom n = eqb n 1
+abbrev pub flag_from : ℕ → Bool
+flag_from n = eqb n 1
 
 abbrev pub chosen_of : WriteDest → ℕ
 chosen_of None = 0
 chosen_of Vram = 1
 chosen_of Cram = 2
 
-abbrev pub chosenFrom : ℕ → WriteDest
-chosenFrom n = cond (eqb n 0) None (cond (eqb n 1) Vram Cram)
+abbrev pub chosen_from : ℕ → WriteDest
+chosen_from n = cond (eqb n 0) None (cond (eqb n 1) Vram Cram)
 
-abbrev pub latchFlag : Latch → ℕ
-latchFlag Empty = 0
-latchFlag (Held b) = 1
+abbrev pub latch_flag : Latch → ℕ
+latch_flag Empty = 0
+latch_flag (Held b) = 1
 
-abbrev pub latchByte : Latch → ℕ
-latchByte Empty = 0
-latchByte (Held b) = b
+abbrev pub latch_byte : Latch → ℕ
+latch_byte Empty = 0
+latch_byte (Held b) = b
 
-abbrev pub latchFrom : ℕ → ℕ → Latch
-latchFrom flag byte = cond (eqb flag 0) Empty (Held byte)
+abbrev pub latch_from : ℕ → ℕ → Latch
+latch_from flag byte = cond (eqb flag 0) Empty (Held byte)
 
 -- R7.6: nothing stands under an empty latch
-abbrev pub latchFits : ℕ → ℕ → Bool
-latchFits flag byte = not (eqb flag 0) || eqb byte 0
+abbrev pub latch_fits : ℕ → ℕ → Bool
+latch_fits flag byte = not (eqb flag 0) || eqb byte 0

@@ -6,23 +6,23 @@ use Rattle.laws.specs.Lists.{at}
 use Rattle.front.specs.declared.Front.{Front}
 use Rattle.front.specs.declared.Latch.{Latch}
 use Rattle.front.specs.Front.{front, changed}
-use Rattle.fields.specs.Fields.{flagOf, flagFrom, chosen_of, chosenFrom, latchFlag, latchByte, latchFrom, latchFits}
+use Rattle.fields.specs.Fields.{flag_of, flag_from, chosen_of, chosen_from, latch_flag, latch_byte, latch_from, latch_fits}
 
 -- the bytes that a block has to have for the front
-abbrev pub frontEnd : ℕ
-frontEnd = 23
+abbrev pub front_end : ℕ
+front_end = 23
 
 -- the address in a block
-abbrev pub addressIn : List ℕ → ℕ
-addressIn b = at b 17 + 256 * at b 18
+abbrev pub address_in : List ℕ → ℕ
+address_in b = at b 17 + 256 * at b 18
 
 -- the front that a block holds
-unfoldable pub frontIn : List ℕ → Front
-frontIn b = front (at b 2) (take 11 (drop 3 b)) (addressIn b) (at b 19) (chosenFrom (at b 20)) (latchFrom (at b 21) (at b 22))
+unfoldable pub front_in : List ℕ → Front
+front_in b = front (at b 2) (take 11 (drop 3 b)) (address_in b) (at b 19) (chosen_from (at b 20)) (latch_from (at b 21) (at b 22))
 
 -- the same block with front f in it: all other bytes stay
-unfoldable pub frontStored : Front → List ℕ → List ℕ
-frontStored f b =
+unfoldable pub front_stored : Front → List ℕ → List ℕ
+front_stored f b =
     at b 0
     ∷ at b 1
     ∷ f.status
@@ -34,24 +34,24 @@ frontStored f b =
     ∷ f.addr / 256
     ∷ f.vram_buffer
     ∷ chosen_of f.dest
-    ∷ latchFlag f.cmd_byte1
-    ∷ latchByte f.cmd_byte1
-    ∷ drop frontEnd b))
+    ∷ latch_flag f.cmd_byte1
+    ∷ latch_byte f.cmd_byte1
+    ∷ drop front_end b))
 
--- its bytes are those of a front: what is asked of them in a well-formed block (R7.6)
+-- its bytes are those of a front: what is asked of them in a well_formed_lem block (R7.6)
 pub record FrontFormed (b : List ℕ) : Type 0 where
-  pub long : frontEnd ≤ length b
+  pub long : front_end ≤ length b
   pub low : at b 17 < 256
   pub chosen : at b 20 ≤ 2
   pub flag : at b 21 ≤ 1
-  pub byte : latchFits (at b 21) (at b 22) ≡ true
+  pub byte : latch_fits (at b 21) (at b 22) ≡ true
 
 -- ---- a latch and an address stored, and a byte of a palette that begins at place k, with its dirty flag at place d
-abbrev pub latchStored : ℕ → Latch → List ℕ → List ℕ
-latchStored k l b = set (set b k (latchFlag l)) (k + 1) (latchByte l)
+abbrev pub latch_stored : ℕ → Latch → List ℕ → List ℕ
+latch_stored k l b = set (set b k (latch_flag l)) (k + 1) (latch_byte l)
 
-abbrev pub addressStored : ℕ → List ℕ → List ℕ
-addressStored a b = set (set b 17 (a % 256)) 18 (a / 256)
+abbrev pub address_stored : ℕ → List ℕ → List ℕ
+address_stored a b = set (set b 17 (a % 256)) 18 (a / 256)
 
-abbrev pub colourStored : ℕ → ℕ → ℕ → ℕ → List ℕ → List ℕ
-colourStored k d n v b = set (set b d (flagOf (flagFrom (at b d) || changed (at b (k + n)) v))) (k + n) v
+abbrev pub colour_stored : ℕ → ℕ → ℕ → ℕ → List ℕ → List ℕ
+colour_stored k d n v b = set (set b d (flag_of (flag_from (at b d) || changed (at b (k + n)) v))) (k + n) v

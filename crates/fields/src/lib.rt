@@ -2,8 +2,8 @@
 // refused here, where little has to be proved again.
 ghost use Rattle.std.specs.Prelude.{◌≡◌, ◌+◌, ◌≤◌, ◌<◌, length, set};
 ghost use Rattle.laws.specs.Lists.{at};
-ghost use Rattle.fields.specs.Fields.{flagOf, latchFrom};
-ghost use Rattle.fields.specs.Stored.{frontEnd, addressIn, latchStored, addressStored, colourStored};
+ghost use Rattle.fields.specs.Fields.{flag_of, latch_from};
+ghost use Rattle.fields.specs.Stored.{front_end, address_in, latch_stored, address_stored, colour_stored};
 
 use front::Latch;
 
@@ -40,7 +40,7 @@ pub const MARK_FIRST: u8 = 0x56;
 // ---- the small fields as bytes, and back
 
 pub fn flag_of(b: bool) -> u8
-    ensures { result ≡ flagOf b }
+    ensures { result ≡ flag_of b }
 {
     if b { 1 } else { 0 }
 }
@@ -50,7 +50,7 @@ pub fn flag_of(b: bool) -> u8
 // The latch whose flag stands at this place, and its byte behind it.
 pub fn latch_in(block: &[u8], place: usize) -> Latch
     requires { place + 2 ≤ length block.now }
-    ensures { result ≡ latchFrom (at block.now place) (at block.now (place + 1)) }
+    ensures { result ≡ latch_from (at block.now place) (at block.now (place + 1)) }
 {
     if block[place] == 0 {
         Latch::Empty
@@ -61,8 +61,8 @@ pub fn latch_in(block: &[u8], place: usize) -> Latch
 
 // The address.
 pub fn address_in(block: &[u8]) -> u16
-    requires { frontEnd ≤ length block.now }
-    ensures { result ≡ addressIn block.now }
+    requires { front_end ≤ length block.now }
+    ensures { result ≡ address_in block.now }
 {
     small::word(block[ADDRESS], block[ADDRESS_HIGH])
 }
@@ -81,7 +81,7 @@ fn store_two(block: &mut [u8], place: usize, first: u8, second: u8)
 // A latch, its flag at this place.
 pub fn store_latch(block: &mut [u8], place: usize, latch: Latch)
     requires { place + 2 ≤ length block.old }
-    ensures { block.new ≡ latchStored place latch block.old }
+    ensures { block.new ≡ latch_stored place latch block.old }
 {
     match latch {
         Latch::Empty => store_two(block, place, 0, 0),
@@ -91,8 +91,8 @@ pub fn store_latch(block: &mut [u8], place: usize, latch: Latch)
 
 // An address, low byte first.
 pub fn store_address(block: &mut [u8], address: u16)
-    requires { frontEnd ≤ length block.old }
-    ensures { block.new ≡ addressStored address block.old }
+    requires { front_end ≤ length block.old }
+    ensures { block.new ≡ address_stored address block.old }
 {
     store_two(block, ADDRESS, (address % 256) as u8, (address / 256) as u8);
 }
@@ -100,7 +100,7 @@ pub fn store_address(block: &mut [u8], address: u16)
 // Byte n of a palette that begins at `palette`; the flag at `dirty` is up afterwards where it was, or where the byte is another than before.
 pub fn store_colour(block: &mut [u8], palette: usize, dirty: usize, n: usize, val: u8)
     requires { (palette + n < length block.old) × (dirty < length block.old) }
-    ensures { block.new ≡ colourStored palette dirty n val block.old }
+    ensures { block.new ≡ colour_stored palette dirty n val block.old }
 {
     let here = palette + n;
     let behind = (block[dirty] == 1) | (block[here] != val);

@@ -18,16 +18,16 @@ use Rattle.refusal.specs.declared.Refusal.{Refusal}
 use Rattle.refusal.specs.declared.Refusal.TheVariants.{Accepted, UnknownPort, HorizontalCounter, HighRegister, NothingChosen, PaletteRead}
 use Rattle.refusal.specs.declared.Refusal.TheVariants.{NoPaletteByte, OutsideMemory, VramLength, PixelLength, BlockMalformed, UnknownArea}
 use Rattle.refusal.specs.declared.Refusal.TheVariants.{FrameTooLong, UnknownTile, CodesLength, HighCode, LayerLength, ListLength, RecordRoom}
-use Rattle.front.specs.Front.{FrontAfter, emptied, commandBy, dataBy, read_by}
-use Rattle.refusal.specs.Refusals.{refusalNumber, whole}
-use Rattle.front.specs.Lines.{leftBehind, isPort}
-use Rattle.front.specs.Ports.{frontWrite, frontRead}
+use Rattle.front.specs.Front.{FrontAfter, emptied, command_by, data_by, read_by}
+use Rattle.refusal.specs.Refusals.{refusal_number, whole}
+use Rattle.front.specs.Lines.{left_behind, is_port}
+use Rattle.front.specs.Ports.{front_write, front_read}
 
 pub accepted : {G : Type 0} → Accepted ≢ Accepted → G
 accepted n = absurd (n refl)
 
 -- ---- the column by numbers: 3 to 7 empty the command latch, the others leave it
-pub left_is : (r : Refusal) (f : Front) → leftBehind r f ≡ cond (leb 3 (refusalNumber r) && leb (refusalNumber r) 7) (emptied f) f
+pub left_is : (r : Refusal) (f : Front) → left_behind r f ≡ cond (leb 3 (refusal_number r) && leb (refusal_number r) 7) (emptied f) f
 left_is Accepted f = refl
 left_is UnknownPort f = refl
 left_is HorizontalCounter f = refl
@@ -51,51 +51,51 @@ left_is RecordRoom f = refl
 -- ---- of a front: where an answer is a refusal, it leaves what the column says
 module _ (f : Front) where
   abbrev LeftF : FrontWritten → Type 0
-  LeftF a = a.refusal ≢ Accepted → a.front ≡ leftBehind a.refusal f
+  LeftF a = a.refusal ≢ Accepted → a.front ≡ left_behind a.refusal f
 
   pub record FrontLeft (m : List ℕ) (a : FrontAfter) : Type 0 where
     pub front : LeftF a.answer
     pub memory : a.answer.refusal ≢ Accepted → a.vram ≡ m
 
   pub record FrontReadLeft (a : FrontRead) : Type 0 where
-    pub front : a.refusal ≢ Accepted → a.front ≡ leftBehind a.refusal f
+    pub front : a.refusal ≢ Accepted → a.front ≡ left_behind a.refusal f
     pub zero : a.refusal ≢ Accepted → a.byte ≡ 0
 
-  command : (l : Latch) (n : ℕ) (m : List ℕ) (v : ℕ) → LeftF (commandBy l n f m v)
+  command : (l : Latch) (n : ℕ) (m : List ℕ) (v : ℕ) → LeftF (command_by l n f m v)
   command Empty n m v = accepted
   command (Held d) n m v =
       either LeftF (eqb (v / 64) 0) (λ _. accepted)
       (λ _. either LeftF (eqb (v / 64) 1) (λ _. accepted)
       (λ _. either LeftF (eqb (v / 64) 2) (λ _. either LeftF (ltb 10 (v % 128)) (λ _ _. refl) (λ _. accepted)) (λ _. accepted)))
 
-  to-chosen : (d : WriteDest) (n : ℕ) (m : List ℕ) (v : ℕ) → FrontLeft m (dataBy d n (emptied f) m v)
-  to-chosen None n m v = record { front = λ _. refl; memory = λ _. refl }
-  to-chosen Vram n m v =
+  to_chosen : (d : WriteDest) (n : ℕ) (m : List ℕ) (v : ℕ) → FrontLeft m (data_by d n (emptied f) m v)
+  to_chosen None n m v = record { front = λ _. refl; memory = λ _. refl }
+  to_chosen Vram n m v =
       either (FrontLeft m) (ltb f.addr 16384) (λ _. record { front = accepted; memory = accepted })
       (λ _. record { front = λ _. refl; memory = λ _. refl })
-  to-chosen Cram n m v = record { front = either LeftF (ltb f.addr n) (λ _. accepted) (λ _ _. refl); memory = λ _. refl }
+  to_chosen Cram n m v = record { front = either LeftF (ltb f.addr n) (λ _. accepted) (λ _ _. refl); memory = λ _. refl }
 
-  pub front-write-behind : (n : ℕ) (m : List ℕ) (p v : ℕ) → FrontLeft m (frontWrite n f m p v)
-  unfolding frontWrite
-  front-write-behind n m p v =
+  pub front_write_behind : (n : ℕ) (m : List ℕ) (p v : ℕ) → FrontLeft m (front_write n f m p v)
+  unfolding front_write
+  front_write_behind n m p v =
       either (FrontLeft m) (whole m)
-      (λ _. either (FrontLeft m) (isPort 0xBF p) (λ _. record { front = command f.cmd_byte1 n m v; memory = λ _. refl })
-      (λ _. either (FrontLeft m) (isPort 0xBE p) (λ _. to-chosen f.dest n m v) (λ _. record { front = λ _. refl; memory = λ _. refl })))
+      (λ _. either (FrontLeft m) (is_port 0xBF p) (λ _. record { front = command f.cmd_byte1 n m v; memory = λ _. refl })
+      (λ _. either (FrontLeft m) (is_port 0xBE p) (λ _. to_chosen f.dest n m v) (λ _. record { front = λ _. refl; memory = λ _. refl })))
       (λ _. record { front = λ _. refl; memory = λ _. refl })
 
-  from-chosen : (d : WriteDest) (m : List ℕ) → FrontReadLeft (read_by d (emptied f) m)
-  from-chosen None m = record { front = λ _. refl; zero = λ _. refl }
-  from-chosen Cram m = record { front = λ _. refl; zero = λ _. refl }
-  from-chosen Vram m =
+  from_chosen : (d : WriteDest) (m : List ℕ) → FrontReadLeft (read_by d (emptied f) m)
+  from_chosen None m = record { front = λ _. refl; zero = λ _. refl }
+  from_chosen Cram m = record { front = λ _. refl; zero = λ _. refl }
+  from_chosen Vram m =
       either FrontReadLeft (ltb f.addr 16384) (λ _. record { front = accepted; zero = accepted })
       (λ _. record { front = λ _. refl; zero = λ _. refl })
 
-  pub front-read-behind : (m : List ℕ) (p counter : ℕ) → FrontReadLeft (frontRead f m p counter)
-  unfolding frontRead
-  front-read-behind m p counter =
+  pub front_read_behind : (m : List ℕ) (p counter : ℕ) → FrontReadLeft (front_read f m p counter)
+  unfolding front_read
+  front_read_behind m p counter =
       either FrontReadLeft (whole m)
-      (λ _. either FrontReadLeft (isPort 0x7E p) (λ _. record { front = accepted; zero = accepted })
-      (λ _. either FrontReadLeft (isPort 0x7F p) (λ _. record { front = λ _. refl; zero = λ _. refl })
-      (λ _. either FrontReadLeft (isPort 0xBF p) (λ _. record { front = accepted; zero = accepted })
-      (λ _. either FrontReadLeft (isPort 0xBE p) (λ _. from-chosen f.dest m) (λ _. record { front = λ _. refl; zero = λ _. refl })))))
+      (λ _. either FrontReadLeft (is_port 0x7E p) (λ _. record { front = accepted; zero = accepted })
+      (λ _. either FrontReadLeft (is_port 0x7F p) (λ _. record { front = λ _. refl; zero = λ _. refl })
+      (λ _. either FrontReadLeft (is_port 0xBF p) (λ _. record { front = accepted; zero = accepted })
+      (λ _. either FrontReadLeft (is_port 0xBE p) (λ _. from_chosen f.dest m) (λ _. record { front = λ _. refl; zero = λ _. refl })))))
       (λ _. record { front = λ _. refl; zero = λ _. refl })

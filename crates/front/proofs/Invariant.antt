@@ -17,11 +17,11 @@ use Rattle.front.specs.declared.WriteDest.{WriteDest}
 use Rattle.front.specs.declared.WriteDest.TheVariants.{None, Vram, Cram}
 use Rattle.front.specs.declared.Latch.{Latch}
 use Rattle.front.specs.declared.Latch.TheVariants.{Empty, Held}
-use Rattle.front.specs.Front.{FrontAfter, emptied, secondByte, commandBy, dataBy, read_by}
-use Rattle.refusal.specs.Refusals.{refusalNumber, Line, first, whole}
-use Rattle.front.specs.Lines.{size_of, isPort, frontWriteLines, frontReadLines}
-use Rattle.front.specs.Ports.{frontWrite, frontRead}
-use Rattle.refusal.proofs.Tables.{Silent, first-not}
+use Rattle.front.specs.Front.{FrontAfter, emptied, second_byte, command_by, data_by, read_by}
+use Rattle.refusal.specs.Refusals.{refusal_number, Line, first, whole}
+use Rattle.front.specs.Lines.{size_of, is_port, front_write_lines, front_read_lines}
+use Rattle.front.specs.Ports.{front_write, front_read}
+use Rattle.refusal.proofs.Tables.{Silent, first_not}
 
 -- ---- of a front, with n bytes of palette
 abbrev pub AimedFront : ℕ → Front → Type 0
@@ -37,65 +37,65 @@ module _ (n : ℕ) (some : 0 < n) where
   abbrev LeftAfter : FrontAfter → Type 0
   LeftAfter a = AimedFront n a.answer.front
 
-  second-byte : (f : Front) (m : List ℕ) (d v : ℕ) → AimedFront n f → Left (secondByte n f m d v)
-  second-byte f m d v h =
+  second_byte_lem : (f : Front) (m : List ℕ) (d v : ℕ) → AimedFront n f → Left (second_byte n f m d v)
+  second_byte_lem f m d v h =
       either Left (eqb (v / 64) 0) (λ _. omega arith)
       (λ _. either Left (eqb (v / 64) 1) (λ _. omega arith)
       (λ _. either Left (eqb (v / 64) 2) (λ _. either Left (ltb 10 (v % 128)) (λ _. h) (λ _. h)) (λ _. mod-lt d some)))
 
-  command-by : (l : Latch) (f : Front) (m : List ℕ) (v : ℕ) → AimedFront n f → Left (commandBy l n f m v)
-  command-by Empty f m v h = h
-  command-by (Held d) f m v h = second-byte (emptied f) m d v h
+  command_by_lem : (l : Latch) (f : Front) (m : List ℕ) (v : ℕ) → AimedFront n f → Left (command_by l n f m v)
+  command_by_lem Empty f m v h = h
+  command_by_lem (Held d) f m v h = second_byte_lem (emptied f) m d v h
 
-  data-by : (d : WriteDest) (f : Front) (m : List ℕ) (v : ℕ) → f.dest ≡ d → AimedFront n f → LeftAfter (dataBy d n f m v)
-  data-by None f m v e h = h
-  data-by Vram f m v e h = either LeftAfter (ltb f.addr 16384) (λ _. rw e (omega arith)) (λ _. h)
-  data-by Cram f m v e h = either Left (ltb f.addr n) (λ _. h) (λ _. h)
+  data_by_lem : (d : WriteDest) (f : Front) (m : List ℕ) (v : ℕ) → f.dest ≡ d → AimedFront n f → LeftAfter (data_by d n f m v)
+  data_by_lem None f m v e h = h
+  data_by_lem Vram f m v e h = either LeftAfter (ltb f.addr 16384) (λ _. rw e (omega arith)) (λ _. h)
+  data_by_lem Cram f m v e h = either Left (ltb f.addr n) (λ _. h) (λ _. h)
 
-  read-by : (d : WriteDest) (f : Front) (m : List ℕ) → f.dest ≡ d → AimedFront n f → LeftRead (read_by d f m)
-  read-by None f m e h = h
-  read-by Cram f m e h = h
-  read-by Vram f m e h = either LeftRead (ltb f.addr 16384) (λ _. rw e (omega arith)) (λ _. h)
+  read_by_lem : (d : WriteDest) (f : Front) (m : List ℕ) → f.dest ≡ d → AimedFront n f → LeftRead (read_by d f m)
+  read_by_lem None f m e h = h
+  read_by_lem Cram f m e h = h
+  read_by_lem Vram f m e h = either LeftRead (ltb f.addr 16384) (λ _. rw e (omega arith)) (λ _. h)
 
-  pub front-write-aimed : (f : Front) (m : List ℕ) (p v : ℕ) → AimedFront n f → AimedFront n (frontWrite n f m p v).answer.front
-  unfolding frontWrite
-  front-write-aimed f m p v h =
+  pub front_write_aimed : (f : Front) (m : List ℕ) (p v : ℕ) → AimedFront n f → AimedFront n (front_write n f m p v).answer.front
+  unfolding front_write
+  front_write_aimed f m p v h =
       either LeftAfter (whole m)
-      (λ _. either LeftAfter (isPort 0xBF p) (λ _. command-by f.cmd_byte1 f m v h)
-      (λ _. either LeftAfter (isPort 0xBE p) (λ _. data-by f.dest (emptied f) m v refl h) (λ _. h)))
+      (λ _. either LeftAfter (is_port 0xBF p) (λ _. command_by_lem f.cmd_byte1 f m v h)
+      (λ _. either LeftAfter (is_port 0xBE p) (λ _. data_by_lem f.dest (emptied f) m v refl h) (λ _. h)))
       (λ _. h)
 
-  pub front-read-aimed : (f : Front) (m : List ℕ) (p counter : ℕ) → AimedFront n f → AimedFront n (frontRead f m p counter).front
-  unfolding frontRead
-  front-read-aimed f m p counter h =
+  pub front_read_aimed : (f : Front) (m : List ℕ) (p counter : ℕ) → AimedFront n f → AimedFront n (front_read f m p counter).front
+  unfolding front_read
+  front_read_aimed f m p counter h =
       either LeftRead (whole m)
-      (λ _. either LeftRead (isPort 0x7E p) (λ _. h)
-      (λ _. either LeftRead (isPort 0x7F p) (λ _. h)
-      (λ _. either LeftRead (isPort 0xBF p) (λ _. h)
-      (λ _. either LeftRead (isPort 0xBE p) (λ _. read-by f.dest (emptied f) m refl h) (λ _. h)))))
+      (λ _. either LeftRead (is_port 0x7E p) (λ _. h)
+      (λ _. either LeftRead (is_port 0x7F p) (λ _. h)
+      (λ _. either LeftRead (is_port 0xBF p) (λ _. h)
+      (λ _. either LeftRead (is_port 0xBE p) (λ _. read_by_lem f.dest (emptied f) m refl h) (λ _. h)))))
       (λ _. h)
 
 -- the line of 7 does not hold where the address is inside; `more` are the tests of that palette's own
 module _ (n : ℕ) (f : Front) (m : List ℕ) (p : ℕ) (h : AimedFront n f) where
-  not-outside : (b : Bool) → (b && not (ltb f.addr (size_of n f.dest))) ≡ true → ⊥
-  not-outside b e =
+  not_outside : (b : Bool) → (b && not (ltb f.addr (size_of n f.dest))) ≡ true → ⊥
+  not_outside b e =
       let t : Bool = ltb f.addr (size_of n f.dest) in
       omega (arith, ltb-false f.addr (size_of n f.dest) (not-true t (both b (not t) e).1))
 
-  pub front-write-inside : (v : ℕ) (more : List Line) → Silent 7 more → refusalNumber (first (frontWriteLines n f m p v more)) ≢ 7
-  front-write-inside v more s =
-      first-not 7 (λ z. omega arith) (frontWriteLines n f m p v more)
-      (λ _. omega arith, (λ _. omega arith, (λ _. omega arith, (λ _. omega arith, (λ e. absurd (not-outside (isPort 0xBE p) e), s)))))
+  pub front_write_inside : (v : ℕ) (more : List Line) → Silent 7 more → refusal_number (first (front_write_lines n f m p v more)) ≢ 7
+  front_write_inside v more s =
+      first_not 7 (λ z. omega arith) (front_write_lines n f m p v more)
+      (λ _. omega arith, (λ _. omega arith, (λ _. omega arith, (λ _. omega arith, (λ e. absurd (not_outside (is_port 0xBE p) e), s)))))
 
-  pub front-read-inside : refusalNumber (first (frontReadLines n f m p)) ≢ 7
-  front-read-inside =
-      first-not 7 (λ z. omega arith) (frontReadLines n f m p) (
+  pub front_read_inside : refusal_number (first (front_read_lines n f m p)) ≢ 7
+  front_read_inside =
+      first_not 7 (λ z. omega arith) (front_read_lines n f m p) (
         λ _. omega arith,
         (
           λ _. omega arith,
           (
             λ _. omega arith,
-            (λ _. omega arith, (λ _. omega arith, (λ e. absurd (not-outside (isPort 0xBE p) e), tt))),
+            (λ _. omega arith, (λ _. omega arith, (λ e. absurd (not_outside (is_port 0xBE p) e), tt))),
           ),
         ),
       )

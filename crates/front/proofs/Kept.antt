@@ -15,14 +15,14 @@ use Rattle.front.specs.declared.WriteDest.{WriteDest}
 use Rattle.front.specs.declared.WriteDest.TheVariants.{None, Vram, Cram}
 use Rattle.front.specs.declared.Latch.{Latch}
 use Rattle.front.specs.declared.Latch.TheVariants.{Empty, Held}
-use Rattle.front.specs.Front.{FrontAfter, emptied, forPalette, commandBy, dataBy, read_by}
+use Rattle.front.specs.Front.{FrontAfter, emptied, for_palette, command_by, data_by, read_by}
 use Rattle.refusal.specs.Refusals.{whole}
-use Rattle.front.specs.Lines.{isPort}
-use Rattle.front.specs.Ports.{frontWrite, frontRead}
+use Rattle.front.specs.Lines.{is_port}
+use Rattle.front.specs.Ports.{front_write, front_read}
 
 -- a byte for the palette: the front is as it was but for its latch, the palette is chosen, and the address lies in it
 pub record Aims (n : ℕ) (f : Front) (m : List ℕ) (a : FrontAfter) : Type 0 where
-  pub answer : a.answer ≡ forPalette (emptied f)
+  pub answer : a.answer ≡ for_palette (emptied f)
   pub memory : a.vram ≡ m
   pub chosen : f.dest ≡ Cram
   pub inside : f.addr < n
@@ -41,7 +41,7 @@ module _ (n : ℕ) (f : Front) (m : List ℕ) where
   left : (a : FrontAfter) → length a.answer.front.reg ≡ length f.reg → length a.vram ≡ length m → a.answer.palette ≡ false → Keeps a
   left a r l e = record { registers = r; memory = l; palette = λ t. clash (sym t ∙ e) }
 
-  command : (l : Latch) (v : ℕ) → KeptW (commandBy l n f m v)
+  command : (l : Latch) (v : ℕ) → KeptW (command_by l n f m v)
   command Empty v = left _ refl refl refl
   command (Held d) v =
       either KeptW (eqb (v / 64) 0) (λ _. left _ refl refl refl)
@@ -50,10 +50,10 @@ module _ (n : ℕ) (f : Front) (m : List ℕ) where
       (λ _. either KeptW (ltb 10 (v % 128)) (λ _. left _ refl refl refl) (λ _. left _ (simp length-set) refl refl))
       (λ _. left _ refl refl refl)))
 
-  to-chosen : (d : WriteDest) (v : ℕ) → f.dest ≡ d → Keeps (dataBy d n (emptied f) m v)
-  to-chosen None v e = left _ refl refl refl
-  to-chosen Vram v e = either Keeps (ltb f.addr 16384) (λ _. left _ refl (simp length-set) refl) (λ _. left _ refl refl refl)
-  to-chosen Cram v e =
+  to_chosen : (d : WriteDest) (v : ℕ) → f.dest ≡ d → Keeps (data_by d n (emptied f) m v)
+  to_chosen None v e = left _ refl refl refl
+  to_chosen Vram v e = either Keeps (ltb f.addr 16384) (λ _. left _ refl (simp length-set) refl) (λ _. left _ refl refl refl)
+  to_chosen Cram v e =
       either KeptW (ltb f.addr n)
       (λ t. record {
         registers = refl;
@@ -63,16 +63,16 @@ module _ (n : ℕ) (f : Front) (m : List ℕ) where
       })
       (λ _. left _ refl refl refl)
 
-  pub write_kept : (p v : ℕ) → Keeps (frontWrite n f m p v)
-  unfolding frontWrite
+  pub write_kept : (p v : ℕ) → Keeps (front_write n f m p v)
+  unfolding front_write
   write_kept p v =
       either Keeps (whole m)
-      (λ _. either Keeps (isPort 0xBF p) (λ _. command f.cmd_byte1 v)
-      (λ _. either Keeps (isPort 0xBE p) (λ _. to-chosen f.dest v refl) (λ _. left _ refl refl refl)))
+      (λ _. either Keeps (is_port 0xBF p) (λ _. command f.cmd_byte1 v)
+      (λ _. either Keeps (is_port 0xBE p) (λ _. to_chosen f.dest v refl) (λ _. left _ refl refl refl)))
       (λ _. left _ refl refl refl)
 
 -- an answer that is for the palette has its address there
-pub inside : (n : ℕ) (f : Front) (m : List ℕ) (p v : ℕ) (r : FrontWritten) → r ≡ (frontWrite n f m p v).answer → r.palette ≡ true → r.front.addr < n
+pub inside : (n : ℕ) (f : Front) (m : List ℕ) (p v : ℕ) (r : FrontWritten) → r ≡ (front_write n f m p v).answer → r.palette ≡ true → r.front.addr < n
 inside n f m p v r e t =
     let k = (write_kept n f m p v).palette (rw e at t) in
     rw (e, k.answer) k.inside
@@ -82,17 +82,17 @@ module _ (f : Front) (m : List ℕ) where
   abbrev RegistersR : FrontRead → Type 0
   RegistersR a = a.front.reg ≡ f.reg
 
-  from-chosen : (d : WriteDest) → RegistersR (read_by d (emptied f) m)
-  from-chosen None = refl
-  from-chosen Cram = refl
-  from-chosen Vram = either RegistersR (ltb f.addr 16384) (λ _. refl) (λ _. refl)
+  from_chosen : (d : WriteDest) → RegistersR (read_by d (emptied f) m)
+  from_chosen None = refl
+  from_chosen Cram = refl
+  from_chosen Vram = either RegistersR (ltb f.addr 16384) (λ _. refl) (λ _. refl)
 
-  pub read-registers : (p counter : ℕ) → (frontRead f m p counter).front.reg ≡ f.reg
-  unfolding frontRead
-  read-registers p counter =
+  pub read_registers : (p counter : ℕ) → (front_read f m p counter).front.reg ≡ f.reg
+  unfolding front_read
+  read_registers p counter =
       either RegistersR (whole m)
-      (λ _. either RegistersR (isPort 0x7E p) (λ _. refl)
-      (λ _. either RegistersR (isPort 0x7F p) (λ _. refl)
-      (λ _. either RegistersR (isPort 0xBF p) (λ _. refl)
-      (λ _. either RegistersR (isPort 0xBE p) (λ _. from-chosen f.dest) (λ _. refl)))))
+      (λ _. either RegistersR (is_port 0x7E p) (λ _. refl)
+      (λ _. either RegistersR (is_port 0x7F p) (λ _. refl)
+      (λ _. either RegistersR (is_port 0xBF p) (λ _. refl)
+      (λ _. either RegistersR (is_port 0xBE p) (λ _. from_chosen f.dest) (λ _. refl)))))
       (λ _. refl)

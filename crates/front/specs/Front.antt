@@ -2,7 +2,7 @@
 -- Assumes nothing.
 use Rattle.std.specs.Prelude.{ℕ, ◌+◌, ◌*◌, ◌/◌, ◌%◌, List, [], ◌∷◌, Bool, true, false, cond, not, set, ltb, eqb}
 use Rattle.laws.specs.Lists.{at}
-use Rattle.laws.specs.Sizes.{vramSize}
+use Rattle.laws.specs.Sizes.{vram_size}
 use Rattle.front.specs.declared.Front.{Front}
 use Rattle.front.specs.declared.FrontWritten.{FrontWritten}
 use Rattle.front.specs.declared.FrontRead.{FrontRead}
@@ -19,47 +19,47 @@ front status reg addr buffer dest command =
     record { status = status; reg = reg; addr = addr; vram_buffer = buffer; dest = dest; cmd_byte1 = command }
 
 -- R3.2: that of a fresh device
-abbrev pub freshFront : Front
-freshFront = front 0 (0 ∷ 0 ∷ 0xFF ∷ 0xFF ∷ 0xFF ∷ 0xFF ∷ 0xFF ∷ 0 ∷ 0 ∷ 0 ∷ 1 ∷ []) 0 0 None Empty
+abbrev pub fresh_front : Front
+fresh_front = front 0 (0 ∷ 0 ∷ 0xFF ∷ 0xFF ∷ 0xFF ∷ 0xFF ∷ 0xFF ∷ 0 ∷ 0 ∷ 0 ∷ 1 ∷ []) 0 0 None Empty
 
 -- whether a byte that is stored is another than the one before
 abbrev pub changed : ℕ → ℕ → Bool
 changed a b = not (eqb a b)
 
 -- ---- the same front with another command latch, and so on
-abbrev pub withCommand : Front → Latch → Front
-withCommand f l = front f.status f.reg f.addr f.vram_buffer f.dest l
+abbrev pub with_command : Front → Latch → Front
+with_command f l = front f.status f.reg f.addr f.vram_buffer f.dest l
 
 -- R2.2: what a refused command or data call leaves
 abbrev pub emptied : Front → Front
-emptied f = withCommand f Empty
+emptied f = with_command f Empty
 
 -- a memory chosen, and the address in it
 abbrev pub choosing : Front → WriteDest → ℕ → Front
 choosing f d a = front f.status f.reg a f.vram_buffer d f.cmd_byte1
 
-abbrev pub withReg : Front → List ℕ → Front
-withReg f g = front f.status g f.addr f.vram_buffer f.dest f.cmd_byte1
+abbrev pub with_reg : Front → List ℕ → Front
+with_reg f g = front f.status g f.addr f.vram_buffer f.dest f.cmd_byte1
 
 -- byte b in the read buffer, and the address one on from a
-abbrev pub withBuffer : Front → ℕ → ℕ → Front
-withBuffer f b a = front f.status f.reg ((a + 1) % vramSize) b f.dest f.cmd_byte1
+abbrev pub with_buffer : Front → ℕ → ℕ → Front
+with_buffer f b a = front f.status f.reg ((a + 1) % vram_size) b f.dest f.cmd_byte1
 
 -- the read buffer filled from address a
 abbrev pub loaded : Front → List ℕ → ℕ → Front
-loaded f m a = withBuffer f (at m a) a
+loaded f m a = with_buffer f (at m a) a
 
 -- ---- what a call answers
 abbrev pub sent : Refusal → Front → FrontWritten
 sent r f = record { refusal = r; palette = false; front = f }
 
 -- all is well with the byte so far, and the machine's own palette takes it
-abbrev pub forPalette : Front → FrontWritten
-forPalette f = record { refusal = Accepted; palette = true; front = f }
+abbrev pub for_palette : Front → FrontWritten
+for_palette f = record { refusal = Accepted; palette = true; front = f }
 
 -- R2.3: a refused read gives 0
-abbrev pub refusedRead : Refusal → Front → FrontRead
-refusedRead r f = record { refusal = r; byte = 0; front = f }
+abbrev pub refused_read : Refusal → Front → FrontRead
+refused_read r f = record { refusal = r; byte = 0; front = f }
 
 abbrev pub given : ℕ → Front → FrontRead
 given b f = record { refusal = Accepted; byte = b; front = f }
@@ -71,50 +71,50 @@ pub record FrontAfter : Type 0 where
 
 -- ---- R3.4, R3.5: the command byte, on a machine with n bytes of palette
 -- the address of the two bytes, low and high
-abbrev pub videoAddress : ℕ → ℕ → ℕ
-videoAddress d v = (d + 256 * v) % vramSize
+abbrev pub video_address : ℕ → ℕ → ℕ
+video_address d v = (d + 256 * v) % vram_size
 
 -- R3.5, with first byte d and second v: 00, 01, 10, 11
-abbrev pub secondByte : ℕ → Front → List ℕ → ℕ → ℕ → FrontWritten
-secondByte n f m d v =
-    cond (eqb (v / 64) 0) (sent Accepted (loaded (choosing f Vram (videoAddress d v)) m (videoAddress d v)))
-    (cond (eqb (v / 64) 1) (sent Accepted (choosing f Vram (videoAddress d v)))
-    (cond (eqb (v / 64) 2) (cond (ltb 10 (v % 128)) (sent HighRegister f) (sent Accepted (withReg f (set f.reg (v % 128) d))))
+abbrev pub second_byte : ℕ → Front → List ℕ → ℕ → ℕ → FrontWritten
+second_byte n f m d v =
+    cond (eqb (v / 64) 0) (sent Accepted (loaded (choosing f Vram (video_address d v)) m (video_address d v)))
+    (cond (eqb (v / 64) 1) (sent Accepted (choosing f Vram (video_address d v)))
+    (cond (eqb (v / 64) 2) (cond (ltb 10 (v % 128)) (sent HighRegister f) (sent Accepted (with_reg f (set f.reg (v % 128) d))))
     (sent Accepted (choosing f Cram (d % n)))))
 
 -- R3.4: a first byte waits; at a second the latch is emptied
-abbrev pub commandBy : Latch → ℕ → Front → List ℕ → ℕ → FrontWritten
-commandBy Empty n f m v = sent Accepted (withCommand f (Held v))
-commandBy (Held d) n f m v = secondByte n (emptied f) m d v
+abbrev pub command_by : Latch → ℕ → Front → List ℕ → ℕ → FrontWritten
+command_by Empty n f m v = sent Accepted (with_command f (Held v))
+command_by (Held d) n f m v = second_byte n (emptied f) m d v
 
-abbrev pub commandWrite : ℕ → Front → List ℕ → ℕ → FrontWritten
-commandWrite n f m v = commandBy f.cmd_byte1 n f m v
+abbrev pub command_write : ℕ → Front → List ℕ → ℕ → FrontWritten
+command_write n f m v = command_by f.cmd_byte1 n f m v
 
 -- ---- R3.6: the data write. The front f has its command latch empty already
 -- video memory and the read buffer take the byte
-abbrev pub vramWrite : Front → List ℕ → ℕ → FrontAfter
-vramWrite f m v =
-    cond (ltb f.addr vramSize) (record { answer = sent Accepted (withBuffer f v f.addr); vram = set m f.addr v })
+abbrev pub vram_write : Front → List ℕ → ℕ → FrontAfter
+vram_write f m v =
+    cond (ltb f.addr vram_size) (record { answer = sent Accepted (with_buffer f v f.addr); vram = set m f.addr v })
     (record { answer = sent OutsideMemory f; vram = m })
 
-abbrev pub dataBy : WriteDest → ℕ → Front → List ℕ → ℕ → FrontAfter
-dataBy None n f m v = record { answer = sent NothingChosen f; vram = m }
-dataBy Vram n f m v = vramWrite f m v
-dataBy Cram n f m v = record { answer = cond (ltb f.addr n) (forPalette f) (sent OutsideMemory f); vram = m }
+abbrev pub data_by : WriteDest → ℕ → Front → List ℕ → ℕ → FrontAfter
+data_by None n f m v = record { answer = sent NothingChosen f; vram = m }
+data_by Vram n f m v = vram_write f m v
+data_by Cram n f m v = record { answer = cond (ltb f.addr n) (for_palette f) (sent OutsideMemory f); vram = m }
 
-abbrev pub dataWrite : ℕ → Front → List ℕ → ℕ → FrontAfter
-dataWrite n f m v = dataBy f.dest n (emptied f) m v
+abbrev pub data_write : ℕ → Front → List ℕ → ℕ → FrontAfter
+data_write n f m v = data_by f.dest n (emptied f) m v
 
 -- ---- R3.8: the data read gives the read buffer, and fills it anew
 abbrev pub read_by : WriteDest → Front → List ℕ → FrontRead
-read_by None f m = refusedRead NothingChosen f
-read_by Cram f m = refusedRead PaletteRead f
+read_by None f m = refused_read NothingChosen f
+read_by Cram f m = refused_read PaletteRead f
 read_by Vram f m =
-    cond (ltb f.addr vramSize) (given f.vram_buffer (loaded f m f.addr)) (refusedRead OutsideMemory f)
+    cond (ltb f.addr vram_size) (given f.vram_buffer (loaded f m f.addr)) (refused_read OutsideMemory f)
 
-abbrev pub dataRead : Front → List ℕ → FrontRead
-dataRead f m = read_by f.dest (emptied f) m
+abbrev pub data_read : Front → List ℕ → FrontRead
+data_read f m = read_by f.dest (emptied f) m
 
 -- R3.9: the status read
-abbrev pub statusRead : Front → FrontRead
-statusRead f = given f.status (front 0 f.reg f.addr f.vram_buffer f.dest Empty)
+abbrev pub status_read : Front → FrontRead
+status_read f = given f.status (front 0 f.reg f.addr f.vram_buffer f.dest Empty)

@@ -1,8 +1,8 @@
 // The front of a device: the part that the port calls work on, whatever its palette is (R3.3 to R3.6, R3.8 to R3.10). Video memory is lent by the caller.
 ghost use Rattle.std.specs.Prelude.{◌≡◌, ◌<◌, length};
-ghost use Rattle.laws.specs.Sizes.{vramSize};
-ghost use Rattle.front.specs.Front.{freshFront, withCommand, choosing, commandWrite, dataWrite, dataRead, statusRead};
-ghost use Rattle.front.specs.Ports.{FrontLeaves, frontRead};
+ghost use Rattle.laws.specs.Sizes.{vram_size};
+ghost use Rattle.front.specs.Front.{fresh_front, with_command, choosing, command_write, data_write, data_read, status_read};
+ghost use Rattle.front.specs.Ports.{FrontLeaves, front_read};
 
 use refusal::Refusal;
 use small::VRAM_ADDRESSES;
@@ -61,7 +61,7 @@ pub struct FrontRead {
 impl Front {
     // That of a fresh device (R3.2).
     pub fn new() -> Self
-        ensures { result ≡ freshFront }
+        ensures { result ≡ fresh_front }
     {
         Front {
             status: 0,
@@ -75,7 +75,7 @@ impl Front {
 
     // The same front with another command latch.
     fn with_command(self, latch: Latch) -> Self
-        ensures { result ≡ withCommand self latch }
+        ensures { result ≡ with_command self latch }
     {
         let reg = self.reg;
         let dest = self.dest;
@@ -107,9 +107,9 @@ impl Front {
 
     // A command byte: the first of two waits in the latch (R3.4), the second acts with it (R3.5).
     fn write_cmd(self, vram: &[u8], palette: u16, val: u8) -> FrontWritten
-        requires vram_len { length vram.now ≡ vramSize }
+        requires vram_len { length vram.now ≡ vram_size }
         requires palette_nonzero { 0 < palette }
-        ensures { result ≡ commandWrite palette self vram.now val }
+        ensures { result ≡ command_write palette self vram.now val }
     {
         let cmd_byte1 = self.cmd_byte1;
         let Latch::Held(data) = cmd_byte1 else {
@@ -154,9 +154,9 @@ impl Front {
 
     // A data byte, for the memory that is chosen (R3.6).
     fn write_ram(self, vram: &mut [u8], palette: u16, val: u8) -> FrontWritten
-        requires { length vram.old ≡ vramSize }
-        ensures value { result ≡ (dataWrite palette self vram.old val).answer }
-        ensures vram_after { vram.new ≡ (dataWrite palette self vram.old val).vram }
+        requires { length vram.old ≡ vram_size }
+        ensures value { result ≡ (data_write palette self vram.old val).answer }
+        ensures vram_after { vram.new ≡ (data_write palette self vram.old val).vram }
     {
         let mut front = self.with_command(Latch::Empty);
         let dest = self.dest;
@@ -204,8 +204,8 @@ impl Front {
 
     // The read buffer, and the next byte into it (R3.8).
     fn read_ram(self, vram: &[u8]) -> FrontRead
-        requires { length vram.now ≡ vramSize }
-        ensures { result ≡ dataRead self vram.now }
+        requires { length vram.now ≡ vram_size }
+        ensures { result ≡ data_read self vram.now }
     {
         let mut front = self.with_command(Latch::Empty);
         let dest = self.dest;
@@ -244,7 +244,7 @@ impl Front {
 
     // The status, which the read clears (R3.9).
     fn read_status(self) -> FrontRead
-        ensures { result ≡ statusRead self }
+        ensures { result ≡ status_read self }
     {
         let byte = self.status;
         let mut front = self.with_command(Latch::Empty);
@@ -281,7 +281,7 @@ impl Front {
 
     // A port read on a machine whose line counter stands at `counter`, tested in the order of R2.4.
     pub fn read(self, vram: &[u8], addr: u16, counter: u8) -> FrontRead
-        ensures { result ≡ frontRead self vram.now addr counter }
+        ensures { result ≡ front_read self vram.now addr counter }
     {
         if vram.len() != small::VRAM_SIZE {
             return FrontRead {

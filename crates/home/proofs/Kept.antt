@@ -13,19 +13,19 @@ use lib.Seq.{set-get_or}
 use borrow.Author.Tests.{eqb-true, not-false}
 use Rattle.laws.specs.Lists.{at}
 use Rattle.laws.proofs.Tests.{either, neither}
-use Rattle.colour.specs.Home.{homeColoursOf}
-use Rattle.front.specs.Ports.{frontWrite}
+use Rattle.colour.specs.Home.{home_colours_of}
+use Rattle.front.specs.Ports.{front_write}
 use Rattle.front.specs.Front.{changed}
-use Rattle.front.proofs.Invariant.{front-write-aimed, front-read-aimed}
-use Rattle.front.proofs.Kept.{write_kept, read-registers}
+use Rattle.front.proofs.Invariant.{front_write_aimed, front_read_aimed}
+use Rattle.front.proofs.Kept.{write_kept, read_registers}
 use Rattle.home.specs.declared.HomeState.{HomeState}
 use Rattle.home.specs.declared.HomeWritten.{HomeWritten}
-use Rattle.home.specs.Ports.{stored, portWrite, portRead}
+use Rattle.home.specs.Ports.{stored, port_write, port_read}
 use Rattle.home.specs.Promises.{Aimed}
 
 -- the cached colours are the palette's whenever the record is not dirty
 abbrev pub Clean : HomeState → Type 0
-Clean h = h.cram_dirty ≡ false → h.color_cache ≡ homeColoursOf h.cram
+Clean h = h.cram_dirty ≡ false → h.color_cache ≡ home_colours_of h.cram
 
 pub record Keeps (h h' : HomeState) : Type 0 where
   pub raster : h'.raster ≡ h.raster
@@ -47,10 +47,10 @@ module _ (h : HomeState) where
   abbrev KeptW : HomeWritten → Type 0
   KeptW r = Keeps h r.home
 
-  pub write_keeps : (m : List ℕ) (p v : ℕ) → Keeps h (portWrite h m p v).answer.home
-  unfolding portWrite
+  pub write_keeps : (m : List ℕ) (p v : ℕ) → Keeps h (port_write h m p v).answer.home
+  unfolding port_write
   write_keeps m p v =
-      let a = (frontWrite 32 h.front m p v).answer in
+      let a = (front_write 32 h.front m p v).answer in
       let k = write_kept 32 h.front m p v in
       either KeptW a.palette
       (λ t.
@@ -71,16 +71,16 @@ module _ (h : HomeState) where
         palette = refl;
         registers = k.registers;
         clean = λ c. c;
-        aimed = front-write-aimed 32 (omega arith) h.front m p v;
+        aimed = front_write_aimed 32 (omega arith) h.front m p v;
       })
 
   -- and video memory has its length
-  pub write-memory : (m : List ℕ) (p v : ℕ) → length (portWrite h m p v).vram ≡ length m
-  unfolding portWrite
-  write-memory m p v = (write_kept 32 h.front m p v).memory
+  pub write_memory : (m : List ℕ) (p v : ℕ) → length (port_write h m p v).vram ≡ length m
+  unfolding port_write
+  write_memory m p v = (write_kept 32 h.front m p v).memory
 
-  pub read_keeps : (m : List ℕ) (p : ℕ) → Keeps h (portRead h m p).home
-  unfolding portRead
+  pub read_keeps : (m : List ℕ) (p : ℕ) → Keeps h (port_read h m p).home
+  unfolding port_read
   read_keeps m p =
       let counter = h.raster.v_counter in
       record {
@@ -88,16 +88,16 @@ module _ (h : HomeState) where
         cache = refl;
         dirty = λ d. d;
         palette = refl;
-        registers = rw (read-registers h.front m p counter);
+        registers = rw (read_registers h.front m p counter);
         clean = λ c. c;
-        aimed = front-read-aimed 32 (omega arith) h.front m p counter;
+        aimed = front_read_aimed 32 (omega arith) h.front m p counter;
       }
 
   -- a read leaves palette and registers as they are
-  pub read-palette : (m : List ℕ) (p : ℕ) → (portRead h m p).home.cram ≡ h.cram
-  unfolding portRead
-  read-palette m p = refl
+  pub read_palette : (m : List ℕ) (p : ℕ) → (port_read h m p).home.cram ≡ h.cram
+  unfolding port_read
+  read_palette m p = refl
 
-  pub read_reg : (m : List ℕ) (p : ℕ) → (portRead h m p).home.front.reg ≡ h.front.reg
-  unfolding portRead
-  read_reg m p = read-registers h.front m p h.raster.v_counter
+  pub read_reg : (m : List ℕ) (p : ℕ) → (port_read h m p).home.front.reg ≡ h.front.reg
+  unfolding port_read
+  read_reg m p = read_registers h.front m p h.raster.v_counter

@@ -6,13 +6,13 @@ use Rattle.front.specs.declared.FrontWritten.{FrontWritten}
 use Rattle.refusal.specs.declared.Refusal.{Refusal}
 use Rattle.refusal.specs.declared.Refusal.TheVariants.{Accepted}
 use Rattle.refusal.specs.Refusals.{Line}
-use Rattle.front.specs.Lines.{leftBehind, frontWriteLines, frontReadLines}
-use Rattle.front.specs.Ports.{frontWrite, frontRead}
+use Rattle.front.specs.Lines.{left_behind, front_write_lines, front_read_lines}
+use Rattle.front.specs.Ports.{front_write, front_read}
 use Rattle.front.specs.Front.{changed}
 use Rattle.home.specs.declared.HomeState.{HomeState}
 use Rattle.home.specs.declared.HomeWritten.{HomeWritten}
 use Rattle.home.specs.declared.HomeRead.{HomeRead}
-use Rattle.home.specs.Home.{paletteSize, withFront, with_addr, withPalette}
+use Rattle.home.specs.Home.{palette_size, with_front, with_addr, with_palette}
 
 -- ---- R20.3: a byte for the palette. The address lies in it, and the command latch is empty
 abbrev pub answered : Refusal → HomeState → HomeWritten
@@ -20,10 +20,10 @@ answered r h = record { refusal = r; home = h }
 
 -- it is stored whole, dirty where it is another than before
 abbrev pub stored : HomeState → ℕ → ℕ → HomeState
-stored h a v = withPalette h (set h.cram a v) (h.cram_dirty || changed (at h.cram a) v)
+stored h a v = with_palette h (set h.cram a v) (h.cram_dirty || changed (at h.cram a) v)
 
-abbrev pub paletteWrite : HomeState → ℕ → HomeWritten
-paletteWrite h v = answered Accepted (with_addr (stored h h.front.addr v) ((h.front.addr + 1) % paletteSize))
+abbrev pub palette_write : HomeState → ℕ → HomeWritten
+palette_write h v = answered Accepted (with_addr (stored h h.front.addr v) ((h.front.addr + 1) % palette_size))
 
 -- ---- the port calls
 -- What a write leaves: its answer, with the device in it, and video memory.
@@ -34,29 +34,29 @@ pub record After : Type 0 where
 -- the front's answer, on the device that has it
 abbrev pub written_by : HomeState → ℕ → FrontWritten → HomeWritten
 written_by h v a =
-    cond a.palette (paletteWrite (withFront h a.front) v) (answered a.refusal (withFront h a.front))
+    cond a.palette (palette_write (with_front h a.front) v) (answered a.refusal (with_front h a.front))
 
-unfoldable pub portWrite : HomeState → List ℕ → ℕ → ℕ → After
-portWrite h m p v =
-    let a = frontWrite paletteSize h.front m p v in
+unfoldable pub port_write : HomeState → List ℕ → ℕ → ℕ → After
+port_write h m p v =
+    let a = front_write palette_size h.front m p v in
     record { answer = written_by h v a.answer; vram = a.vram }
 
-unfoldable pub portRead : HomeState → List ℕ → ℕ → HomeRead
-portRead h m p =
-    let a = frontRead h.front m p h.raster.v_counter in
-    record { refusal = a.refusal; byte = a.byte; home = withFront h a.front }
+unfoldable pub port_read : HomeState → List ℕ → ℕ → HomeRead
+port_read h m p =
+    let a = front_read h.front m p h.raster.v_counter in
+    record { refusal = a.refusal; byte = a.byte; home = with_front h a.front }
 
 -- What a port write promises: its answer r, and what video memory holds after it, m'.
 pub record WriteLeaves (h : HomeState) (m : List ℕ) (p v : ℕ) (r : HomeWritten) (m' : List ℕ) : Type 0 where
-  pub answer : r ≡ (portWrite h m p v).answer
-  pub memory : m' ≡ (portWrite h m p v).vram
+  pub answer : r ≡ (port_write h m p v).answer
+  pub memory : m' ≡ (port_write h m p v).vram
 
 -- ---- R2.2, R2.4: what a refusal leaves of the device, and the order of the tests; this palette has none of its own
-abbrev pub deviceLeft : Refusal → HomeState → HomeState
-deviceLeft r h = withFront h (leftBehind r h.front)
+abbrev pub device_left : Refusal → HomeState → HomeState
+device_left r h = with_front h (left_behind r h.front)
 
-abbrev pub writeLines : HomeState → List ℕ → ℕ → ℕ → List Line
-writeLines h vram p v = frontWriteLines paletteSize h.front vram p v []
+abbrev pub write_lines : HomeState → List ℕ → ℕ → ℕ → List Line
+write_lines h vram p v = front_write_lines palette_size h.front vram p v []
 
-abbrev pub readLines : HomeState → List ℕ → ℕ → List Line
-readLines h vram p = frontReadLines paletteSize h.front vram p
+abbrev pub read_lines : HomeState → List ℕ → ℕ → List Line
+read_lines h vram p = front_read_lines palette_size h.front vram p

@@ -3,10 +3,10 @@
 -- Assumes nothing.
 use Rattle.std.specs.Prelude.{◌≡◌, cond, List, ℕ, length}
 use Rattle.laws.specs.Lists.{at}
-use Rattle.colour.specs.Home.{homeColoursOf}
+use Rattle.colour.specs.Home.{home_colours_of}
 use Rattle.picture.specs.declared.Screen.TheVariants.{Home}
 use Rattle.picture.specs.Picture.{Row}
-use Rattle.picture.specs.Screen.{columns, pictureOf, rowBytes}
+use Rattle.picture.specs.Screen.{columns, picture_of, row_bytes}
 use Rattle.refusal.specs.declared.Refusal.{Refusal}
 use Rattle.refusal.specs.Refusals.{Line, under}
 use Rattle.points.specs.declared.VdpInt.TheVariants.{NoInterrupt}
@@ -14,11 +14,11 @@ use Rattle.points.specs.declared.DisplayRefresh.TheVariants.{NoDisplay}
 use Rattle.points.specs.declared.DrawnRow.{DrawnRow}
 use Rattle.points.specs.declared.DrawnRow.TheVariants.{NoRow, Drawn}
 use Rattle.points.specs.declared.Points.{Points}
-use Rattle.points.specs.Points.{Reading, reading, risen, row_lines, frameLines, points_of}
-use Rattle.points.specs.Bytes.{rowFilled, frameFilled}
+use Rattle.points.specs.Points.{Reading, reading, risen, row_lines, frame_lines, points_of}
+use Rattle.points.specs.Bytes.{row_filled, frame_filled}
 use Rattle.home.specs.declared.HomeState.{HomeState}
 use Rattle.home.specs.declared.HomeStepped.{HomeStepped}
-use Rattle.home.specs.Home.{withStatus, withRaster, withCache}
+use Rattle.home.specs.Home.{with_status, with_raster, with_cache}
 
 abbrev pub register : HomeState → ℕ → ℕ
 register h = at h.front.reg
@@ -28,25 +28,25 @@ abbrev pub line_of : HomeState → ℕ
 line_of h = h.raster.v_counter
 
 -- R4.2: the colours that a row is drawn with
-abbrev pub coloursNow : HomeState → List ℕ
-coloursNow h = cond h.cram_dirty (homeColoursOf h.cram) h.color_cache
+abbrev pub colours_now : HomeState → List ℕ
+colours_now h = cond h.cram_dirty (home_colours_of h.cram) h.color_cache
 
 -- the picture of row y, for the device's registers and latched scroll and the video memory
-abbrev pub rowPicture : List ℕ → HomeState → ℕ → Row
-rowPicture vram h y = pictureOf Home h.front.reg h.raster.vertical_scroll vram y
+abbrev pub row_picture : List ℕ → HomeState → ℕ → Row
+row_picture vram h y = picture_of Home h.front.reg h.raster.vertical_scroll vram y
 
 -- what the points read of it
 abbrev pub reading_of : HomeState → Reading
-reading_of h = reading h.front.reg h.raster h.front.status (coloursNow h)
+reading_of h = reading h.front.reg h.raster h.front.status (colours_now h)
 
 -- R4.1: the device with its counter up
-abbrev pub counterUp : HomeState → HomeState
-counterUp h = withRaster h (risen (reading_of h))
+abbrev pub counter_up : HomeState → HomeState
+counter_up h = with_raster h (risen (reading_of h))
 
 -- R4.2: with clean colours, if a row was drawn with them
 abbrev pub cleaned : DrawnRow → HomeState → List ℕ → HomeState
 cleaned NoRow h colours = h
-cleaned (Drawn y) h colours = withCache h colours
+cleaned (Drawn y) h colours = with_cache h colours
 
 -- its answer, and itself, by what the points answer and leave
 abbrev pub joined : HomeState → Points → HomeStepped
@@ -56,7 +56,7 @@ joined h points =
       interrupt = points.interrupt;
       report = points.report;
       row = points.row;
-      home = withRaster (withStatus (cleaned points.row h (coloursNow h)) points.status) points.raster;
+      home = with_raster (with_status (cleaned points.row h (colours_now h)) points.status) points.raster;
     }
 
 -- an accepted step
@@ -64,36 +64,36 @@ unfoldable pub stepped : List ℕ → HomeState → HomeStepped
 stepped vram h = joined h (points_of Home vram (reading_of h))
 
 -- R2.3: a refused step tells and changes nothing
-abbrev pub refusedStep : Refusal → HomeState → HomeStepped
-refusedStep r h = record { refusal = r; interrupt = NoInterrupt; report = NoDisplay; row = NoRow; home = h }
+abbrev pub refused_step : Refusal → HomeState → HomeStepped
+refused_step r h = record { refusal = r; interrupt = NoInterrupt; report = NoDisplay; row = NoRow; home = h }
 
 -- R6.3, R6.7: a step that these lines refuse, whatever its line
-unfoldable pub stepWith : List Line → List ℕ → HomeState → HomeStepped
-stepWith lines vram h = under lines (λ r. refusedStep r h) (stepped vram h)
+unfoldable pub step_with : List Line → List ℕ → HomeState → HomeStepped
+step_with lines vram h = under lines (λ r. refused_step r h) (stepped vram h)
 
 -- R7.1, R7.2: the two steps
-abbrev pub rowStep : List ℕ → ℕ → HomeState → HomeStepped
-rowStep vram size h = stepWith (row_lines Home vram size) vram h
+abbrev pub row_step_of : List ℕ → ℕ → HomeState → HomeStepped
+row_step_of vram size h = step_with (row_lines Home vram size) vram h
 
-abbrev pub frameStep : List ℕ → ℕ → HomeState → HomeStepped
-frameStep vram size h = stepWith (frameLines Home vram size) vram h
+abbrev pub frame_step_of : List ℕ → ℕ → HomeState → HomeStepped
+frame_step_of vram size h = step_with (frame_lines Home vram size) vram h
 
 -- the bytes of row y, as a step draws it on the device h with its counter up
-abbrev pub drawnBytes : List ℕ → HomeState → ℕ → List ℕ
-drawnBytes vram h y = rowBytes (coloursNow h) (columns Home) (rowPicture vram h y)
+abbrev pub drawn_bytes : List ℕ → HomeState → ℕ → List ℕ
+drawn_bytes vram h y = row_bytes (colours_now h) (columns Home) (row_picture vram h y)
 
 -- the buffer and the frame that a step leaves, refused or not
-unfoldable pub rowAfter : List ℕ → HomeState → List ℕ → List ℕ
-rowAfter vram h buffer = under (row_lines Home vram (length buffer)) (λ r. buffer) (rowFilled Home vram (reading_of h) buffer)
+unfoldable pub row_after : List ℕ → HomeState → List ℕ → List ℕ
+row_after vram h buffer = under (row_lines Home vram (length buffer)) (λ r. buffer) (row_filled Home vram (reading_of h) buffer)
 
-unfoldable pub frameAfter : List ℕ → HomeState → List ℕ → List ℕ
-frameAfter vram h frame = under (frameLines Home vram (length frame)) (λ r. frame) (frameFilled Home vram (reading_of h) frame)
+unfoldable pub frame_after : List ℕ → HomeState → List ℕ → List ℕ
+frame_after vram h frame = under (frame_lines Home vram (length frame)) (λ r. frame) (frame_filled Home vram (reading_of h) frame)
 
 -- What the row step promises of its answer r and of the buffer after it, and the frame step of the frame.
 pub record RowStepLeaves (vram : List ℕ) (h : HomeState) (buffer : List ℕ) (r : HomeStepped) (buffer' : List ℕ) : Type 0 where
-  pub answer : r ≡ rowStep vram (length buffer) h
-  pub bytes : buffer' ≡ rowAfter vram h buffer
+  pub answer : r ≡ row_step_of vram (length buffer) h
+  pub bytes : buffer' ≡ row_after vram h buffer
 
 pub record FrameStepLeaves (vram : List ℕ) (h : HomeState) (frame : List ℕ) (r : HomeStepped) (frame' : List ℕ) : Type 0 where
-  pub answer : r ≡ frameStep vram (length frame) h
-  pub bytes : frame' ≡ frameAfter vram h frame
+  pub answer : r ≡ frame_step_of vram (length frame) h
+  pub bytes : frame' ≡ frame_after vram h frame

@@ -1,9 +1,9 @@
 // The home machine (R20.8): a record of its own kind, the front of a device with a palette of 32 bytes. Its ports are the front's, but for the palette; its
 // step is the five points for the home screen. Video memory is lent by the caller. (What else is asked of its record: crate `look`.)
 ghost use Rattle.std.specs.Prelude.{◌≡◌, ◌<◌};
-ghost use Rattle.home.specs.Home.{paletteSize, made, fresh};
-ghost use Rattle.home.specs.Ports.{paletteWrite, WriteLeaves, portRead};
-ghost use Rattle.home.specs.Step.{coloursNow, cleaned, joined, RowStepLeaves, FrameStepLeaves};
+ghost use Rattle.home.specs.Home.{palette_size, made, fresh};
+ghost use Rattle.home.specs.Ports.{palette_write, WriteLeaves, port_read};
+ghost use Rattle.home.specs.Step.{colours_now, cleaned, joined, RowStepLeaves, FrameStepLeaves};
 
 use front::Front;
 use picture::Screen;
@@ -73,8 +73,8 @@ impl HomeState {
 
     // A byte for the palette (R20.3): it is stored at once.
     fn write_palette(mut self, val: u8) -> HomeWritten
-        requires { self.front.addr < paletteSize }
-        ensures { result ≡ paletteWrite self val }
+        requires { self.front.addr < palette_size }
+        ensures { result ≡ palette_write self val }
     {
         let addr = self.front.addr;
         let here = addr as usize;
@@ -108,7 +108,7 @@ impl HomeState {
 
     // A port read, all of it the front's but for the line counter.
     pub fn input(mut self, vram: &[u8], addr: u16) -> HomeRead
-        ensures { result ≡ portRead self vram.now addr }
+        ensures { result ≡ port_read self vram.now addr }
     {
         let front = self.front;
         let got = front.read(vram, addr, self.raster.v_counter);
@@ -125,7 +125,7 @@ impl HomeState {
 
 // The colours that a row is drawn with (R4.2): made anew from the palette where they are dirty, else the cache as it stands.
 fn colours_of(home: HomeState) -> [u32; 32]
-    ensures { result ≡ coloursNow home }
+    ensures { result ≡ colours_now home }
 {
     let cram = home.cram;
     let color_cache = home.color_cache;
@@ -149,7 +149,7 @@ fn clean(mut home: HomeState, row: DrawnRow, colours: [u32; 32]) -> HomeState
 
 // The answer of the device's own step, from what the points answer and leave.
 fn join(home: HomeState, points: Points, colours: [u32; 32]) -> HomeStepped
-    requires { colours ≡ coloursNow home }
+    requires { colours ≡ colours_now home }
     ensures { result ≡ joined home points }
 {
     let refusal = points.refusal;

@@ -1,4 +1,4 @@
--- A fresh device has the shape that the block asks, so has that of a well-formed block, and every port call keeps it.
+-- A fresh device has the shape that the block asks, so has that of a well_formed_lem block, and every port call keeps it.
 -- Assumes nothing.
 use Prim.Native.Nat.{ℕ, zero, suc, ◌+◌, ◌≤◌, ◌<◌}
 use mathlib.Core.Path.{◌≡◌, refl, ap, ◌∙◌}
@@ -14,24 +14,24 @@ use Rattle.laws.proofs.Tests.{either}
 use Rattle.raster.specs.declared.Raster.{Raster}
 use Rattle.raster.specs.declared.LineTable.{LineTable}
 use Rattle.front.specs.declared.Front.{Front}
-use Rattle.front.specs.Ports.{frontWrite, frontRead}
-use Rattle.front.proofs.Kept.{write_kept, read-registers}
-use Rattle.block_parts.proofs.Copies.{length-coloursFrom, colour-low}
+use Rattle.front.specs.Ports.{front_write, front_read}
+use Rattle.front.proofs.Kept.{write_kept, read_registers}
+use Rattle.block_parts.proofs.Copies.{length-colours_from, colour_low}
 use Rattle.home.specs.declared.HomeState.{HomeState}
 use Rattle.home.specs.declared.HomeWritten.{HomeWritten}
-use Rattle.home.specs.Home.{home, made, withFront}
-use Rattle.home.specs.Ports.{paletteWrite, portWrite, portRead}
-use Rattle.home_block.specs.HomeBlock.{state_of, wellFormed, Shape}
+use Rattle.home.specs.Home.{home, made, with_front}
+use Rattle.home.specs.Ports.{palette_write, port_write, port_read}
+use Rattle.home_block.specs.HomeBlock.{state_of, well_formed, Shape}
 use Rattle.home_block.proofs.Whole.{said}
-use Rattle.home_block.proofs.Stores.{sized-state}
+use Rattle.home_block.proofs.Stores.{sized_state}
 
 zeros : (n i : ℕ) → at (replicate n 0) i ≡ 0
 zeros zero i = refl
 zeros (suc n) zero = refl
 zeros (suc n) (suc i) = zeros n i
 
-pub made-shape : (t : LineTable) → Shape (made t)
-made-shape t =
+pub made_shape : (t : LineTable) → Shape (made t)
+made_shape t =
     record {
       sized = record { registers = refl; palette = refl };
       cache = refl;
@@ -39,10 +39,10 @@ made-shape t =
       colour = λ i. rw (zeros 32 i) (omega arith);
     }
 
--- and so has the device of a well-formed block
-module _ (b : List ℕ) (w : wellFormed b ≡ true) (bytes : (i : ℕ) → at b i < 256) where
-  part-byte : (n k i : ℕ) → at (take n (drop k b)) i < 256
-  part-byte n k i =
+-- and so has the device of a well_formed_lem block
+module _ (b : List ℕ) (w : well_formed b ≡ true) (bytes : (i : ℕ) → at b i < 256) where
+  part_byte : (n k i : ℕ) → at (take n (drop k b)) i < 256
+  part_byte n k i =
       elim (dec_lt i n) [
         | yes l ↦ rw (get_or-take n (drop k b) i 0 l, get_or-drop k b i 0) (bytes (k + i))
         | no l ↦
@@ -50,14 +50,14 @@ module _ (b : List ℕ) (w : wellFormed b ≡ true) (bytes : (i : ℕ) → at b 
             rw (get_or-eq_default (take n (drop k b)) 0 h) (omega arith)
       ]
 
-  pub state-shape : Shape (state_of b)
+  pub state_shape : Shape (state_of b)
   unfolding state_of
-  state-shape =
+  state_shape =
       record {
-        sized = sized-state b (said b w).long;
-        cache = length-coloursFrom 58 b;
-        byte = part-byte 32 26;
-        colour = colour-low 58 b bytes;
+        sized = sized_state b (said b w).long;
+        cache = length-colours_from 58 b;
+        byte = part_byte 32 26;
+        colour = colour_low 58 b bytes;
       }
 
 module _ {h : HomeState} (g : Shape h) where
@@ -75,8 +75,8 @@ module _ {h : HomeState} (g : Shape h) where
 abbrev ShapeW : HomeWritten → Type 0
 ShapeW a = Shape a.home
 
-palette-write : (h : HomeState) (v : ℕ) → v < 256 → Shape h → ShapeW (paletteWrite h v)
-palette-write h v low g =
+palette_write_lem : (h : HomeState) (v : ℕ) → v < 256 → Shape h → ShapeW (palette_write h v)
+palette_write_lem h v low g =
     record {
       sized = record { registers = g.sized.registers; palette = simp length-set g.sized.palette };
       cache = g.cache;
@@ -84,15 +84,15 @@ palette-write h v low g =
       colour = g.colour;
     }
 
-pub write_shape : (h : HomeState) (m : List ℕ) (p v : ℕ) → v < 256 → Shape h → Shape (portWrite h m p v).answer.home
-unfolding portWrite
+pub write_shape : (h : HomeState) (m : List ℕ) (p v : ℕ) → v < 256 → Shape h → Shape (port_write h m p v).answer.home
+unfolding port_write
 write_shape h m p v low g =
-    let a = (frontWrite 32 h.front m p v).answer in
+    let a = (front_write 32 h.front m p v).answer in
     let k = carried g a.front h.raster h.cram_dirty (write_kept 32 h.front m p v).registers in
-    either ShapeW a.palette (λ _. palette-write (withFront h a.front) v low k) (λ _. k)
+    either ShapeW a.palette (λ _. palette_write_lem (with_front h a.front) v low k) (λ _. k)
 
-pub read-shape : (h : HomeState) (m : List ℕ) (p : ℕ) → Shape h → Shape (portRead h m p).home
-unfolding portRead
-read-shape h m p g =
+pub read_shape : (h : HomeState) (m : List ℕ) (p : ℕ) → Shape h → Shape (port_read h m p).home
+unfolding port_read
+read_shape h m p g =
     let c = h.raster.v_counter in
-    carried g (frontRead h.front m p c).front h.raster h.cram_dirty (ap length (read-registers h.front m p c))
+    carried g (front_read h.front m p c).front h.raster h.cram_dirty (ap length (read_registers h.front m p c))

@@ -2,11 +2,11 @@
 // either machine, and a palette of its own.
 ghost use Rattle.std.specs.Prelude.{◌≡◌, true, ◌≤◌, ◌<◌, length};
 ghost use Rattle.laws.specs.Lists.{at};
-ghost use Rattle.fields.specs.Stored.{addressIn};
+ghost use Rattle.fields.specs.Stored.{address_in};
 ghost use Rattle.home.specs.declared.HomeState.{HomeState};
-ghost use Rattle.home.specs.Home.{paletteSize, made};
-ghost use Rattle.home.specs.Ports.{paletteWrite};
-ghost use Rattle.home_block.specs.HomeBlock.{blockSize, block_of, state_of, wellFormed, Sized};
+ghost use Rattle.home.specs.Home.{palette_size, made};
+ghost use Rattle.home.specs.Ports.{palette_write};
+ghost use Rattle.home_block.specs.HomeBlock.{block_size, block_of, state_of, well_formed, Sized};
 ghost use Rattle.home_block.specs.InPlace.{OutInPlace, InputInPlace};
 
 use fields::{MARK, MARK_FIRST, MARK_SECOND};
@@ -33,7 +33,7 @@ const HOME_MARK: u8 = 0x48;
 
 // R21.3: whether a block has the length, the mark, and no byte that does not fit its place.
 pub fn well_formed(block: &[u8]) -> bool
-    ensures { result ≡ wellFormed block.now }
+    ensures { result ≡ well_formed block.now }
 {
     if block.len() != BLOCK_SIZE {
         return false;
@@ -44,7 +44,7 @@ pub fn well_formed(block: &[u8]) -> bool
 
 // A fresh device of this table into a block.
 pub fn fresh(block: &mut [u8], table: LineTable)
-    requires { length block.old ≡ blockSize }
+    requires { length block.old ≡ block_size }
     ensures { block.new ≡ block_of (made table) }
 {
     block_parts::stamp(block, HOME_MARK, DIRTY);
@@ -55,7 +55,7 @@ pub fn fresh(block: &mut [u8], table: LineTable)
 
 // The registers.
 pub fn registers(block: &[u8]) -> [u8; 11]
-    requires { length block.now ≡ blockSize }
+    requires { length block.now ≡ block_size }
     ensures { result ≡ (state_of block.now).front.reg }
 {
     block_parts::registers(block)
@@ -63,7 +63,7 @@ pub fn registers(block: &[u8]) -> [u8; 11]
 
 // The raster.
 pub fn raster_in(block: &[u8]) -> Raster
-    requires { length block.now ≡ blockSize }
+    requires { length block.now ≡ block_size }
     ensures { result ≡ (state_of block.now).raster }
 {
     block_parts::raster_in(block, VERTICAL_SCROLL, raster::table_from(block[TABLE]))
@@ -71,7 +71,7 @@ pub fn raster_in(block: &[u8]) -> Raster
 
 // The palette, and the cached colours.
 pub fn palette_in(block: &[u8]) -> [u8; 32]
-    requires { length block.now ≡ blockSize }
+    requires { length block.now ≡ block_size }
     ensures { result ≡ (state_of block.now).cram }
 {
     let mut cram = [0u8; 32];
@@ -80,7 +80,7 @@ pub fn palette_in(block: &[u8]) -> [u8; 32]
 }
 
 pub fn cache_in(block: &[u8]) -> [u32; 32]
-    requires { length block.now ≡ blockSize }
+    requires { length block.now ≡ block_size }
     ensures { result ≡ (state_of block.now).color_cache }
 {
     block_parts::colours_at(block, CACHE)
@@ -88,7 +88,7 @@ pub fn cache_in(block: &[u8]) -> [u32; 32]
 
 // One of the cached colours.
 pub fn cached_colour(block: &[u8], n: usize) -> u32
-    requires { (length block.now ≡ blockSize) × (n < 32) }
+    requires { (length block.now ≡ block_size) × (n < 32) }
     ensures { result ≡ at (state_of block.now).color_cache n }
 {
     block_parts::colour_at(block, CACHE + 4 * n)
@@ -98,8 +98,8 @@ pub fn cached_colour(block: &[u8], n: usize) -> u32
 
 // A byte for the palette (R20.3): it is stored at once.
 fn write_palette(block: &mut [u8], val: u8)
-    requires { (length block.old ≡ blockSize) × (addressIn block.old < paletteSize) }
-    ensures { (h : HomeState) → Sized h → block.old ≡ block_of h → block.new ≡ block_of (paletteWrite h val).home }
+    requires { (length block.old ≡ block_size) × (address_in block.old < palette_size) }
+    ensures { (h : HomeState) → Sized h → block.old ≡ block_of h → block.new ≡ block_of (palette_write h val).home }
 {
     let addr = fields::address_in(block);
     let here = addr as usize;
@@ -107,9 +107,9 @@ fn write_palette(block: &mut [u8], val: u8)
     fields::store_address(block, (addr + 1) % PALETTE_SIZE);
 }
 
-// A port write on the device of a well-formed block.
+// A port write on the device of a well_formed_lem block.
 pub fn out(block: &mut [u8], vram: &mut [u8], port: u16, val: u8) -> Refusal
-    requires { wellFormed block.old ≡ true }
+    requires { well_formed block.old ≡ true }
     ensures { OutInPlace block.old vram.old port val result block.new vram.new }
 {
     let sent = inplace::write(block, vram, PALETTE_SIZE, port, val);
@@ -123,7 +123,7 @@ pub fn out(block: &mut [u8], vram: &mut [u8], port: u16, val: u8) -> Refusal
 
 // A port read, all of it the front's.
 pub fn input(block: &mut [u8], vram: &[u8], port: u16) -> Got
-    requires { wellFormed block.old ≡ true }
+    requires { well_formed block.old ≡ true }
     ensures { InputInPlace block.old vram.now port result block.new }
 {
     inplace::read(block, vram, port)

@@ -6,7 +6,7 @@ use Rattle.front.specs.declared.FrontRead.{FrontRead}
 use Rattle.refusal.specs.declared.Refusal.{Refusal}
 use Rattle.inplace.specs.declared.Sent.{Sent}
 use Rattle.inplace.specs.declared.Got.{Got}
-use Rattle.fields.specs.Stored.{frontStored}
+use Rattle.fields.specs.Stored.{front_stored}
 
 -- the bytes of a palette: the home machine's, or the handheld's
 abbrev pub PaletteSize : ℕ → Type 0
@@ -23,9 +23,9 @@ refused r = record { refusal = r; byte = 0 }
 pub record SentInPlace (b : List ℕ) (a : FrontWritten) (r : Sent) (b' : List ℕ) : Type 0 where
   pub refusal : r.refusal ≡ a.refusal
   pub palette : r.palette ≡ a.palette
-  pub block : b' ≡ frontStored a.front b
+  pub block : b' ≡ front_stored a.front b
 
 pub record GotInPlace (b : List ℕ) (a : FrontRead) (r : Got) (b' : List ℕ) : Type 0 where
   pub refusal : r.refusal ≡ a.refusal
   pub byte : r.byte ≡ a.byte
-  pub block : b' ≡ frontStored a.front b
+  pub block : b' ≡ front_stored a.front b

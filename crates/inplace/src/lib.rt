@@ -3,10 +3,10 @@
 // A call reads and stores the bytes that it needs. Of the palette it knows the size; the byte for it is stored by the machine whose block it is.
 ghost use Rattle.std.specs.Prelude.{◌≡◌, ◌%◌, ◌<◌, length};
 ghost use Rattle.laws.specs.Lists.{at};
-ghost use Rattle.laws.specs.Sizes.{vramSize};
-ghost use Rattle.front.specs.Front.{withBuffer, commandWrite, dataWrite, dataRead, statusRead};
-ghost use Rattle.front.specs.Ports.{frontWrite, frontRead};
-ghost use Rattle.fields.specs.Stored.{frontIn, frontStored, FrontFormed};
+ghost use Rattle.laws.specs.Sizes.{vram_size};
+ghost use Rattle.front.specs.Front.{with_buffer, command_write, data_write, data_read, status_read};
+ghost use Rattle.front.specs.Ports.{front_write, front_read};
+ghost use Rattle.fields.specs.Stored.{front_in, front_stored, FrontFormed};
 ghost use Rattle.inplace.specs.InPlace.{PaletteSize, answered, refused, SentInPlace, GotInPlace};
 
 use fields::{CHOSEN, COMMAND_BYTE, COMMAND_LATCHED, COUNTER, READ_BUFFER, REGISTERS, STATUS};
@@ -56,8 +56,8 @@ const PALETTE: u8 = 2;
 
 // A byte in the read buffer, and the address one on from this one.
 fn store_buffer(block: &mut [u8], byte: u8, address: u16)
-    requires { (FrontFormed block.old) × (address < vramSize) }
-    ensures { block.new ≡ frontStored (withBuffer (frontIn block.old) byte address) block.old }
+    requires { (FrontFormed block.old) × (address < vram_size) }
+    ensures { block.new ≡ front_stored (with_buffer (front_in block.old) byte address) block.old }
 {
     fields::store_address(block, (address + 1) % VRAM_ADDRESSES);
     block[READ_BUFFER] = byte;
@@ -80,8 +80,8 @@ fn palette_address(byte: u8, palette: u16) -> u16
 // A command byte: the first of two waits in the latch (R3.4), the second empties it and acts (R3.5).
 fn write_cmd(block: &mut [u8], vram: &[u8], palette: u16, val: u8) -> Refusal
     requires front_formed { FrontFormed block.old }
-    requires vram_len { (length vram.now ≡ vramSize) × PaletteSize palette }
-    ensures { SentInPlace block.old (commandWrite palette (frontIn block.old) vram.now val) (answered result) block.new }
+    requires vram_len { (length vram.now ≡ vram_size) × PaletteSize palette }
+    ensures { SentInPlace block.old (command_write palette (front_in block.old) vram.now val) (answered result) block.new }
 {
     if block[COMMAND_LATCHED] == 0 {
         block[COMMAND_LATCHED] = 1;
@@ -120,9 +120,9 @@ fn write_cmd(block: &mut [u8], vram: &[u8], palette: u16, val: u8) -> Refusal
 // A data byte, for the memory that is chosen (R3.6).
 fn write_ram(block: &mut [u8], vram: &mut [u8], palette: u16, val: u8) -> Sent
     requires front_formed { FrontFormed block.old }
-    requires vram_len { length vram.old ≡ vramSize }
-    ensures sent_in_place { SentInPlace block.old (dataWrite palette (frontIn block.old) vram.old val).answer result block.new }
-    ensures vram_after { vram.new ≡ (dataWrite palette (frontIn block.old) vram.old val).vram }
+    requires vram_len { length vram.old ≡ vram_size }
+    ensures sent_in_place { SentInPlace block.old (data_write palette (front_in block.old) vram.old val).answer result block.new }
+    ensures vram_after { vram.new ≡ (data_write palette (front_in block.old) vram.old val).vram }
 {
     let chosen = block[CHOSEN];
     let addr = fields::address_in(block);
@@ -154,8 +154,8 @@ fn write_ram(block: &mut [u8], vram: &mut [u8], palette: u16, val: u8) -> Sent
 // The read buffer, and the next byte into it (R3.8).
 fn read_ram(block: &mut [u8], vram: &[u8]) -> Got
     requires front_formed { FrontFormed block.old }
-    requires vram_len { length vram.now ≡ vramSize }
-    ensures { GotInPlace block.old (dataRead (frontIn block.old) vram.now) result block.new }
+    requires vram_len { length vram.now ≡ vram_size }
+    ensures { GotInPlace block.old (data_read (front_in block.old) vram.now) result block.new }
 {
     let chosen = block[CHOSEN];
     block[COMMAND_LATCHED] = 0;
@@ -181,7 +181,7 @@ fn read_ram(block: &mut [u8], vram: &[u8]) -> Got
 // The status, which the read clears (R3.9).
 fn read_status(block: &mut [u8]) -> Got
     requires { FrontFormed block.old }
-    ensures { GotInPlace block.old (statusRead (frontIn block.old)) result block.new }
+    ensures { GotInPlace block.old (status_read (front_in block.old)) result block.new }
 {
     let byte = block[STATUS];
     block[COMMAND_LATCHED] = 0;
@@ -197,8 +197,8 @@ fn read_status(block: &mut [u8]) -> Got
 pub fn write(block: &mut [u8], vram: &mut [u8], palette: u16, port: u16, val: u8) -> Sent
     requires front_formed { FrontFormed block.old }
     requires palette_size { PaletteSize palette }
-    ensures sent_in_place { SentInPlace block.old (frontWrite palette (frontIn block.old) vram.old port val).answer result block.new }
-    ensures vram_after { vram.new ≡ (frontWrite palette (frontIn block.old) vram.old port val).vram }
+    ensures sent_in_place { SentInPlace block.old (front_write palette (front_in block.old) vram.old port val).answer result block.new }
+    ensures vram_after { vram.new ≡ (front_write palette (front_in block.old) vram.old port val).vram }
 {
     if vram.len() != small::VRAM_SIZE {
         return answered(Refusal::VramLength);
@@ -213,7 +213,7 @@ pub fn write(block: &mut [u8], vram: &mut [u8], palette: u16, port: u16, val: u8
 // A port read, tested in the order of R2.4; the line counter is byte 14 (R3.10).
 pub fn read(block: &mut [u8], vram: &[u8], port: u16) -> Got
     requires { FrontFormed block.old }
-    ensures { GotInPlace block.old (frontRead (frontIn block.old) vram.now port (at block.old 14)) result block.new }
+    ensures { GotInPlace block.old (front_read (front_in block.old) vram.now port (at block.old 14)) result block.new }
 {
     if vram.len() != small::VRAM_SIZE {
         return refused(Refusal::VramLength);

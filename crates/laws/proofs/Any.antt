@@ -10,7 +10,7 @@ use lib.Dec.{eqb, ltb}
 use borrow.Author.Tests.{eq-eqb, ne_eqb, lt-ltb, le-ltb}
 use Rattle.laws.specs.Bits.{bit, digit, number, any}
 use lib.Pow.{pow_pos}
-use Rattle.laws.proofs.Bits.{bit-number, bit-above, number_lt, number-snoc}
+use Rattle.laws.proofs.Bits.{bit_number, bit_above, number_lt, number_snoc}
 use Rattle.laws.specs.Circle.{past}
 use Rattle.laws.proofs.Tests.{neither}
 
@@ -20,10 +20,10 @@ or_swap true false c = refl
 or_swap false true c = refl
 or_swap false false c = refl
 
-pub any-cong : (n : ℕ) (f g : ℕ → Bool) → ((k : ℕ) → k < n → f k ≡ g k) → any n f ≡ any n g
+pub any_cong : (n : ℕ) (f g : ℕ → Bool) → ((k : ℕ) → k < n → f k ≡ g k) → any n f ≡ any n g
 unfolding any
-any-cong zero f g e = refl
-any-cong (suc n) f g e = rw (e n (omega arith), any-cong n f g (λ k h. e k (omega arith)))
+any_cong zero f g e = refl
+any_cong (suc n) f g e = rw (e n (omega arith), any_cong n f g (λ k h. e k (omega arith)))
 
 pub any_none : (n : ℕ) (f : ℕ → Bool) → ((k : ℕ) → k < n → f k ≡ false) → any n f ≡ false
 unfolding any
@@ -40,10 +40,10 @@ any_false (suc n) f e k h =
       | no l ↦ let q : k ≡ n = omega arith in ap f q ∙ t.0
     ]
 
-pub any-split : (x n : ℕ) (f : ℕ → Bool) → any (x + n) f ≡ (any x f || any n (λ j. f (x + j)))
+pub any_split : (x n : ℕ) (f : ℕ → Bool) → any (x + n) f ≡ (any x f || any n (λ j. f (x + j)))
 unfolding any
-any-split x zero f = rw add-zero (sym (or-false (any x f)))
-any-split x (suc n) f = rw (add-suc, any-split x n f) (or_swap (f (x + n)) (any x f) (any n (λ j. f (x + j))))
+any_split x zero f = rw add-zero (sym (or-false (any x f)))
+any_split x (suc n) f = rw (add-suc, any_split x n f) (or_swap (f (x + n)) (any x f) (any n (λ j. f (x + j))))
 
 -- of the places off, off + 1, .. around the circle, place i is the one at past i off
 pub any_place : (n off i : ℕ) (g : ℕ → Bool) → n ≤ 256 → i < 256 → any n (λ j. eqb ((off + j) % 256) i && g j) ≡
@@ -71,11 +71,11 @@ any_place (suc n) off i g h l =
     ]
 
 -- a bit of a number that its bits give
-pub bit-of : (n : ℕ) (f : ℕ → Bool) (k : ℕ) → bit (number n f) k ≡ (ltb k n && f k)
-bit-of n f k =
+pub bit_of_lem : (n : ℕ) (f : ℕ → Bool) (k : ℕ) → bit (number n f) k ≡ (ltb k n && f k)
+bit_of_lem n f k =
     elim (dec_lt k n) [
-      | yes h ↦ rw (lt-ltb k n h) (bit-number n f k h)
-      | no h ↦ let l : n ≤ k = omega arith in rw (le-ltb k n l) (bit-above n (number n f) k (number_lt n f) l)
+      | yes h ↦ rw (lt-ltb k n h) (bit_number n f k h)
+      | no h ↦ let l : n ≤ k = omega arith in rw (le-ltb k n l) (bit_above n (number n f) k (number_lt n f) l)
     ]
 
 -- ---- a number is not 0 where one of its bits is set
@@ -83,7 +83,7 @@ weighted : (t : Bool) (a w : ℕ) → 0 < w → not (eqb (a + digit t * w) 0) �
 weighted true a w h = ap not (ne_eqb (a + 1 * w) 0 (λ e. omega arith))
 weighted false a w h = let e : a + 0 * w ≡ a = omega arith in rw e
 
-pub any-number : (n : ℕ) (f : ℕ → Bool) → not (eqb (number n f) 0) ≡ any n f
+pub any_number : (n : ℕ) (f : ℕ → Bool) → not (eqb (number n f) 0) ≡ any n f
 unfolding any number
-any-number zero f = refl
-any-number (suc n) f = rw (number-snoc n f) (weighted (f n) (number n f) (2 ^ n) (pow_pos n) ∙ ap (λ (b : Bool). f n || b) (any-number n f))
+any_number zero f = refl
+any_number (suc n) f = rw (number_snoc n f) (weighted (f n) (number n f) (2 ^ n) (pow_pos n) ∙ ap (λ (b : Bool). f n || b) (any_number n f))

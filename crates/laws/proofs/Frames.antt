@@ -27,23 +27,23 @@ module _
     room : w * y + w ≤ length frame
     room = omega (arith, mul-le-mul_left w low)
 
-    head-length : length (take (w * y) frame) ≡ w * y
-    head-length = length-take-le (w * y) frame (omega (arith, room))
+    head_length : length (take (w * y) frame) ≡ w * y
+    head_length = length-take-le (w * y) frame (omega (arith, room))
 
-    pub row-length : length (with_row w y bytes frame) ≡ length frame
+    pub row_length : length (with_row w y bytes frame) ≡ length frame
     unfolding with_row
-    row-length = simp (length-append, head-length, size, length-drop) (omega (arith, room))
+    row_length = simp (length-append, head_length, size, length-drop) (omega (arith, room))
 
     pub row_here : row_of w y (with_row w y bytes frame) ≡ bytes
     unfolding row_of with_row
     row_here =
-        rw (drop_at (take (w * y) frame) (bytes ++ drop (w * y + w) frame) (w * y) head-length)
+        rw (drop_at (take (w * y) frame) (bytes ++ drop (w * y + w) frame) (w * y) head_length)
         (take_at bytes (drop (w * y + w) frame) w size)
 
     row_below : (z : ℕ) → z < y → row_of w z (with_row w y bytes frame) ≡ row_of w z frame
     unfolding with_row
     row_below z h =
-        let fits : w * z + w ≤ length (take (w * y) frame) = omega (arith, head-length, mul-le-mul_left w h) in
+        let fits : w * z + w ≤ length (take (w * y) frame) = omega (arith, head_length, mul-le-mul_left w h) in
         early w z (take (w * y) frame) (bytes ++ drop (w * y + w) frame) fits
         ∙ sym (early w z (take (w * y) frame) (drop (w * y) frame) fits)
         ∙ ap (row_of w z) (take-append-drop (w * y) frame)
@@ -53,7 +53,7 @@ module _
     unfolding with_row
     behind m h =
         let k : ℕ = m - (w * y + w) in
-        let e : m ≡ length (take (w * y) frame) + (length bytes + k) = omega (arith, head-length) in
+        let e : m ≡ length (take (w * y) frame) + (length bytes + k) = omega (arith, head_length) in
         let f : w * y + w + k ≡ m = omega arith in
         ap (λ (q : ℕ). drop q (take (w * y) frame ++ (bytes ++ drop (w * y + w) frame))) e
         ∙ drop-append-add (take (w * y) frame) (bytes ++ drop (w * y + w) frame) (length bytes + k)
@@ -61,13 +61,13 @@ module _
         ∙ drop-drop k (w * y + w) frame
         ∙ ap (λ (q : ℕ). drop q frame) f
 
-    row-above : (z : ℕ) → y < z → row_of w z (with_row w y bytes frame) ≡ row_of w z frame
+    row_above : (z : ℕ) → y < z → row_of w z (with_row w y bytes frame) ≡ row_of w z frame
     unfolding row_of
-    row-above z h = ap (take w) (behind (w * z) (omega (arith, mul-le-mul_left w h)))
+    row_above z h = ap (take w) (behind (w * z) (omega (arith, mul-le-mul_left w h)))
 
     pub row_other : (z : ℕ) → z ≢ y → row_of w z (with_row w y bytes frame) ≡ row_of w z frame
     row_other z h = go (ltb z y) refl
       where
         go : (b : Bool) → ltb z y ≡ b → row_of w z (with_row w y bytes frame) ≡ row_of w z frame
         go true e = row_below z (ltb-true z y e)
-        go false e = row-above z (omega (arith, ltb-false z y e))
+        go false e = row_above z (omega (arith, ltb-false z y e))

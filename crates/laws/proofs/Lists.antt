@@ -30,19 +30,19 @@ copy_step d at s from j hd hs p =
     fill_step d at (drop from s) j hd h refl (sym (get_or-drop from s j 0)) p
 
 -- a buffer of n that is stored whole is what was stored, and so is an array of zeros
-pub filled-whole : (d s : List ℕ) (n : ℕ) {i : ℕ} → length d ≡ n → length s ≡ n → i ≡ n → paste d 0 s i ≡ s
-filled-whole d s n hd hs e =
+pub filled_whole : (d s : List ℕ) (n : ℕ) {i : ℕ} → length d ≡ n → length s ≡ n → i ≡ n → paste d 0 s i ≡ s
+filled_whole d s n hd hs e =
     let all : length d ≤ 0 + n = omega arith in
     let most : length s ≤ n = omega arith in
     ap (paste d 0 s) e ∙ ap (λ (x : List ℕ). take n s ++ x) (drop_of_length-le d all) ∙ append-nil (take n s) ∙ take_all n s most
 
 pub filled : (n : ℕ) (s : List ℕ) {i : ℕ} → length s ≡ n → i ≡ n → paste (replicate n 0) 0 s i ≡ s
-filled n s h e = filled-whole (replicate n 0) s n (length-replicate n 0) h e
+filled n s h e = filled_whole (replicate n 0) s n (length-replicate n 0) h e
 
 -- ---- bytes written at a place
-pub written-whole : (l : List ℕ) (at : ℕ) (s : List ℕ) {i : ℕ} → i ≡ length s → paste l at s i ≡ written l at s
+pub written_whole : (l : List ℕ) (at : ℕ) (s : List ℕ) {i : ℕ} → i ≡ length s → paste l at s i ≡ written l at s
 unfolding written
-written-whole l at s e = ap (paste l at s) e ∙ ap (λ (x : List ℕ). (take at l ++ x) ++ drop (at + length s) l) (take-length s)
+written_whole l at s e = ap (paste l at s) e ∙ ap (λ (x : List ℕ). (take at l ++ x) ++ drop (at + length s) l) (take-length s)
 
 pub length-written : (l : List ℕ) (a : ℕ) (x : List ℕ) → a + length x ≤ length l → length (written l a x) ≡ length l
 unfolding written
@@ -51,9 +51,9 @@ length-written l a x h =
     simp (length-append, length-drop, t) (omega arith)
 
 -- nothing written
-pub written-nil : (l : List ℕ) (a : ℕ) → written l a [] ≡ l
+pub written_nil : (l : List ℕ) (a : ℕ) → written l a [] ≡ l
 unfolding written
-written-nil l a = rw (append-nil (take a l), add-zero a) (take-append-drop a l)
+written_nil l a = rw (append-nil (take a l), add-zero a) (take-append-drop a l)
 
 -- two writes, side by side
 pub written_on :

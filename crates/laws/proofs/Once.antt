@@ -9,26 +9,26 @@ use lib.Dec.{ltb}
 use borrow.Author.Tests.{ltb-true, ltb-false}
 use Rattle.laws.specs.Once.{ExactlyOnce, ExactlyTwice}
 
-pub once-iff : {n : ℕ} {P Q : ℕ → Type 0} → ((i : ℕ) → P i ↔ Q i) → ExactlyOnce n P → ExactlyOnce n Q
-once-iff e o =
+pub once_iff : {n : ℕ} {P Q : ℕ → Type 0} → ((i : ℕ) → P i ↔ Q i) → ExactlyOnce n P → ExactlyOnce n Q
+once_iff e o =
     record { at = o.at; below = o.below; holds = (e o.at).0 o.holds; only = λ j h q. o.only j h ((e j).1 q) }
 
-pub twice-iff : {n : ℕ} {P Q : ℕ → Type 0} → ((i : ℕ) → P i ↔ Q i) → ExactlyTwice n P → ExactlyTwice n Q
-twice-iff e o =
+pub twice_iff : {n : ℕ} {P Q : ℕ → Type 0} → ((i : ℕ) → P i ↔ Q i) → ExactlyTwice n P → ExactlyTwice n Q
+twice_iff e o =
     record {
       first = o.first;
       second = o.second;
       apart = o.apart;
       below = o.below;
-      holds-first = (e o.first).0 o.holds-first;
-      holds-second = (e o.second).0 o.holds-second;
+      holds_first = (e o.first).0 o.holds_first;
+      holds_second = (e o.second).0 o.holds_second;
       only = λ j h q. o.only j h ((e j).1 q);
     }
 
 -- what happens in two ways, each exactly once and never both at once, happens exactly twice
-pub once-and-once :
+pub once_and_once :
     {n : ℕ} {P R Q : ℕ → Type 0} → ExactlyOnce n P → ExactlyOnce n R → ((i : ℕ) → (P i ⊎ R i) ↔ Q i) → ((i : ℕ) → P i → R i → ⊥) → ExactlyTwice n Q
-once-and-once {n} {P} {R} {Q} p r e apart = go (ltb p.at r.at) refl
+once_and_once {n} {P} {R} {Q} p r e apart = go (ltb p.at r.at) refl
   where
     first : Q p.at
     first = (e p.at).0 (inl p.holds)
@@ -46,8 +46,8 @@ once-and-once {n} {P} {R} {Q} p r e apart = go (ltb p.at r.at) refl
           second = r.at;
           apart = ltb-true p.at r.at t;
           below = r.below;
-          holds-first = first;
-          holds-second = second;
+          holds_first = first;
+          holds_second = second;
           only = λ j h q. ⊎_elim (λ x. inl (p.only j h x)) (λ x. inr (r.only j h x)) ((e j).1 q);
         }
     go false t =
@@ -58,8 +58,8 @@ once-and-once {n} {P} {R} {Q} p r e apart = go (ltb p.at r.at) refl
           second = p.at;
           apart = omega (arith, ne);
           below = p.below;
-          holds-first = second;
-          holds-second = first;
+          holds_first = second;
+          holds_second = first;
           only = λ j h q. ⊎_elim (λ x. inr (p.only j h x)) (λ x. inl (r.only j h x)) ((e j).1 q);
         }
 
@@ -97,8 +97,8 @@ module _ (L : ℕ) (f : ℕ → ℕ) (start : f 0 < L) (next : (i : ℕ) → Nex
               omega (arith, n.goes (omega arith))
 
   -- each value below L is taken exactly once
-  pub each-once : (q : ℕ) → q < L → ExactlyOnce L (λ i. f (suc i) ≡ q)
-  each-once q h = go (ltb (f 0) q) refl
+  pub each_once : (q : ℕ) → q < L → ExactlyOnce L (λ i. f (suc i) ≡ q)
+  each_once q h = go (ltb (f 0) q) refl
     where
       only : (k : ℕ) → k < L → f (suc k) ≡ q → (j : ℕ) → j < L → f (suc j) ≡ q → j ≡ k
       only k hk ek j hj ej =

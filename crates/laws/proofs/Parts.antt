@@ -9,23 +9,23 @@ use native.Mathlib.Omega.{arith}
 use lib.ListN.{length, set, take, drop, take-append-drop}
 use lib.Seq.{paste, take_at, take_all, drop-append-add, drop-drop, drop-cons, get_or-append-add, get_or-set_same, get_or-set_other, set_out}
 use Rattle.laws.specs.Lists.{at}
-use Rattle.laws.specs.Table.{tableFrom}
+use Rattle.laws.specs.Table.{table_from}
 
 -- n elements from place k on, written out
-pub part-table : (n k : ℕ) (l : List ℕ) → k + n ≤ length l → tableFrom n k (at l) ≡ take n (drop k l)
-unfolding tableFrom
-part-table zero k l h = refl
-part-table (suc n) k l h =
+pub part_table : (n k : ℕ) (l : List ℕ) → k + n ≤ length l → table_from n k (at l) ≡ take n (drop k l)
+unfolding table_from
+part_table zero k l h = refl
+part_table (suc n) k l h =
     let h' : k < length l = omega arith in
-    ap (λ (x : List ℕ). at l k ∷ x) (part-table n (suc k) l (omega arith)) ∙ sym (ap (take (suc n)) (drop-cons l k 0 h'))
+    ap (λ (x : List ℕ). at l k ∷ x) (part_table n (suc k) l (omega arith)) ∙ sym (ap (take (suc n)) (drop-cons l k 0 h'))
 
 -- n elements from place k on, and the rest
 pub parted : (n k : ℕ) (l : List ℕ) → drop k l ≡ take n (drop k l) ++ drop (k + n) l
 parted n k l = sym (take-append-drop n (drop k l)) ∙ ap (λ (x : List ℕ). take n (drop k l) ++ x) (drop-drop n k l)
 
 -- what stands past a part of n elements
-pub at-past : (p q : List ℕ) (n k : ℕ) → length p ≡ n → at (p ++ q) (n + k) ≡ at q k
-at-past p q n k e = ap (λ (m : ℕ). at (p ++ q) (m + k)) (sym e) ∙ get_or-append-add p q k 0
+pub at_past : (p q : List ℕ) (n k : ℕ) → length p ≡ n → at (p ++ q) (n + k) ≡ at q k
+at_past p q n k e = ap (λ (m : ℕ). at (p ++ q) (m + k)) (sym e) ∙ get_or-append-add p q k 0
 
 -- p stands already at the start of b, and s comes next
 pub pasted :

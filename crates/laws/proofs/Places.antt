@@ -7,7 +7,7 @@ use native.Mathlib.Omega.{arith}
 use lib.ListN.{length, take, drop, length-append, length-drop, get_or-append, take-append-drop}
 use lib.Seq.{length-take-le, get_or-take, get_or-drop, drop-drop}
 use Rattle.laws.specs.Lists.{at, written}
-use Rattle.laws.proofs.Parts.{at-past}
+use Rattle.laws.proofs.Parts.{at_past}
 
 module _ (l : List ℕ) (a : ℕ) (x : List ℕ) (fits : a + length x ≤ length l) where
   start : length (take a l) ≡ a
@@ -21,12 +21,12 @@ module _ (l : List ℕ) (a : ℕ) (x : List ℕ) (fits : a + length x ≤ length
   unfolding written
   written_at k h =
       let e : a + k < length (take a l ++ x) = omega (arith, whole) in
-      get_or-append (take a l ++ x) (drop (a + length x) l) 0 (a + k) e ∙ at-past (take a l) x a k start
+      get_or-append (take a l ++ x) (drop (a + length x) l) 0 (a + k) e ∙ at_past (take a l) x a k start
 
   -- what stands before it, and behind it
-  pub written-before : (k : ℕ) → k < a → at (written l a x) k ≡ at l k
+  pub written_before : (k : ℕ) → k < a → at (written l a x) k ≡ at l k
   unfolding written
-  written-before k h =
+  written_before k h =
       let e : k < length (take a l ++ x) = omega (arith, whole) in
       let d : k < length (take a l) = omega (arith, start) in
       get_or-append (take a l ++ x) (drop (a + length x) l) 0 k e ∙ get_or-append (take a l) x 0 k d ∙ get_or-take a l k 0 h
@@ -36,7 +36,7 @@ module _ (l : List ℕ) (a : ℕ) (x : List ℕ) (fits : a + length x ≤ length
   written_behind k h =
       let e : a + length x + (k - (a + length x)) ≡ k = omega arith in
       ap (at ((take a l ++ x) ++ drop (a + length x) l)) (sym e)
-      ∙ at-past (take a l ++ x) (drop (a + length x) l) (a + length x) (k - (a + length x)) whole
+      ∙ at_past (take a l ++ x) (drop (a + length x) l) (a + length x) (k - (a + length x)) whole
       ∙ get_or-drop (a + length x) l (k - (a + length x)) 0
       ∙ ap (at l) e
 

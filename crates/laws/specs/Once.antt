@@ -15,6 +15,6 @@ pub record ExactlyTwice (n : ℕ) (Q : ℕ → Type 0) : Type 0 where
   pub second : ℕ
   pub apart : first < second
   pub below : second < n
-  pub holds-first : Q first
-  pub holds-second : Q second
+  pub holds_first : Q first
+  pub holds_second : Q second
   pub only : (j : ℕ) → j < n → Q j → (j ≡ first) ⊎ (j ≡ second)

@@ -2,8 +2,8 @@
 -- Assumes nothing.
 use Rattle.std.specs.Prelude.{ℕ}
 
-abbrev pub vramSize : ℕ
-vramSize = 16384
+abbrev pub vram_size : ℕ
+vram_size = 16384
 
-abbrev pub cramSize : ℕ
-cramSize = 64
+abbrev pub cram_size : ℕ
+cram_size = 64

@@ -2,7 +2,7 @@
 ghost use Rattle.std.specs.Prelude.{◌≡◌};
 ghost use Rattle.picture.specs.declared.Screen.TheVariants.{Home};
 ghost use Rattle.dump.specs.Sheet.{SheetLeaves};
-ghost use Rattle.look.specs.View.{screenRow};
+ghost use Rattle.look.specs.View.{screen_row};
 
 use home::HomeState;
 use picture::Screen;
@@ -10,7 +10,7 @@ use refusal::Refusal;
 
 // A row of a frame, as a part of the caller's own frame; the empty part where it does not fit.
 pub fn row_view<'a>(frame: &'a [u8], row: usize) -> &'a [u8]
-    ensures { result.now ≡ screenRow frame.now Home row }
+    ensures { result.now ≡ screen_row frame.now Home row }
 {
     super::screen_row(frame, Screen::Home, row)
 }

@@ -2,12 +2,12 @@
 // one pixel. Here of the handheld, in home_look.rt of the home machine. No program and no call for C goes by it.
 ghost use Rattle.std.specs.Prelude.{◌≡◌, cond};
 ghost use Rattle.picture.specs.Screen.{columns};
-ghost use Rattle.picture.specs.Area.{screenOf};
+ghost use Rattle.picture.specs.Area.{screen_of};
 ghost use Rattle.points.specs.Points.{reading};
 ghost use Rattle.dump.specs.Sheet.{SheetLeaves};
-ghost use Rattle.pixel.specs.Pixel.{pixelOf};
+ghost use Rattle.pixel.specs.Pixel.{pixel_of};
 ghost use Rattle.step.specs.Step.{reading_of};
-ghost use Rattle.look.specs.View.{screenRow, rowView};
+ghost use Rattle.look.specs.View.{screen_row, row_view};
 ghost use Rattle.look.specs.Layers.{FrameLayerPointsLeave, FrameLayersLeave};
 
 use picture::{RenderArea, Screen};
@@ -25,7 +25,7 @@ pub mod home_look;
 
 // A row of a frame, as a part of the caller's own frame; the empty part where it does not fit.
 pub fn screen_row<'a>(frame: &'a [u8], screen: Screen, row: usize) -> &'a [u8]
-    ensures { result.now ≡ screenRow frame.now screen row }
+    ensures { result.now ≡ screen_row frame.now screen row }
 {
     let rows = points::row_count(screen);
     let size = points::row_size(screen);
@@ -66,7 +66,7 @@ pub fn layer_frame_step(
     layers: &mut [u8],
     area: RenderArea,
 ) -> Stepped
-    ensures { FrameLayersLeave (columns (screenOf area)) area vram.now vdp frame.old layers.old result frame.new layers.new }
+    ensures { FrameLayersLeave (columns (screen_of area)) area vram.now vdp frame.old layers.old result frame.new layers.new }
 {
     let reg = vdp.reg;
     let raster = vdp.raster;
@@ -86,7 +86,7 @@ pub fn layer_frame_step(
 
 // A row of a frame, as a part of the caller's own frame; the empty part where it does not fit.
 pub fn row_view<'a>(frame: &'a [u8], area: RenderArea, row: usize) -> &'a [u8]
-    ensures { result.now ≡ rowView frame.now area row }
+    ensures { result.now ≡ row_view frame.now area row }
 {
     screen_row(frame, picture::screen_of(area), row)
 }
@@ -109,7 +109,7 @@ fn shown(there: bool, colour: u32) -> u32
 
 // One pixel of the row as it would be drawn now, whatever the counter reads. No row is drawn, and the device is only read.
 pub fn pixel_at(vdp: VdpState, vram: &[u8], area: RenderArea, row: u32, column: u32) -> Pixel
-    ensures { result ≡ pixelOf (screenOf area) vram.now (reading_of vdp) row column }
+    ensures { result ≡ pixel_of (screen_of area) vram.now (reading_of vdp) row column }
 {
     let reg = vdp.reg;
     let raster = vdp.raster;

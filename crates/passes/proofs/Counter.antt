@@ -10,8 +10,8 @@ use borrow.Author.Tests.{eqb-true, eqb-false, ne_eqb}
 use Rattle.laws.proofs.Tests.{split}
 use Rattle.laws.proofs.Once.{Next}
 use Rattle.raster.specs.declared.Raster.{Raster}
-use Rattle.raster.specs.Raster.{jumpLine, jump_to, up, jumps, starts}
-use Rattle.raster.proofs.Tables.{jump_back, jump-above, jump-high}
+use Rattle.raster.specs.Raster.{jump_line, jump_to, up, jumps, starts}
+use Rattle.raster.proofs.Tables.{jump_back, jump_above, jump_high}
 
 -- the line that a step sets, and the flag that it leaves
 abbrev pub line : Raster → ℕ
@@ -36,11 +36,11 @@ pub record Ticked (J T p : ℕ) (jumped : Bool) (c : ℕ) : Type 0 where
 abbrev line_of : (J T : ℕ) → Bool → ℕ → ℕ
 line_of J T b u = cond (eqb u J && not b) T u
 
-abbrev flagOf : (J : ℕ) → Bool → ℕ → Bool
-flagOf J b u = cond (eqb u 0) false ((eqb u J && not b) || b)
+abbrev flag_of : (J : ℕ) → Bool → ℕ → Bool
+flag_of J b u = cond (eqb u 0) false ((eqb u J && not b) || b)
 
 module _ (J T : ℕ) (back : T < J) (above : 0 < T) (high : J < 256) where
-  stepped : (b : Bool) (c u : ℕ) → Within J T b c → u ≡ (c + 1) % 256 → Ticked J T (place_of J T b c) (flagOf J b u) (line_of J T b u)
+  stepped : (b : Bool) (c u : ℕ) → Within J T b c → u ≡ (c + 1) % 256 → Ticked J T (place_of J T b c) (flag_of J b u) (line_of J T b u)
   stepped false c u w e =
       split (eqb u J)
       (λ t.
@@ -62,7 +62,7 @@ module _ (J T : ℕ) (back : T < J) (above : 0 < T) (high : J < 256) where
           let u' : u ≡ c + 1 = omega arith in
           record { within = (omega arith, omega arith); next = record { goes = λ h. omega arith; wraps = λ h. omega arith } }
 
-      go : (t z : Bool) → eqb u J ≡ t → eqb u 0 ≡ z → Ticked J T (c + (J - T)) (flagOf J true u) (line_of J T true u)
+      go : (t z : Bool) → eqb u J ≡ t → eqb u 0 ≡ z → Ticked J T (c + (J - T)) (flag_of J true u) (line_of J T true u)
       go true true t z = rw (t, z) (wrapped (eqb-true u 0 z))
       go true false t z = rw (t, z) (onward (eqb-false u 0 z))
       go false true t z = rw (t, z) (wrapped (eqb-true u 0 z))
@@ -74,14 +74,14 @@ module _ (J T : ℕ) (back : T < J) (above : 0 < T) (high : J < 256) where
   same_place true c q w h = (λ e. absurd (omega arith), λ e. absurd (omega arith))
 
   -- a line that the jump goes back over has two places, a line after the jump one
-  pub two-places :
+  pub two_places :
       (b : Bool) (c q : ℕ) → Within J T b c → T ≤ q → q < J → ((place_of J T b c ≡ q) ⊎ (place_of J T b c ≡ q + (J - T))) ↔ (c ≡ q)
-  two-places false c q w l h = (⊎_elim (λ e. e) (λ e. absurd (omega arith)), λ e. inl e)
-  two-places true c q w l h = (⊎_elim (λ e. absurd (omega arith)) (λ e. omega arith), λ e. inr (omega arith))
+  two_places false c q w l h = (⊎_elim (λ e. e) (λ e. absurd (omega arith)), λ e. inl e)
+  two_places true c q w l h = (⊎_elim (λ e. absurd (omega arith)) (λ e. omega arith), λ e. inr (omega arith))
 
-  pub late-place : (b : Bool) (c q : ℕ) → Within J T b c → J ≤ q → (place_of J T b c ≡ q + (J - T)) ↔ (c ≡ q)
-  late-place false c q w h = (λ e. absurd (omega arith), λ e. absurd (omega arith))
-  late-place true c q w h = (λ e. omega arith, λ e. omega arith)
+  pub late_place : (b : Bool) (c q : ℕ) → Within J T b c → J ≤ q → (place_of J T b c ≡ q + (J - T)) ↔ (c ≡ q)
+  late_place false c q w h = (λ e. absurd (omega arith), λ e. absurd (omega arith))
+  late_place true c q w h = (λ e. omega arith, λ e. omega arith)
 
   -- a counter whose place is n or later is itself at n or later
   pub no_less : (b : Bool) (c n : ℕ) → Within J T b c → n ≤ T → n ≤ place_of J T b c → n ≤ c
@@ -93,19 +93,19 @@ module _ (J T : ℕ) (back : T < J) (above : 0 < T) (high : J < 256) where
   not_yet false c w h e = omega arith
   not_yet true c w h e = omega arith
 
-  pub place-below : (b : Bool) (c : ℕ) → Within J T b c → place_of J T b c < J + (256 - T)
-  place-below false c w = omega arith
-  place-below true c w = omega arith
+  pub place_below : (b : Bool) (c : ℕ) → Within J T b c → place_of J T b c < J + (256 - T)
+  place_below false c w = omega arith
+  place_below true c w = omega arith
 
 -- a raster as every step leaves it, and its place
 abbrev pub InPass : Raster → Type 0
-InPass x = Within (jumpLine x.table) jump_to x.v_counter_jumped x.v_counter
+InPass x = Within (jump_line x.table) jump_to x.v_counter_jumped x.v_counter
 
 abbrev pub place : Raster → ℕ
-place x = place_of (jumpLine x.table) jump_to x.v_counter_jumped x.v_counter
+place x = place_of (jump_line x.table) jump_to x.v_counter_jumped x.v_counter
 
-pub tick : (x : Raster) → InPass x → Ticked (jumpLine x.table) jump_to (place x) (flag x) (line x)
+pub tick : (x : Raster) → InPass x → Ticked (jump_line x.table) jump_to (place x) (flag x) (line x)
 unfolding jumps starts
 tick x w =
     let t = x.table in
-    stepped (jumpLine t) jump_to (jump_back t) jump-above (jump-high t) x.v_counter_jumped x.v_counter (up x) w refl
+    stepped (jump_line t) jump_to (jump_back t) jump_above (jump_high t) x.v_counter_jumped x.v_counter (up x) w refl

@@ -10,23 +10,23 @@ use borrow.Author.Tests.{eqb-true, ne_eqb}
 use Rattle.laws.proofs.Tests.{split, clash}
 use Rattle.raster.specs.declared.Raster.{Raster}
 use Rattle.raster.specs.declared.LineTable.{LineTable}
-use Rattle.raster.specs.Raster.{up, jumps, starts, jumpLine, advanced, counted, ticked}
+use Rattle.raster.specs.Raster.{up, jumps, starts, jump_line, advanced, counted, ticked}
 use Rattle.raster.proofs.Tables.{jump_back}
 use Rattle.passes.specs.Machine.{Machine}
-use Rattle.passes.specs.Pass.{History, deviceAfter, latchedAlong, latched, Between, then}
+use Rattle.passes.specs.Pass.{History, device_after, latched_along, latched, Between, then}
 use Rattle.passes.specs.Chart.{TableKept}
 use Rattle.passes.proofs.Counter.{InPass, tick, line}
-use Rattle.passes.proofs.Lines.{starts-at, same-table}
+use Rattle.passes.proofs.Lines.{starts_at, same_table}
 use Rattle.passes.proofs.Lawful.{Moved, stays, ticks, Clean, Aimed, Lawful}
 
-moved-within : {g : ℕ → ℕ} {x x' : Raster} → Moved g x x' → InPass x → InPass x'
+moved_within : {g : ℕ → ℕ} {x x' : Raster} → Moved g x x' → InPass x → InPass x'
 unfolding ticked counted advanced
-moved-within (stays e) w = subst InPass (sym e) w
-moved-within {x = x} (ticks e) w = subst InPass (sym e) (tick x w).within
+moved_within (stays e) w = subst InPass (sym e) w
+moved_within {x = x} (ticks e) w = subst InPass (sym e) (tick x w).within
 
-moved-table : {g : ℕ → ℕ} {x x' : Raster} → Moved g x x' → x'.table ≡ x.table
-moved-table (stays e) = ap (λ (y : Raster). y.table) e
-moved-table {g} {x} (ticks e) = ap (λ (y : Raster). y.table) e ∙ same-table g x
+moved_table : {g : ℕ → ℕ} {x x' : Raster} → Moved g x x' → x'.table ≡ x.table
+moved_table (stays e) = ap (λ (y : Raster). y.table) e
+moved_table {g} {x} (ticks e) = ap (λ (y : Raster). y.table) e ∙ same_table g x
 
 -- ---- the latched scroll
 -- a step makes the counter 0 exactly when it starts a pass
@@ -36,19 +36,19 @@ zero-starts x =
     split (starts x)
     (λ s.
     let z : up x ≡ 0 = eqb-true (up x) 0 s in
-    rw (ne_eqb (up x) (jumpLine x.table) (λ f. omega (arith, jump_back x.table)), ne_eqb x.v_counter 0 (λ f. omega arith)))
-    (λ s. rw (ne_eqb (line x) 0 (λ f. clash (sym (starts-at x f) ∙ s)), s) (and-false (not (eqb x.v_counter 0))))
+    rw (ne_eqb (up x) (jump_line x.table) (λ f. omega (arith, jump_back x.table)), ne_eqb x.v_counter 0 (λ f. omega arith)))
+    (λ s. rw (ne_eqb (line x) 0 (λ f. clash (sym (starts_at x f) ∙ s)), s) (and-false (not (eqb x.v_counter 0))))
 
-not-both : (b : Bool) → (not b && b) ≡ false
-not-both true = refl
-not-both false = refl
+not_both : (b : Bool) → (not b && b) ≡ false
+not_both true = refl
+not_both false = refl
 
-moved-scroll :
+moved_scroll :
     {g : ℕ → ℕ} {x x' : Raster} (l : ℕ) → Moved g x x' → x.vertical_scroll ≡ l →
     x'.vertical_scroll ≡ cond (not (eqb x.v_counter 0) && eqb x'.v_counter 0) (g 9) l
 unfolding ticked counted advanced
-moved-scroll {x = x} l (stays e) s = rw (e, not-both (eqb x.v_counter 0)) s
-moved-scroll {x = x} l (ticks e) s = rw (e, zero-starts x, s)
+moved_scroll {x = x} l (stays e) s = rw (e, not_both (eqb x.v_counter 0)) s
+moved_scroll {x = x} l (ticks e) s = rw (e, zero-starts x, s)
 
 pub record Sound (M : Machine) (d : M.Device) : Type 0 where
   pub clean : Clean M d
@@ -56,40 +56,40 @@ pub record Sound (M : Machine) (d : M.Device) : Type 0 where
   pub aimed : Aimed M d
 
 module _ {M : Machine} (ok : Lawful M) where
-  pub sound : (t : LineTable) (h : History M) → Sound M (deviceAfter M t h)
-  unfolding deviceAfter
+  pub sound : (t : LineTable) (h : History M) → Sound M (device_after M t h)
+  unfolding device_after
   sound t [] =
       record {
-        clean = λ e. clash (sym (ok.made-dirty t) ∙ e);
-        within = subst InPass (sym (ok.made-raster t)) (omega (arith, jump_back t));
-        aimed = ok.made-aimed t;
+        clean = λ e. clash (sym (ok.made_dirty t) ∙ e);
+        within = subst InPass (sym (ok.made_raster t)) (omega (arith, jump_back t));
+        aimed = ok.made_aimed t;
       }
   sound t (c ∷ h) =
-      let l = ok.left c (deviceAfter M t h) in
+      let l = ok.left c (device_after M t h) in
       let s = sound t h in
-      record { clean = l.clean s.clean; within = moved-within l.moved s.within; aimed = l.aimed s.aimed }
+      record { clean = l.clean s.clean; within = moved_within l.moved s.within; aimed = l.aimed s.aimed }
 
   -- ---- the table
   pub table_kept : TableKept M
-  table_kept c d = moved-table (ok.left c d).moved
+  table_kept c d = moved_table (ok.left c d).moved
 
   -- so it is the one that the device was made with
-  pub table_is : (t : LineTable) (h : History M) → (M.raster (deviceAfter M t h)).table ≡ t
-  unfolding deviceAfter
-  table_is t [] = ap (λ (x : Raster). x.table) (ok.made-raster t)
-  table_is t (c ∷ h) = table_kept c (deviceAfter M t h) ∙ table_is t h
+  pub table_is : (t : LineTable) (h : History M) → (M.raster (device_after M t h)).table ≡ t
+  unfolding device_after
+  table_is t [] = ap (λ (x : Raster). x.table) (ok.made_raster t)
+  table_is t (c ∷ h) = table_kept c (device_after M t h) ∙ table_is t h
 
   -- ---- the scroll
   -- the scroll in the record is the one latched when the counter last became 0
-  pub scroll-is : (t : LineTable) (h : History M) → (M.raster (deviceAfter M t h)).vertical_scroll ≡ latched M t h
-  unfolding deviceAfter latchedAlong
-  scroll-is t [] = ap (λ (x : Raster). x.vertical_scroll) (ok.made-raster t)
-  scroll-is t (c ∷ h) =
-      moved-scroll (latched M t h) (ok.left c (deviceAfter M t h)).moved (scroll-is t h)
+  pub scroll_is : (t : LineTable) (h : History M) → (M.raster (device_after M t h)).vertical_scroll ≡ latched M t h
+  unfolding device_after latched_along
+  scroll_is t [] = ap (λ (x : Raster). x.vertical_scroll) (ok.made_raster t)
+  scroll_is t (c ∷ h) =
+      moved_scroll (latched M t h) (ok.left c (device_after M t h)).moved (scroll_is t h)
 
   -- ---- between steps
-  pub then-raster : (t : LineTable) (cs : List (Between M)) (h : History M) → M.raster (deviceAfter M t (then {M = M} cs h)) ≡ M.raster
-      (deviceAfter M t h)
-  unfolding then deviceAfter
-  then-raster t [] h = refl
-  then-raster t (c ∷ cs) h = then-raster t cs (c.call ∷ h) ∙ ok.quiet c.call (deviceAfter M t h) (c.no_step (deviceAfter M t h))
+  pub then_raster : (t : LineTable) (cs : List (Between M)) (h : History M) → M.raster (device_after M t (then {M = M} cs h)) ≡ M.raster
+      (device_after M t h)
+  unfolding then device_after
+  then_raster t [] h = refl
+  then_raster t (c ∷ cs) h = then_raster t cs (c.call ∷ h) ∙ ok.quiet c.call (device_after M t h) (c.no_step (device_after M t h))

@@ -35,17 +35,17 @@ pub record Machine : Type 1 where
   pub addr : Device → ℕ
   pub room : Device → ℕ
   -- the colours of a palette
-  pub coloursOf : List ℕ → List ℕ
+  pub colours_of : List ℕ → List ℕ
   -- the device as it is made with a table, and what a call leaves, refused or not
   pub made : LineTable → Device
   pub after : Call → Device → Device
-  pub refusalOf : Call → Device → Refusal
+  pub refusal_of : Call → Device → Refusal
   -- the call is an accepted step on this device, and answers so
   pub Steps : Call → Device → Told Device → Type 0
   -- the step on a frame of so many bytes: as a call, what it answers, and the frame that it leaves
   pub frame_step : Area → (vram : List ℕ) (size : ℕ) → Call
-  pub frameStep : Area → (vram : List ℕ) (size : ℕ) → Device → Told Device
-  pub frameAfter : Area → (vram : List ℕ) → Device → (frame : List ℕ) → List ℕ
+  pub frame_step_of : Area → (vram : List ℕ) (size : ℕ) → Device → Told Device
+  pub frame_after : Area → (vram : List ℕ) → Device → (frame : List ℕ) → List ℕ
 
 -- a register, and the line that the counter reads
 abbrev pub register : (M : Machine) → M.Device → ℕ → ℕ

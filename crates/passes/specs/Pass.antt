@@ -6,9 +6,9 @@ use Rattle.laws.specs.Bits.{bit}
 use Rattle.laws.specs.Lists.{row_of}
 use Rattle.laws.specs.Once.{ExactlyOnce}
 use Rattle.picture.specs.Picture.{Row}
-use Rattle.picture.specs.Screen.{columns, rows, rowSize, pictureOf, rowBytes}
+use Rattle.picture.specs.Screen.{columns, rows, row_size, picture_of, row_bytes}
 use Rattle.raster.specs.declared.LineTable.{LineTable}
-use Rattle.raster.specs.Raster.{passLength}
+use Rattle.raster.specs.Raster.{pass_length}
 use Rattle.refusal.specs.declared.Refusal.TheVariants.{Accepted}
 use Rattle.points.specs.declared.VdpInt.TheVariants.{InterruptGenerated}
 use Rattle.points.specs.declared.DisplayRefresh.TheVariants.{NoDisplay}
@@ -20,21 +20,21 @@ use Rattle.passes.specs.Machine.{Told, Machine, register, line_of}
 abbrev pub History : Machine → Type 0
 History M = List M.Call
 
-unfoldable pub deviceAfter : (M : Machine) → LineTable → History M → M.Device
-deviceAfter M t [] = M.made t
-deviceAfter M t (c ∷ h) = M.after c (deviceAfter M t h)
+unfoldable pub device_after : (M : Machine) → LineTable → History M → M.Device
+device_after M t [] = M.made t
+device_after M t (c ∷ h) = M.after c (device_after M t h)
 
 -- R13.5: the scroll that the counter's last 0 latched: register 9 at that call, and 0 before there was one. (Of any calls, the last one first, where `dev`
 -- gives the device after them.)
-abbrev pub becomesZero : (M : Machine) → M.Device → M.Device → Bool
-becomesZero M d d' = not (eqb (line_of M d) 0) && eqb (line_of M d') 0
+abbrev pub becomes_zero : (M : Machine) → M.Device → M.Device → Bool
+becomes_zero M d d' = not (eqb (line_of M d) 0) && eqb (line_of M d') 0
 
-unfoldable pub latchedAlong : (M : Machine) {C : Type 0} → (List C → M.Device) → List C → ℕ
-latchedAlong M dev [] = 0
-latchedAlong M dev (c ∷ h) = cond (becomesZero M (dev h) (dev (c ∷ h))) (register M (dev h) 9) (latchedAlong M dev h)
+unfoldable pub latched_along : (M : Machine) {C : Type 0} → (List C → M.Device) → List C → ℕ
+latched_along M dev [] = 0
+latched_along M dev (c ∷ h) = cond (becomes_zero M (dev h) (dev (c ∷ h))) (register M (dev h) 9) (latched_along M dev h)
 
 abbrev pub latched : (M : Machine) → LineTable → History M → ℕ
-latched M t = latchedAlong M (deviceAfter M t)
+latched M t = latched_along M (device_after M t)
 
 -- ---- R13.3: accepted steps on one frame, one after another, with calls between them that do not write it
 -- On device d, call c is no accepted step.
@@ -64,7 +64,7 @@ pub record Run (M : Machine) (a : M.Area) : Type 0 where
   -- the frame as step 0 finds it
   pub frame : List ℕ
   -- each step is accepted, whatever the device (a step's refusal does not depend on the device); so the frame has exactly its area's size
-  pub accepted : (i : ℕ) (d : M.Device) → (M.frameStep a (vram i) (length frame) d).refusal ≡ Accepted
+  pub accepted : (i : ℕ) (d : M.Device) → (M.frame_step_of a (vram i) (length frame) d).refusal ≡ Accepted
 
 unfoldable pub then : {M : Machine} → List (Between M) → History M → History M
 then [] h = h
@@ -72,27 +72,27 @@ then (c ∷ cs) h = then cs (c.call ∷ h)
 
 module _ {M : Machine} {a : M.Area} where
   -- step i as a call, all calls until just before it, and all up to its end
-  abbrev pub stepCall : Run M a → ℕ → M.Call
-  stepCall r i = M.frame_step a (r.vram i) (length r.frame)
+  abbrev pub step_call : Run M a → ℕ → M.Call
+  step_call r i = M.frame_step a (r.vram i) (length r.frame)
 
   unfoldable pub until : Run M a → ℕ → History M
   until r zero = then {M = M} (r.between 0) r.before
-  until r (suc i) = then {M = M} (r.between (suc i)) (stepCall r i ∷ until r i)
+  until r (suc i) = then {M = M} (r.between (suc i)) (step_call r i ∷ until r i)
 
   abbrev pub through : Run M a → ℕ → History M
-  through r i = stepCall r i ∷ until r i
+  through r i = step_call r i ∷ until r i
 
   -- the device just before step i, and what step i answers
   unfoldable pub ready : Run M a → ℕ → M.Device
-  ready r i = deviceAfter M r.table (until r i)
+  ready r i = device_after M r.table (until r i)
 
   unfoldable pub answer : Run M a → ℕ → Told M.Device
-  answer r i = M.frameStep a (r.vram i) (length r.frame) (ready r i)
+  answer r i = M.frame_step_of a (r.vram i) (length r.frame) (ready r i)
 
   -- the frame after n steps
   unfoldable pub frame_at : Run M a → ℕ → List ℕ
   frame_at r zero = r.frame
-  frame_at r (suc i) = M.frameAfter a (r.vram i) (ready r i) (frame_at r i)
+  frame_at r (suc i) = M.frame_after a (r.vram i) (ready r i) (frame_at r i)
 
 -- ---- What there is to watch of accepted steps on one frame, step by step. The demands are said of it: of a run on a record, and of one through the C face
 -- (crates/demands_face), alike.
@@ -121,22 +121,22 @@ watched {M} r =
 module _ {M : Machine} {a : M.Area} where
   -- R4.8: the steps of its pass
   abbrev pub pass : Watched M a → ℕ
-  pass w = passLength w.table
+  pass w = pass_length w.table
 
   -- the line that step i sets
-  abbrev pub lineSet : Watched M a → ℕ → ℕ
-  lineSet w i = line_of M (w.answer i).device
+  abbrev pub line_set : Watched M a → ℕ → ℕ
+  line_set w i = line_of M (w.answer i).device
 
   -- row y of the frame at the end of the pass
-  abbrev pub rowAtEnd : Watched M a → ℕ → List ℕ
-  rowAtEnd w y = row_of (rowSize (M.screen a)) y (w.frame (pass w))
+  abbrev pub row_at_end : Watched M a → ℕ → List ℕ
+  row_at_end w y = row_of (row_size (M.screen a)) y (w.frame (pass w))
 
   -- R13.5: the colours of the palette, and the picture of row y, by what there is at step i
-  abbrev pub coloursAt : Watched M a → ℕ → List ℕ
-  coloursAt w i = M.coloursOf (M.palette (w.ready i))
+  abbrev pub colours_at : Watched M a → ℕ → List ℕ
+  colours_at w i = M.colours_of (M.palette (w.ready i))
 
-  abbrev pub pictureAt : Watched M a → ℕ → ℕ → Row
-  pictureAt w i y = pictureOf (M.screen a) (M.registers (w.ready i)) (w.scroll i) (w.vram i) y
+  abbrev pub picture_at : Watched M a → ℕ → ℕ → Row
+  picture_at w i y = picture_of (M.screen a) (M.registers (w.ready i)) (w.scroll i) (w.vram i) y
 
 -- R13.6: the registers under which it counts
 pub record LineInterruptsEvery (N : ℕ) (g : ℕ → ℕ) : Type 0 where
@@ -155,20 +155,20 @@ ForLine M N k s = (line_of M s.device ≡ k) × InterruptsWhen s (N + 1 ∣ k + 
 -- ---- the demand
 pub record Demand3 {M : Machine} {a : M.Area} (w : Watched M a) : Type 0 where
   -- R13.3: every row once, and no other
-  pub row-once : (y : ℕ) → y < rows (M.screen a) → ExactlyOnce (pass w) (λ i. (w.answer i).row ≡ Drawn y)
+  pub row_once : (y : ℕ) → y < rows (M.screen a) → ExactlyOnce (pass w) (λ i. (w.answer i).row ≡ Drawn y)
   pub no_other : (i y : ℕ) → (w.answer i).row ≡ Drawn y → y < rows (M.screen a)
   -- a step that does not draw row y leaves row y as it is (the rows are all of the frame)
   pub row_kept :
       (i y : ℕ) → (w.answer i).row ≢ Drawn y →
-      row_of (rowSize (M.screen a)) y (w.frame (suc i)) ≡ row_of (rowSize (M.screen a)) y (w.frame i)
+      row_of (row_size (M.screen a)) y (w.frame (suc i)) ≡ row_of (row_size (M.screen a)) y (w.frame i)
   -- R13.4: one end of the screen
-  pub end-once : ExactlyOnce (pass w) (λ i. (w.answer i).report ≢ NoDisplay)
+  pub end_once : ExactlyOnce (pass w) (λ i. (w.answer i).report ≢ NoDisplay)
   -- R13.5: at the end row y is as its own step i drew it
-  pub row-bytes :
+  pub row_bytes_lem :
       (i y : ℕ) → i < pass w → (w.answer i).row ≡ Drawn y →
-      rowAtEnd w y ≡ rowBytes (coloursAt w i) (columns (M.screen a)) (pictureAt w i y)
+      row_at_end w y ≡ row_bytes (colours_at w i) (columns (M.screen a)) (picture_at w i y)
   -- R13.6: where the registers stay so from step i, which sets line 0, to the one that sets line 193, the step of line k reports an interrupt
   -- exactly where N + 1 divides k + 2 (a case of FromLine0, Interrupts.antt, which says it of any calls on any device)
-  pub line-interrupts :
-      (i N : ℕ) → lineSet w i ≡ 0 → ((k : ℕ) → k ≤ 193 → LineInterruptsEvery N (register M (w.ready (i + k)))) →
+  pub line_interrupts :
+      (i N : ℕ) → line_set w i ≡ 0 → ((k : ℕ) → k ≤ 193 → LineInterruptsEvery N (register M (w.ready (i + k)))) →
       (k : ℕ) → k ≤ 193 → ForLine M N k (w.answer (i + k))

@@ -3,25 +3,25 @@
 -- Assumes nothing.
 use Rattle.std.specs.Prelude.{◌≡◌, ◌↔◌, ◌≢◌, ◌⊎◌, ℕ, ◌+◌, ◌≤◌, ◌<◌}
 use Rattle.laws.specs.Once.{ExactlyOnce, ExactlyTwice}
-use Rattle.picture.specs.Screen.{columns, rows, firstLine, rowBytes}
-use Rattle.raster.specs.Raster.{jumpLine, jump_to}
+use Rattle.picture.specs.Screen.{columns, rows, first_line, row_bytes}
+use Rattle.raster.specs.Raster.{jump_line, jump_to}
 use Rattle.points.specs.declared.DrawnRow.TheVariants.{Drawn}
 use Rattle.passes.specs.Machine.{Machine}
-use Rattle.passes.specs.Pass.{Watched, pass, coloursAt, lineSet, rowAtEnd, pictureAt}
+use Rattle.passes.specs.Pass.{Watched, pass, colours_at, line_set, row_at_end, picture_at}
 
 pub record RowsDrawn {M : Machine} {a : M.Area} (r : Watched M a) : Type 0 where
   -- a row whose line the jump goes back over, D5 to D9 or to DA, is drawn exactly twice
   pub twice :
-      (y : ℕ) → y < rows (M.screen a) → jump_to ≤ y + firstLine (M.screen a) → y + firstLine (M.screen a) < jumpLine r.table →
+      (y : ℕ) → y < rows (M.screen a) → jump_to ≤ y + first_line (M.screen a) → y + first_line (M.screen a) < jump_line r.table →
       ExactlyTwice (pass r) (λ i. (r.answer i).row ≡ Drawn y)
   -- every other exactly once
   pub once :
-      (y : ℕ) → y < rows (M.screen a) → (y + firstLine (M.screen a) < jump_to) ⊎ (jumpLine r.table ≤ y + firstLine (M.screen a)) →
+      (y : ℕ) → y < rows (M.screen a) → (y + first_line (M.screen a) < jump_to) ⊎ (jump_line r.table ≤ y + first_line (M.screen a)) →
       ExactlyOnce (pass r) (λ i. (r.answer i).row ≡ Drawn y)
   pub no_other : (i y : ℕ) → (r.answer i).row ≡ Drawn y → y < rows (M.screen a)
   -- row y is drawn by the steps that set line y + 24 (in the effective area, and at home, line y), and by no other
-  pub at-line : (i y : ℕ) → y < rows (M.screen a) → ((r.answer i).row ≡ Drawn y) ↔ (lineSet r i ≡ y + firstLine (M.screen a))
+  pub at_line : (i y : ℕ) → y < rows (M.screen a) → ((r.answer i).row ≡ Drawn y) ↔ (line_set r i ≡ y + first_line (M.screen a))
   -- each ends as the picture rule gives it at the last step that draws it, step i
-  pub last-bytes :
+  pub last_bytes :
       (i y : ℕ) → i < pass r → (r.answer i).row ≡ Drawn y → ((j : ℕ) → i < j → j < pass r → (r.answer j).row ≢ Drawn y) →
-      rowAtEnd r y ≡ rowBytes (coloursAt r i) (columns (M.screen a)) (pictureAt r i y)
+      row_at_end r y ≡ row_bytes (colours_at r i) (columns (M.screen a)) (picture_at r i y)

@@ -10,39 +10,39 @@ use Rattle.picture.specs.declared.Screen.TheVariants as Shown
 use Rattle.picture.specs.declared.RenderArea.{RenderArea}
 use Rattle.picture.specs.declared.RenderArea.TheVariants.{VisibleOnly, EffectiveArea, TrueEdges}
 -- the bytes and the status bits of a picture are any screen's
-unfoldable pub use Rattle.picture.specs.Screen.{rowBytes, statusBits}
+unfoldable pub use Rattle.picture.specs.Screen.{row_bytes, status_bits}
 
 -- R2.1: the area of a number
-abbrev pub areaFrom : ℕ → RenderArea
-areaFrom n = cond (eqb n 0) VisibleOnly (cond (eqb n 1) EffectiveArea TrueEdges)
+abbrev pub area_from : ℕ → RenderArea
+area_from n = cond (eqb n 0) VisibleOnly (cond (eqb n 1) EffectiveArea TrueEdges)
 
 -- the screen of an area
-abbrev pub screenOf : RenderArea → Screen
-screenOf VisibleOnly = Shown.VisibleOnly
-screenOf EffectiveArea = Shown.EffectiveArea
-screenOf TrueEdges = Shown.TrueEdges
+abbrev pub screen_of : RenderArea → Screen
+screen_of VisibleOnly = Shown.VisibleOnly
+screen_of EffectiveArea = Shown.EffectiveArea
+screen_of TrueEdges = Shown.TrueEdges
 
 -- what its screen has
 abbrev pub columns : RenderArea → ℕ
-columns a = screen.columns (screenOf a)
+columns a = screen.columns (screen_of a)
 
 abbrev pub rows : RenderArea → ℕ
-rows a = screen.rows (screenOf a)
+rows a = screen.rows (screen_of a)
 
-abbrev pub firstLine : RenderArea → ℕ
-firstLine a = screen.firstLine (screenOf a)
+abbrev pub first_line : RenderArea → ℕ
+first_line a = screen.first_line (screen_of a)
 
-abbrev pub rowSize : RenderArea → ℕ
-rowSize a = screen.rowSize (screenOf a)
+abbrev pub row_size : RenderArea → ℕ
+row_size a = screen.row_size (screen_of a)
 
-abbrev pub frameSize : RenderArea → ℕ
-frameSize a = screen.frameSize (screenOf a)
+abbrev pub frame_size : RenderArea → ℕ
+frame_size a = screen.frame_size (screen_of a)
 
 abbrev pub view_of : RenderArea → (ℕ → ℕ) → ℕ → ℕ → View
-view_of a = screen.view_of (screenOf a)
+view_of a = screen.view_of (screen_of a)
 
-abbrev pub pictureOf : RenderArea → List ℕ → ℕ → List ℕ → ℕ → Row
-pictureOf a = screen.pictureOf (screenOf a)
+abbrev pub picture_of : RenderArea → List ℕ → ℕ → List ℕ → ℕ → Row
+picture_of a = screen.picture_of (screen_of a)
 
-abbrev pub layersOf : RenderArea → List ℕ → ℕ → List ℕ → ℕ → ℕ → ℕ
-layersOf a = layer.layersOf (screenOf a)
+abbrev pub layers_of : RenderArea → List ℕ → ℕ → List ℕ → ℕ → ℕ → ℕ
+layers_of a = layer.layers_of (screen_of a)

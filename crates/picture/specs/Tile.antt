@@ -24,23 +24,23 @@ unfoldable pub entry_at : ℕ → ℕ → ℕ → ℕ
 entry_at names x y = names + 2 * (32 * (y / 8) + x / 8)
 
 -- the address of line y of the tile with entry bytes lo, hi
-unfoldable pub tileLine : ℕ → ℕ → ℕ → ℕ
-tileLine lo hi y = 32 * (lo + 256 * digit (bit hi 0)) + 4 * turned (bit hi 2) (y % 8)
+unfoldable pub tile_line : ℕ → ℕ → ℕ → ℕ
+tile_line lo hi y = 32 * (lo + 256 * digit (bit hi 0)) + 4 * turned (bit hi 2) (y % 8)
 
 -- R5.2, the other bits: the code of the map's pixel with these entry bytes, its colour number (palette 1 is
 -- colours 16 to 31, R4.7; code 0 is a colour too, R5.3), and whether it is marked in the priority mask (R5.5)
-unfoldable pub entryCode : (ℕ → ℕ) → ℕ → ℕ → ℕ → ℕ → ℕ
-entryCode m lo hi x y = code_at m (tileLine lo hi y) (turned (bit hi 1) (x % 8))
+unfoldable pub entry_code : (ℕ → ℕ) → ℕ → ℕ → ℕ → ℕ → ℕ
+entry_code m lo hi x y = code_at m (tile_line lo hi y) (turned (bit hi 1) (x % 8))
 
-unfoldable pub entryColour : (ℕ → ℕ) → ℕ → ℕ → ℕ → ℕ → ℕ
-entryColour m lo hi x y = 16 * digit (bit hi 3) + entryCode m lo hi x y
+unfoldable pub entry_colour : (ℕ → ℕ) → ℕ → ℕ → ℕ → ℕ → ℕ
+entry_colour m lo hi x y = 16 * digit (bit hi 3) + entry_code m lo hi x y
 
-unfoldable pub entryFront : (ℕ → ℕ) → ℕ → ℕ → ℕ → ℕ → Bool
-entryFront m lo hi x y = bit hi 4 && not (eqb (entryCode m lo hi x y) 0)
+unfoldable pub entry_front : (ℕ → ℕ) → ℕ → ℕ → ℕ → ℕ → Bool
+entry_front m lo hi x y = bit hi 4 && not (eqb (entry_code m lo hi x y) 0)
 
 -- the same of the map's pixel (x, y)
-unfoldable pub mapColour : (ℕ → ℕ) → ℕ → ℕ → ℕ → ℕ
-mapColour m names x y = entryColour m (m (entry_at names x y)) (m (entry_at names x y + 1)) x y
+unfoldable pub map_colour : (ℕ → ℕ) → ℕ → ℕ → ℕ → ℕ
+map_colour m names x y = entry_colour m (m (entry_at names x y)) (m (entry_at names x y + 1)) x y
 
-unfoldable pub mapFront : (ℕ → ℕ) → ℕ → ℕ → ℕ → Bool
-mapFront m names x y = entryFront m (m (entry_at names x y)) (m (entry_at names x y + 1)) x y
+unfoldable pub map_front : (ℕ → ℕ) → ℕ → ℕ → ℕ → Bool
+map_front m names x y = entry_front m (m (entry_at names x y)) (m (entry_at names x y + 1)) x y

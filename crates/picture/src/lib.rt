@@ -1,6 +1,6 @@
 // The rules of the picture are in specs/. Here is what the code and the rules share.
 ghost use Rattle.std.specs.Prelude.{◌≡◌};
-ghost use Rattle.picture.specs.Area.{areaFrom, screenOf};
+ghost use Rattle.picture.specs.Area.{area_from, screen_of};
 
 // The last area that a number names; what lies above it is refused by 11.
 pub const LAST_AREA: u8 = 2;
@@ -56,7 +56,7 @@ pub enum RenderArea {
 
 // The area of a number that is not above 2.
 pub fn area_from(n: u8) -> RenderArea
-    ensures { result ≡ areaFrom n }
+    ensures { result ≡ area_from n }
 {
     if n == 0 {
         RenderArea::VisibleOnly
@@ -78,7 +78,7 @@ pub enum Screen {
 
 // The screen of an area.
 pub fn screen_of(area: RenderArea) -> Screen
-    ensures { result ≡ screenOf area }
+    ensures { result ≡ screen_of area }
 {
     match area {
         RenderArea::VisibleOnly => Screen::VisibleOnly,

@@ -5,26 +5,26 @@ use native.Mathlib.Decide.{dec_lt}
 use borrow.Author.Tests.{lt-leb}
 use Rattle.laws.specs.Bits.{any}
 use Rattle.laws.specs.Circle.{past}
-use Rattle.laws.proofs.Any.{any-cong, any-split, any_place}
-use Rattle.picture.specs.View.{cutMark}
+use Rattle.laws.proofs.Any.{any_cong, any_split, any_place}
+use Rattle.picture.specs.View.{cut_mark}
 
 module _ (cut width i : ℕ) (c : cut < 8) (w : 8 ≤ width) (n : width ≤ 256) (l : i < 256) where
   -- the columns of the first tile, from place 256 - cut on
-  cut-mark : (x : ℕ) → x < 8 - cut → cutMark cut x ≡ (256 - cut + x) % 256
-  unfolding cutMark
-  cut-mark x h = rw (lt-ltb x (8 - cut) h) (omega arith)
+  cut_mark_lem : (x : ℕ) → x < 8 - cut → cut_mark cut x ≡ (256 - cut + x) % 256
+  unfolding cut_mark
+  cut_mark_lem x h = rw (lt-ltb x (8 - cut) h) (omega arith)
 
-  cut-past : past i (256 - cut) ≡ (i + cut) % 256
-  cut-past = omega arith
+  cut_past : past i (256 - cut) ≡ (i + cut) % 256
+  cut_past = omega arith
 
   -- and the others, from place 8 - cut on
-  own-mark : (j : ℕ) → j < width - (8 - cut) → cutMark cut (8 - cut + j) ≡ (8 - cut + j) % 256
-  unfolding cutMark
-  own-mark j h = let k : 8 - cut ≤ 8 - cut + j = omega arith in rw (le-ltb (8 - cut + j) (8 - cut) k) (omega arith)
+  own_mark : (j : ℕ) → j < width - (8 - cut) → cut_mark cut (8 - cut + j) ≡ (8 - cut + j) % 256
+  unfolding cut_mark
+  own_mark j h = let k : 8 - cut ≤ 8 - cut + j = omega arith in rw (le-ltb (8 - cut + j) (8 - cut) k) (omega arith)
 
-  own-past : (F : ℕ → Bool) → (ltb (past i (8 - cut)) (width - (8 - cut)) && F (8 - cut + past i (8 - cut))) ≡
+  own_past : (F : ℕ → Bool) → (ltb (past i (8 - cut)) (width - (8 - cut)) && F (8 - cut + past i (8 - cut))) ≡
       ((leb (8 - cut) i && ltb i width) && F i)
-  own-past F =
+  own_past F =
       elim (dec_lt i (8 - cut)) [
         | yes h ↦ let k : width - (8 - cut) ≤ past i (8 - cut) = omega arith in rw
             (le-ltb (past i (8 - cut)) (width - (8 - cut)) k, lt-leb (8 - cut) i h)
@@ -42,19 +42,19 @@ module _ (cut width i : ℕ) (c : cut < 8) (w : 8 ≤ width) (n : width ≤ 256)
             ])
       ]
 
-  pub front-two : (F : ℕ → Bool)
-      → any width (λ x. eqb (cutMark cut x) i && F x) ≡ ((ltb ((i + cut) % 256) (8 - cut) && F ((i + cut) % 256)) ||
+  pub front_two : (F : ℕ → Bool)
+      → any width (λ x. eqb (cut_mark cut x) i && F x) ≡ ((ltb ((i + cut) % 256) (8 - cut) && F ((i + cut) % 256)) ||
       ((leb (8 - cut) i && ltb i width) && F i))
-  front-two F =
+  front_two F =
       let e : width ≡ 8 - cut + (width - (8 - cut)) = omega arith in
-      ap (λ (k : ℕ). any k (λ x. eqb (cutMark cut x) i && F x)) e
-      ∙ any-split (8 - cut) (width - (8 - cut)) (λ x. eqb (cutMark cut x) i && F x)
-      ∙ ap (λ (a : Bool). a || any (width - (8 - cut)) (λ j. eqb (cutMark cut (8 - cut + j)) i && F (8 - cut + j)))
-      (any-cong (8 - cut) (λ x. eqb (cutMark cut x) i && F x) (λ x. eqb ((256 - cut + x) % 256) i && F x) (λ x h. rw (cut-mark x h))
+      ap (λ (k : ℕ). any k (λ x. eqb (cut_mark cut x) i && F x)) e
+      ∙ any_split (8 - cut) (width - (8 - cut)) (λ x. eqb (cut_mark cut x) i && F x)
+      ∙ ap (λ (a : Bool). a || any (width - (8 - cut)) (λ j. eqb (cut_mark cut (8 - cut + j)) i && F (8 - cut + j)))
+      (any_cong (8 - cut) (λ x. eqb (cut_mark cut x) i && F x) (λ x. eqb ((256 - cut + x) % 256) i && F x) (λ x h. rw (cut_mark_lem x h))
       ∙ any_place (8 - cut) (256 - cut) i F (omega arith) l
-      ∙ ap (λ (k : ℕ). ltb k (8 - cut) && F k) cut-past)
+      ∙ ap (λ (k : ℕ). ltb k (8 - cut) && F k) cut_past)
       ∙ ap (λ (a : Bool). (ltb ((i + cut) % 256) (8 - cut) && F ((i + cut) % 256)) || a)
-      (any-cong (width - (8 - cut)) (λ j. eqb (cutMark cut (8 - cut + j)) i && F (8 - cut + j)) (λ j. eqb ((8 - cut + j) % 256) i && F (8 - cut + j))
-      (λ j h. rw (own-mark j h))
+      (any_cong (width - (8 - cut)) (λ j. eqb (cut_mark cut (8 - cut + j)) i && F (8 - cut + j)) (λ j. eqb ((8 - cut + j) % 256) i && F (8 - cut + j))
+      (λ j h. rw (own_mark j h))
       ∙ any_place (width - (8 - cut)) (8 - cut) i (λ j. F (8 - cut + j)) (omega arith) l
-      ∙ own-past F)
+      ∙ own_past F)

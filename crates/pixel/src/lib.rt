@@ -1,9 +1,9 @@
 // One pixel on its own (R16.1 to R16.4): the screen's column of its row (one_column.rt). No row is drawn.
 ghost use Rattle.std.specs.Prelude.{◌≡◌, ℕ, ◌<◌, length};
-ghost use Rattle.laws.specs.Sizes.{vramSize};
+ghost use Rattle.laws.specs.Sizes.{vram_size};
 ghost use Rattle.picture.specs.declared.Screen.TheVariants.{VisibleOnly, EffectiveArea, Home};
-ghost use Rattle.picture.specs.Screen.{columns, rows, pictureOf};
-ghost use Rattle.pixel.specs.Pixel.{onScreen, spot_of};
+ghost use Rattle.picture.specs.Screen.{columns, rows, picture_of};
+ghost use Rattle.pixel.specs.Pixel.{on_screen, spot_of};
 
 pub mod one_column;
 
@@ -25,8 +25,8 @@ fn visible_number(
     row: usize,
     col: usize,
 ) -> usize
-    requires { (length vram.now ≡ vramSize) × (scroll < 256) × (row < rows VisibleOnly) × (col < columns VisibleOnly) × (columns screen ≡ columns VisibleOnly) }
-    ensures { result ≡ (pictureOf screen reg scroll vram.now row).colour col }
+    requires { (length vram.now ≡ vram_size) × (scroll < 256) × (row < rows VisibleOnly) × (col < columns VisibleOnly) × (columns screen ≡ columns VisibleOnly) }
+    ensures { result ≡ (picture_of screen reg scroll vram.now row).colour col }
 {
     let sx = (GG_VISIBLE_MAP_X - small::wide(reg[8])) % SCROLL_PIXEL_WIDTH;
     let y = (row + GG_VISIBLE_AREA_START_Y + scroll) % SCROLL_PIXEL_HEIGHT;
@@ -43,8 +43,8 @@ fn visible_number(
 
 // The same of the effective area: the map is the screen, whatever the scroll.
 fn effective_number(vram: &[u8], reg: [u8; 11], row: usize, col: usize) -> usize
-    requires { (length vram.now ≡ vramSize) × (row < rows EffectiveArea) × (col < columns EffectiveArea) }
-    ensures { (scroll : ℕ) → result ≡ (pictureOf EffectiveArea reg scroll vram.now row).colour col }
+    requires { (length vram.now ≡ vram_size) × (row < rows EffectiveArea) × (col < columns EffectiveArea) }
+    ensures { (scroll : ℕ) → result ≡ (picture_of EffectiveArea reg scroll vram.now row).colour col }
 {
     let b = Scene {
         names: background::names_at(reg),
@@ -59,8 +59,8 @@ fn effective_number(vram: &[u8], reg: [u8; 11], row: usize, col: usize) -> usize
 
 // The same of the home screen: scrolled both ways but where a lock holds, the sprites by the row's own line, and the fill over all.
 fn home_number(vram: &[u8], reg: [u8; 11], scroll: usize, row: usize, col: usize) -> usize
-    requires { (length vram.now ≡ vramSize) × (scroll < 256) × (row < rows Home) × (col < columns Home) }
-    ensures { result ≡ (pictureOf Home reg scroll vram.now row).colour col }
+    requires { (length vram.now ≡ vram_size) × (scroll < 256) × (row < rows Home) × (col < columns Home) }
+    ensures { result ≡ (picture_of Home reg scroll vram.now row).colour col }
 {
     if small::is_set(reg[0], 5) & (col < 8) {
         return 16 + small::wide(reg[7]) % 16;
@@ -86,8 +86,8 @@ fn colour_number(
     row: usize,
     col: usize,
 ) -> usize
-    requires { (length vram.now ≡ vramSize) × (row < rows screen) × (col < columns screen) }
-    ensures { result ≡ (pictureOf screen reg scroll vram.now row).colour col }
+    requires { (length vram.now ≡ vram_size) × (row < rows screen) × (col < columns screen) }
+    ensures { result ≡ (picture_of screen reg scroll vram.now row).colour col }
 {
     let scroll = small::wide(scroll);
     match screen {
@@ -108,7 +108,7 @@ pub struct Spot {
 
 // Whether row and column lie on the screen.
 fn on_screen(screen: Screen, row: usize, col: usize) -> bool
-    ensures { result ≡ onScreen screen row col }
+    ensures { result ≡ on_screen screen row col }
 {
     match screen {
         Screen::VisibleOnly => (row < GG_VISIBLE_PIXEL_HEIGHT) & (col < GG_VISIBLE_PIXEL_WIDTH),

@@ -2,13 +2,13 @@
 ghost use Rattle.std.specs.Prelude.{◌≡◌, ℕ, ◌+◌, ◌-◌, ◌%◌, ◌<◌, ◌≤◌, Bool, true, ◌&&◌, length, take};
 ghost use Rattle.laws.specs.Bits.{number};
 ghost use Rattle.laws.specs.Lists.{at};
-ghost use Rattle.laws.specs.Sizes.{vramSize};
-ghost use Rattle.picture.specs.Tile.{code_at, mapColour, mapFront};
+ghost use Rattle.laws.specs.Sizes.{vram_size};
+ghost use Rattle.picture.specs.Tile.{code_at, map_colour, map_front};
 ghost use Rattle.picture.specs.View.{early};
-ghost use Rattle.picture.specs.Picture.{Canvas, spriteLine, laid, table_at, listed, withSprites, bare};
-ghost use Rattle.background.specs.Background.{Room, backFront};
-ghost use Rattle.stand.specs.Stand.{standOf, Fits};
-ghost use Rattle.pixel.specs.Column.{Set, Clear, line_at, frontAt, Shifts, reachOf, marksLeft, colourWith, Shows};
+ghost use Rattle.picture.specs.Picture.{Canvas, sprite_line, laid, table_at, listed, with_sprites, bare};
+ghost use Rattle.background.specs.Background.{Room, back_front};
+ghost use Rattle.stand.specs.Stand.{stand_of, Fits};
+ghost use Rattle.pixel.specs.Column.{Set, Clear, line_at, front_at, Shifts, reach_of, marks_left, colour_with, Shows};
 
 use picture::{GG_VISIBLE_AREA_START_X, HOME_LOCKED_X, Screen, Stand};
 
@@ -35,7 +35,7 @@ struct Ground {
 
 fn map_pixel(vram: &[u8], names: usize, x: usize, y: usize) -> Ground
     requires { Room vram.now names x y }
-    ensures { (result.colour ≡ mapColour (at vram.now) names x y) × (result.front ≡ mapFront (at vram.now) names x y) }
+    ensures { (result.colour ≡ map_colour (at vram.now) names x y) × (result.front ≡ map_front (at vram.now) names x y) }
 {
     let e = names + 2 * (32 * (y / 8) + x / 8);
     let hi = vram[e + 1];
@@ -60,7 +60,7 @@ fn line_of(b: Scene, x: usize) -> usize
 fn column_front(vram: &[u8], b: Scene, y: usize, asked: bool, x: usize) -> bool
     requires set { Set vram.now b }
     requires y_bound { (y < 224) × (x < 256) }
-    ensures { result ≡ (asked && backFront vram.now b.names b.sx y x) }
+    ensures { result ≡ (asked && back_front vram.now b.names b.sx y x) }
 {
     if !asked {
         return false;
@@ -73,7 +73,7 @@ fn column_front(vram: &[u8], b: Scene, y: usize, asked: bool, x: usize) -> bool
 fn in_front(vram: &[u8], b: Scene, place: usize) -> bool
     requires set { Set vram.now b }
     requires place_bound { place < 256 }
-    ensures { result ≡ frontAt vram.now b place }
+    ensures { result ≡ front_at vram.now b place }
 {
     let y = line_of(b, place);
     let first = 8 - b.cut;
@@ -107,7 +107,7 @@ fn marks_left(
     requires set { Set vram.now b }
     requires fits { Fits s }
     requires addr_in_bounds { (addr + 4 ≤ length vram.now) × (col < 256) × (off < 256) × (j < 8) }
-    ensures { result ≡ marksLeft vram.now b s addr col off j }
+    ensures { result ≡ marks_left vram.now b s addr col off j }
 {
     let p = s.start + (col + off + 768 - j - s.mark) % 256;
     if s.end <= p {
@@ -127,7 +127,7 @@ fn marks_near(vram: &[u8], b: Scene, s: Stand, addr: usize, col: usize, off: usi
     requires set { Set vram.now b }
     requires fits { Fits s }
     requires addr_in_bounds { (addr + 4 ≤ length vram.now) × (col < 256) × (off < 256) }
-    ensures { result ≡ number (reachOf col) (marksLeft vram.now b s addr col off) }
+    ensures { result ≡ number (reach_of col) (marks_left vram.now b s addr col off) }
 {
     let reach = 8 - small::smaller(col, 7);
     let mut bits: u8 = 0;
@@ -153,7 +153,7 @@ fn colour_with(
 ) -> usize
     requires fits { Fits s }
     requires addr_in_bounds { (addr + 4 ≤ length vram.now) × (col < 256) × (back ≤ s.start) }
-    ensures { result ≡ colourWith vram.now s addr col back bits taken old }
+    ensures { result ≡ colour_with vram.now s addr col back bits taken old }
 {
     let x = s.x;
     if !s.seen | (col < x) {
@@ -229,7 +229,7 @@ fn none_of(vram: &[u8], k: usize, line: u8, lines: u8) -> bool
 
 // Where the search of the list may begin: behind the sixteens at its start that have no sprite on the line.
 fn first_group(vram: &[u8], reg: [u8; 11], table: usize, line: usize) -> usize
-    requires { (length vram.now ≡ vramSize) × (table ≡ table_at (at reg)) × (table ≤ 16128) × (line < 256) }
+    requires { (length vram.now ≡ vram_size) × (table ≡ table_at (at reg)) × (table ≤ 16128) × (line < 256) }
     ensures { (result ≤ 64) × (listed (at vram.now) (at reg) line 64 0 ≡ listed (at vram.now) (at reg) line (64 - result) result) }
 {
     let lines = sprites::height(small::is_set(reg[1], 1)) as u8;
@@ -259,9 +259,9 @@ fn sprite_at(
     under: Column,
 ) -> Column
     requires set { Set vram.now b }
-    requires k_bound { (k + 2 ≤ vramSize) × (e ≤ 8) × (d < 16) × (col < 256) }
+    requires k_bound { (k + 2 ≤ vram_size) × (e ≤ 8) × (d < 16) × (col < 256) }
     requires shifts { Shifts screen e shift }
-    ensures { (f : ℕ → Bool) (c : Canvas) → ((i : ℕ) → i < 256 → frontAt vram.now b i ≡ f i) → Shows col shift.off c under → Shows col shift.off (laid (standOf screen e (at vram.now k)) (code_at (at vram.now) (spriteLine (at reg) (at vram.now (k + 1)) d)) f c) result }
+    ensures { (f : ℕ → Bool) (c : Canvas) → ((i : ℕ) → i < 256 → front_at vram.now b i ≡ f i) → Shows col shift.off c under → Shows col shift.off (laid (stand_of screen e (at vram.now k)) (code_at (at vram.now) (sprite_line (at reg) (at vram.now (k + 1)) d)) f c) result }
 {
     let h = vram[k];
     let far = 15 - small::smaller(col, 7);
@@ -289,7 +289,7 @@ pub fn column_at(
 ) -> usize
     requires set { Set vram.now b }
     requires col_bound { (col < 256) × (line < 256) }
-    ensures { (f : ℕ → Bool) (colour : ℕ → ℕ) → ((i : ℕ) → i < 256 → frontAt vram.now b i ≡ f i) → mapColour (at vram.now) b.names ((b.sx + col) % 256) (line_at b col) ≡ colour col → result ≡ (withSprites (at vram.now) (at reg) (standOf screen (early (at reg))) line f (take 8 (listed (at vram.now) (at reg) line 64 0)) (bare colour)).colour col }
+    ensures { (f : ℕ → Bool) (colour : ℕ → ℕ) → ((i : ℕ) → i < 256 → front_at vram.now b i ≡ f i) → map_colour (at vram.now) b.names ((b.sx + col) % 256) (line_at b col) ≡ colour col → result ≡ (with_sprites (at vram.now) (at reg) (stand_of screen (early (at reg))) line f (take 8 (listed (at vram.now) (at reg) line 64 0)) (bare colour)).colour col }
 {
     let table = sprites::table_at(reg);
     let e = sprites::early_of(reg);

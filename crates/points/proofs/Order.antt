@@ -10,77 +10,77 @@ use borrow.Author.Tests.{eq-eqb, ne_eqb, le-ltb, lt-ltb}
 use lib.ListN.{length}
 use Rattle.laws.specs.Lists.{at}
 use Rattle.picture.specs.declared.Screen.{Screen}
-use Rattle.picture.specs.Screen.{rowSize, frameSize}
+use Rattle.picture.specs.Screen.{row_size, frame_size}
 use Rattle.raster.specs.declared.Raster.{Raster}
 use Rattle.refusal.specs.declared.Refusal.{Refusal}
 use Rattle.refusal.specs.declared.Refusal.TheVariants.{Accepted, VramLength, PixelLength, FrameTooLong, LayerLength}
 use Rattle.refusal.specs.Refusals.{Line, first, under}
-use Rattle.refusal.proofs.Tables.{under-map}
+use Rattle.refusal.proofs.Tables.{under_map}
 use Rattle.laws.proofs.Tests.{split, clash}
 use Rattle.points.specs.declared.Due.{Due}
-use Rattle.points.specs.Points.{row_lines, frameLines}
-use Rattle.points.specs.Bytes.{alsoLayers}
-use Rattle.points.specs.Due.{refusedDue, takenDue, dueOf}
+use Rattle.points.specs.Points.{row_lines, frame_lines}
+use Rattle.points.specs.Bytes.{also_layers}
+use Rattle.points.specs.Due.{refused_due, taken_due, due_of}
 
 -- ---- the lines of the table
 -- where another line holds, 16 is not the first
-pub not_last : (least size : ℕ) (ls : List Line) → first ls ≢ Accepted → first (alsoLayers least size ls) ≡ first ls
+pub not_last : (least size : ℕ) (ls : List Line) → first ls ≢ Accepted → first (also_layers least size ls) ≡ first ls
 not_last least size [] n = absurd (n refl)
 not_last least size (l ∷ ls) n = split l.holds (λ t. rw t) (λ t. rw t (not_last least size ls (rw t at n)))
 
 -- with room for its layers, a step is as it is without
-pub under-also : {A : Type 0} (least size : ℕ) (ls : List Line) (refuse : Refusal → A) (call : A) → least ≤ size → under (alsoLayers least size ls)
+pub under_also : {A : Type 0} (least size : ℕ) (ls : List Line) (refuse : Refusal → A) (call : A) → least ≤ size → under (also_layers least size ls)
     refuse call ≡ under ls refuse call
-under-also least size [] refuse call h = rw (le-ltb size least h)
-under-also least size (l ∷ ls) refuse call h = ap (λ (x : _). cond l.holds (refuse l.refusal) x) (under-also least size ls refuse call h)
+under_also least size [] refuse call h = rw (le-ltb size least h)
+under_also least size (l ∷ ls) refuse call h = ap (λ (x : _). cond l.holds (refuse l.refusal) x) (under_also least size ls refuse call h)
 
 -- ---- what a step is to do
 module _ (s : Screen) (reg : List ℕ) (raster : Raster) where
   -- whatever is made of it is made of the refusal, or of the step that is taken
-  pub due-map : {A : Type 0} (f : Due → A) (ls : List Line) → f (dueOf ls s reg raster) ≡ under ls (λ r. f (refusedDue r raster))
-      (f (takenDue s reg raster))
-  due-map f ls = under-map f ls (λ r. refusedDue r raster) (takenDue s reg raster)
+  pub due_map : {A : Type 0} (f : Due → A) (ls : List Line) → f (due_of ls s reg raster) ≡ under ls (λ r. f (refused_due r raster))
+      (f (taken_due s reg raster))
+  due_map f ls = under_map f ls (λ r. refused_due r raster) (taken_due s reg raster)
 
   -- by 8, by 9 and by 12
   module _ (vram : List ℕ) (size : ℕ) where
-    pub row-due-8 : length vram ≢ 16384 → refusedDue VramLength raster ≡ dueOf (row_lines s vram size) s reg raster
-    row-due-8 h = rw (ne_eqb (length vram) 16384 h)
+    pub row_due_8 : length vram ≢ 16384 → refused_due VramLength raster ≡ due_of (row_lines s vram size) s reg raster
+    row_due_8 h = rw (ne_eqb (length vram) 16384 h)
 
-    pub frame-due-8 : length vram ≢ 16384 → refusedDue VramLength raster ≡ dueOf (frameLines s vram size) s reg raster
-    frame-due-8 h = rw (ne_eqb (length vram) 16384 h)
+    pub frame_due_8 : length vram ≢ 16384 → refused_due VramLength raster ≡ due_of (frame_lines s vram size) s reg raster
+    frame_due_8 h = rw (ne_eqb (length vram) 16384 h)
 
     module _ (mem : length vram ≡ 16384) {need : ℕ} where
-      pub row-due-9 : need ≡ rowSize s → size < need → refusedDue PixelLength raster ≡ dueOf (row_lines s vram size) s reg raster
-      row-due-9 e h = let k : size < rowSize s = omega arith in rw (eq-eqb (length vram) 16384 mem, lt-ltb size (rowSize s) k)
+      pub row_due_9 : need ≡ row_size s → size < need → refused_due PixelLength raster ≡ due_of (row_lines s vram size) s reg raster
+      row_due_9 e h = let k : size < row_size s = omega arith in rw (eq-eqb (length vram) 16384 mem, lt-ltb size (row_size s) k)
 
-      pub row-due-taken : need ≡ rowSize s → need ≤ size → takenDue s reg raster ≡ dueOf (row_lines s vram size) s reg raster
-      row-due-taken e h = let k : rowSize s ≤ size = omega arith in rw (eq-eqb (length vram) 16384 mem, le-ltb size (rowSize s) k)
+      pub row_due_taken : need ≡ row_size s → need ≤ size → taken_due s reg raster ≡ due_of (row_lines s vram size) s reg raster
+      row_due_taken e h = let k : row_size s ≤ size = omega arith in rw (eq-eqb (length vram) 16384 mem, le-ltb size (row_size s) k)
 
-      pub frame-due-9 : need ≡ frameSize s → size < need → refusedDue PixelLength raster ≡ dueOf (frameLines s vram size) s reg raster
-      frame-due-9 e h = let k : size < frameSize s = omega arith in rw (eq-eqb (length vram) 16384 mem, lt-ltb size (frameSize s) k)
+      pub frame_due_9 : need ≡ frame_size s → size < need → refused_due PixelLength raster ≡ due_of (frame_lines s vram size) s reg raster
+      frame_due_9 e h = let k : size < frame_size s = omega arith in rw (eq-eqb (length vram) 16384 mem, lt-ltb size (frame_size s) k)
 
-      pub frame-due-12 : need ≡ frameSize s → need < size → refusedDue FrameTooLong raster ≡ dueOf (frameLines s vram size) s reg raster
-      frame-due-12 e h =
-          let k : frameSize s < size = omega arith in
-          let l : frameSize s ≤ size = omega arith in
-          rw (eq-eqb (length vram) 16384 mem, le-ltb size (frameSize s) l, lt-ltb (frameSize s) size k)
+      pub frame_due_12 : need ≡ frame_size s → need < size → refused_due FrameTooLong raster ≡ due_of (frame_lines s vram size) s reg raster
+      frame_due_12 e h =
+          let k : frame_size s < size = omega arith in
+          let l : frame_size s ≤ size = omega arith in
+          rw (eq-eqb (length vram) 16384 mem, le-ltb size (frame_size s) l, lt-ltb (frame_size s) size k)
 
-      pub frame-due-taken : need ≡ frameSize s → need ≤ size → size ≤ need → takenDue s reg raster ≡ dueOf (frameLines s vram size) s reg raster
-      frame-due-taken e h g =
-          let k : size ≤ frameSize s = omega arith in
-          let l : frameSize s ≤ size = omega arith in
-          rw (eq-eqb (length vram) 16384 mem, le-ltb size (frameSize s) l, le-ltb (frameSize s) size k)
+      pub frame_due_taken : need ≡ frame_size s → need ≤ size → size ≤ need → taken_due s reg raster ≡ due_of (frame_lines s vram size) s reg raster
+      frame_due_taken e h g =
+          let k : size ≤ frame_size s = omega arith in
+          let l : frame_size s ≤ size = omega arith in
+          rw (eq-eqb (length vram) 16384 mem, le-ltb size (frame_size s) l, le-ltb (frame_size s) size k)
 
   -- and then by 16
   module _ (least size : ℕ) where
-    pub also-refused : (ls : List Line) → (dueOf ls s reg raster).good ≡ false → dueOf ls s reg raster ≡ dueOf (alsoLayers least size ls) s reg raster
-    also-refused [] e = clash e
-    also-refused (l ∷ ls) e = split l.holds (λ t. rw t) (λ t. rw t (also-refused ls (rw t at e)))
+    pub also_refused : (ls : List Line) → (due_of ls s reg raster).good ≡ false → due_of ls s reg raster ≡ due_of (also_layers least size ls) s reg raster
+    also_refused [] e = clash e
+    also_refused (l ∷ ls) e = split l.holds (λ t. rw t) (λ t. rw t (also_refused ls (rw t at e)))
 
-    pub also-16 : (ls : List Line) → (dueOf ls s reg raster).good ≡ true → size < least → refusedDue LayerLength raster ≡ dueOf
-        (alsoLayers least size ls) s reg raster
-    also-16 [] e h = rw (lt-ltb size least h)
-    also-16 (l ∷ ls) e h = split l.holds (λ t. clash (sym (rw t at e))) (λ t. rw t (also-16 ls (rw t at e) h))
+    pub also_16 : (ls : List Line) → (due_of ls s reg raster).good ≡ true → size < least → refused_due LayerLength raster ≡ due_of
+        (also_layers least size ls) s reg raster
+    also_16 [] e h = rw (lt-ltb size least h)
+    also_16 (l ∷ ls) e h = split l.holds (λ t. clash (sym (rw t at e))) (λ t. rw t (also_16 ls (rw t at e) h))
 
-    pub also-taken : (ls : List Line) → least ≤ size → dueOf ls s reg raster ≡ dueOf (alsoLayers least size ls) s reg raster
-    also-taken ls h = sym (under-also least size ls (λ r. refusedDue r raster) (takenDue s reg raster) h)
+    pub also_taken : (ls : List Line) → least ≤ size → due_of ls s reg raster ≡ due_of (also_layers least size ls) s reg raster
+    also_taken ls h = sym (under_also least size ls (λ r. refused_due r raster) (taken_due s reg raster) h)

@@ -6,20 +6,20 @@ use native.Mathlib.Nat.{mul_comm}
 use native.Mathlib.Omega.{arith}
 use Rattle.picture.specs.declared.Screen.{Screen}
 use Rattle.picture.specs.declared.Screen.TheVariants.{VisibleOnly, EffectiveArea, TrueEdges, Home}
-use Rattle.picture.specs.Screen.{columns, rows, rowSize, frameSize}
+use Rattle.picture.specs.Screen.{columns, rows, row_size, frame_size}
 use Rattle.points.proofs.Rows.{frame_small, frame-rows}
 
 -- a row has four bytes for each column
-pub quarter : (a : Screen) {w : ℕ} → w ≡ rowSize a → w / 4 ≡ columns a
+pub quarter : (a : Screen) {w : ℕ} → w ≡ row_size a → w / 4 ≡ columns a
 quarter VisibleOnly e = omega arith
 quarter EffectiveArea e = omega arith
 quarter TrueEdges e = omega arith
 quarter Home e = omega arith
 
-module _ (a : Screen) {n w : ℕ} (en : n ≡ rows a) (ew : w ≡ rowSize a) where
+module _ (a : Screen) {n w : ℕ} (en : n ≡ rows a) (ew : w ≡ row_size a) where
   -- and a frame its rows
-  pub frame_is : n * w ≡ frameSize a
-  frame_is = rw (en, ew) (mul_comm (rows a) (rowSize a) ∙ sym (frame-rows a))
+  pub frame_is : n * w ≡ frame_size a
+  frame_is = rw (en, ew) (mul_comm (rows a) (row_size a) ∙ sym (frame-rows a))
 
-  pub frame-low : n * w ≤ 229376
-  frame-low = omega (arith, frame_is, frame_small a)
+  pub frame_low : n * w ≤ 229376
+  frame_low = omega (arith, frame_is, frame_small a)

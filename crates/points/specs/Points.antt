@@ -6,9 +6,9 @@ use Rattle.laws.specs.Bits.{bit}
 use Rattle.laws.specs.Lists.{at}
 use Rattle.picture.specs.declared.Screen.{Screen}
 use Rattle.picture.specs.Picture.{Row}
-use Rattle.picture.specs.Screen.{firstLine, rows, rowSize, frameSize, pictureOf, statusBits}
+use Rattle.picture.specs.Screen.{first_line, rows, row_size, frame_size, picture_of, status_bits}
 use Rattle.raster.specs.declared.Raster.{Raster}
-use Rattle.raster.specs.Raster.{advanced, lineInterrupt, counted}
+use Rattle.raster.specs.Raster.{advanced, line_interrupt, counted}
 use Rattle.refusal.specs.declared.Refusal.{Refusal}
 use Rattle.refusal.specs.declared.Refusal.TheVariants.{Accepted, VramLength, PixelLength, FrameTooLong}
 use Rattle.refusal.specs.Refusals.{whole, Line, line, under}
@@ -21,14 +21,14 @@ use Rattle.points.specs.declared.DrawnRow.TheVariants.{NoRow, Drawn}
 use Rattle.points.specs.declared.Points.{Points}
 
 -- R11.11: the numbers of the answers, as R7.7 has them
-abbrev pub interruptNumber : VdpInt → ℕ
-interruptNumber NoInterrupt = 0
-interruptNumber InterruptGenerated = 1
+abbrev pub interrupt_number : VdpInt → ℕ
+interrupt_number NoInterrupt = 0
+interrupt_number InterruptGenerated = 1
 
-abbrev pub reportNumber : DisplayRefresh → ℕ
-reportNumber NoDisplay = 0
-reportNumber ScreenDone = 1
-reportNumber ScreenDoneNoRefresh = 2
+abbrev pub report_number : DisplayRefresh → ℕ
+report_number NoDisplay = 0
+report_number ScreenDone = 1
+report_number ScreenDoneNoRefresh = 2
 
 -- what the points read of a device: registers, raster, status, and the colours that a row is drawn with
 pub record Reading : Type 0 where
@@ -45,58 +45,58 @@ abbrev pub risen : Reading → Raster
 risen k = advanced (at k.reg) k.raster
 
 -- R4.2: the row of a line, if it has one
-unfoldable pub rowOn : Screen → ℕ → DrawnRow
-rowOn s l = cond (leb (firstLine s) l && ltb l (firstLine s + rows s)) (Drawn (l - firstLine s)) NoRow
+unfoldable pub row_on : Screen → ℕ → DrawnRow
+row_on s l = cond (leb (first_line s) l && ltb l (first_line s + rows s)) (Drawn (l - first_line s)) NoRow
 
 -- the row, if there is one, is one of the screen's
 abbrev pub RowIn : Screen → DrawnRow → Type 0
 RowIn s r = (y : ℕ) → r ≡ Drawn y → y < rows s
 
 -- the row that this step draws, and what row y looks like now, for the registers, the latched scroll and the video memory
-abbrev pub comingRow : Screen → Reading → DrawnRow
-comingRow s k = rowOn s (risen k).v_counter
+abbrev pub coming_row : Screen → Reading → DrawnRow
+coming_row s k = row_on s (risen k).v_counter
 
-abbrev pub comingPicture : Screen → List ℕ → Reading → ℕ → Row
-comingPicture s vram k y = pictureOf s k.reg (risen k).vertical_scroll vram y
+abbrev pub coming_picture : Screen → List ℕ → Reading → ℕ → Row
+coming_picture s vram k y = picture_of s k.reg (risen k).vertical_scroll vram y
 
 -- R4.2: the status bits that the row sets, where `picture` gives the picture of each row
 unfoldable pub bits_of : DrawnRow → (ℕ → Row) → ℕ
 bits_of NoRow picture = 0
-bits_of (Drawn y) picture = statusBits (picture y)
+bits_of (Drawn y) picture = status_bits (picture y)
 
 -- R4.3: the end of the screen at line l, its status bit and its report
-abbrev pub atEnd : ℕ → Bool
-atEnd l = eqb l 0xC1
+abbrev pub at_end : ℕ → Bool
+at_end l = eqb l 0xC1
 
-unfoldable pub endedBy : ℕ → ℕ → ℕ
-endedBy l status = cond (atEnd l) (bit_or status 0x80) status
+unfoldable pub ended_by : ℕ → ℕ → ℕ
+ended_by l status = cond (at_end l) (bit_or status 0x80) status
 
-unfoldable pub reportBy : List ℕ → ℕ → DisplayRefresh
-reportBy reg l = cond (atEnd l) (cond (bit (at reg 1) 6) ScreenDone ScreenDoneNoRefresh) NoDisplay
+unfoldable pub report_by : List ℕ → ℕ → DisplayRefresh
+report_by reg l = cond (at_end l) (cond (bit (at reg 1) 6) ScreenDone ScreenDoneNoRefresh) NoDisplay
 
 -- R4.4: an interrupt of the frame or of the line
-unfoldable pub interruptBy : List ℕ → ℕ → Raster → VdpInt
-interruptBy reg status raster =
-    cond ((bit (at reg 1) 5 && bit status 7) || lineInterrupt (at reg) raster) InterruptGenerated NoInterrupt
+unfoldable pub interrupt_by : List ℕ → ℕ → Raster → VdpInt
+interrupt_by reg status raster =
+    cond ((bit (at reg 1) 5 && bit status 7) || line_interrupt (at reg) raster) InterruptGenerated NoInterrupt
 
 -- an accepted step: R4.1 to R4.5 in order
 unfoldable pub points_of : Screen → List ℕ → Reading → Points
 points_of s vram k =
     let up = risen k in
-    let row = comingRow s k in
-    let last = endedBy up.v_counter (bit_or k.status (bits_of row (comingPicture s vram k))) in
+    let row = coming_row s k in
+    let last = ended_by up.v_counter (bit_or k.status (bits_of row (coming_picture s vram k))) in
     record {
       refusal = Accepted;
-      interrupt = interruptBy k.reg last up;
-      report = reportBy k.reg up.v_counter;
+      interrupt = interrupt_by k.reg last up;
+      report = report_by k.reg up.v_counter;
       row = row;
       status = last;
       raster = counted (at k.reg) up;
     }
 
 -- R2.3: a refused step tells and changes nothing
-abbrev pub refusedPoints : Refusal → ℕ → Raster → Points
-refusedPoints r status raster =
+abbrev pub refused_points : Refusal → ℕ → Raster → Points
+refused_points r status raster =
     record { refusal = r; interrupt = NoInterrupt; report = NoDisplay; row = NoRow; status = status; raster = raster }
 
 -- R2.6: a row buffer of `size` bytes has at least `need`, a frame exactly so many
@@ -107,15 +107,15 @@ abbrev pub exactly : ℕ → ℕ → List Line
 exactly need size = line (ltb size need) PixelLength ∷ line (ltb need size) FrameTooLong ∷ []
 
 -- R2.4: the lines of the table that a step can meet: 8, and those of its buffer's size
-abbrev pub stepLines : List ℕ → List Line → List Line
-stepLines vram sizes = line (not (whole vram)) VramLength ∷ sizes
+abbrev pub step_lines : List ℕ → List Line → List Line
+step_lines vram sizes = line (not (whole vram)) VramLength ∷ sizes
 
 abbrev pub row_lines : Screen → List ℕ → ℕ → List Line
-row_lines s vram size = stepLines vram (at_least (rowSize s) size)
+row_lines s vram size = step_lines vram (at_least (row_size s) size)
 
-abbrev pub frameLines : Screen → List ℕ → ℕ → List Line
-frameLines s vram size = stepLines vram (exactly (frameSize s) size)
+abbrev pub frame_lines : Screen → List ℕ → ℕ → List Line
+frame_lines s vram size = step_lines vram (exactly (frame_size s) size)
 
 -- R6.3, R6.7: the points of a step that these lines refuse, whatever its line
-unfoldable pub pointsWith : List Line → Screen → List ℕ → Reading → Points
-pointsWith lines s vram k = under lines (λ r. refusedPoints r k.status k.raster) (points_of s vram k)
+unfoldable pub points_with : List Line → Screen → List ℕ → Reading → Points
+points_with lines s vram k = under lines (λ r. refused_points r k.status k.raster) (points_of s vram k)

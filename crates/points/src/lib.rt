@@ -1,11 +1,11 @@
 // The five points of a step but for the drawing of its row: what the coming step is to do, its row or its refusal; the screen's end, the interrupt and the line count.
 ghost use Rattle.std.specs.Prelude.{◌≡◌, cond, ◌&&◌, List, ℕ, ◌-◌, ◌<◌, leb, ltb};
-ghost use Rattle.picture.specs.Screen.{columns, rows, rowSize};
+ghost use Rattle.picture.specs.Screen.{columns, rows, row_size};
 ghost use Rattle.refusal.specs.Refusals.{Line};
 ghost use Rattle.points.specs.declared.DrawnRow.TheVariants.{NoRow, Drawn};
-ghost use Rattle.points.specs.Points.{interruptNumber, reportNumber, rowOn, endedBy, reportBy, interruptBy, row_lines, frameLines};
-ghost use Rattle.points.specs.Bytes.{alsoLayers};
-ghost use Rattle.points.specs.Due.{refusedDue, takenDue, layerDue, dueOf, pointsBy};
+ghost use Rattle.points.specs.Points.{interrupt_number, report_number, row_on, ended_by, report_by, interrupt_by, row_lines, frame_lines};
+ghost use Rattle.points.specs.Bytes.{also_layers};
+ghost use Rattle.points.specs.Due.{refused_due, taken_due, layer_due, due_of, points_by};
 
 use picture::Screen;
 use raster::Raster;
@@ -40,7 +40,7 @@ pub enum DisplayRefresh {
 
 // The numbers of both (R7.7).
 pub fn interrupt_number(interrupt: VdpInt) -> u8
-    ensures value { result ≡ interruptNumber interrupt }
+    ensures value { result ≡ interrupt_number interrupt }
     ensures upper_bound { result < 2 }
 {
     match interrupt {
@@ -50,7 +50,7 @@ pub fn interrupt_number(interrupt: VdpInt) -> u8
 }
 
 pub fn report_number(report: DisplayRefresh) -> u8
-    ensures value { result ≡ reportNumber report }
+    ensures value { result ≡ report_number report }
     ensures upper_bound { result < 3 }
 {
     match report {
@@ -92,7 +92,7 @@ fn row_between(line: u8, first: u8, end: u8) -> DrawnRow
 }
 
 fn row_on(screen: Screen, line: u8) -> DrawnRow
-    ensures { result ≡ rowOn screen line }
+    ensures { result ≡ row_on screen line }
 {
     match screen {
         Screen::VisibleOnly => row_between(line, GG_VISIBLE_AREA_START_Y, GG_VISIBLE_AREA_END_Y),
@@ -104,7 +104,7 @@ fn row_on(screen: Screen, line: u8) -> DrawnRow
 
 // R4.3: the screen ends at line C1.
 fn ended(status: u8, line: u8) -> u8
-    ensures { result ≡ endedBy line status }
+    ensures { result ≡ ended_by line status }
 {
     if line == SCREEN_END {
         status | 0x80
@@ -114,7 +114,7 @@ fn ended(status: u8, line: u8) -> u8
 }
 
 fn report_of(reg: [u8; 11], line: u8) -> DisplayRefresh
-    ensures { result ≡ reportBy reg line }
+    ensures { result ≡ report_by reg line }
 {
     if line != SCREEN_END {
         return DisplayRefresh::NoDisplay;
@@ -127,7 +127,7 @@ fn report_of(reg: [u8; 11], line: u8) -> DisplayRefresh
 
 // R4.4: the end of the screen or the line count asks for an interrupt.
 fn interrupt_of(reg: [u8; 11], status: u8, raster: Raster) -> VdpInt
-    ensures { result ≡ interruptBy reg status raster }
+    ensures { result ≡ interrupt_by reg status raster }
 {
     let line_interrupt = raster.line_interrupt_is_up(reg);
     if (small::is_set(reg[1], 5) & small::is_set(status, 7)) | line_interrupt {
@@ -149,7 +149,7 @@ pub fn row_count(screen: Screen) -> usize
 }
 
 pub fn row_size(screen: Screen) -> usize
-    ensures { result ≡ rowSize screen }
+    ensures { result ≡ row_size screen }
 {
     match screen {
         Screen::VisibleOnly => picture::GG_VISIBLE_ROW_SIZE,
@@ -170,7 +170,7 @@ pub struct Due {
 }
 
 fn refused(refusal: Refusal, raster: Raster) -> Due
-    ensures { result ≡ refusedDue refusal raster }
+    ensures { result ≡ refused_due refusal raster }
 {
     Due {
         good: false,
@@ -181,7 +181,7 @@ fn refused(refusal: Refusal, raster: Raster) -> Due
 }
 
 fn taken(reg: [u8; 11], raster: Raster, screen: Screen) -> Due
-    ensures { result ≡ takenDue screen reg raster }
+    ensures { result ≡ taken_due screen reg raster }
 {
     let up = raster.advance(reg);
     let drawn = row_on(screen, up.v_counter);
@@ -195,7 +195,7 @@ fn taken(reg: [u8; 11], raster: Raster, screen: Screen) -> Due
 
 // On a row buffer of `size` bytes.
 pub fn row_due(reg: [u8; 11], raster: Raster, vram: &[u8], size: usize, screen: Screen) -> Due
-    ensures { result ≡ dueOf (row_lines screen vram.now size) screen reg raster }
+    ensures { result ≡ due_of (row_lines screen vram.now size) screen reg raster }
 {
     if vram.len() != VRAM_SIZE {
         return refused(Refusal::VramLength, raster);
@@ -209,7 +209,7 @@ pub fn row_due(reg: [u8; 11], raster: Raster, vram: &[u8], size: usize, screen: 
 
 // On a frame of `size` bytes.
 pub fn frame_due(reg: [u8; 11], raster: Raster, vram: &[u8], size: usize, screen: Screen) -> Due
-    ensures { result ≡ dueOf (frameLines screen vram.now size) screen reg raster }
+    ensures { result ≡ due_of (frame_lines screen vram.now size) screen reg raster }
 {
     if vram.len() != VRAM_SIZE {
         return refused(Refusal::VramLength, raster);
@@ -226,8 +226,8 @@ pub fn frame_due(reg: [u8; 11], raster: Raster, vram: &[u8], size: usize, screen
 
 // The same with a layer buffer of `size` bytes beside it.
 pub fn layer_due(due: Due, raster: Raster, size: usize, screen: Screen) -> Due
-    ensures value { result ≡ layerDue (columns screen) size raster due }
-    ensures value_2 { (lines : List Line) (reg : List ℕ) → due ≡ dueOf lines screen reg raster → result ≡ dueOf (alsoLayers (columns screen) size lines) screen reg raster }
+    ensures value { result ≡ layer_due (columns screen) size raster due }
+    ensures value_2 { (lines : List Line) (reg : List ℕ) → due ≡ due_of lines screen reg raster → result ≡ due_of (also_layers (columns screen) size lines) screen reg raster }
 {
     if !due.good {
         return due;
@@ -240,7 +240,7 @@ pub fn layer_due(due: Due, raster: Raster, size: usize, screen: Screen) -> Due
 
 // R4.3 to R4.5, once the row is drawn, which set these status bits; a refused step tells and changes nothing (R2.3).
 pub fn finish(due: Due, reg: [u8; 11], status: u8, bits: u8) -> Points
-    ensures { result ≡ pointsBy reg status bits due }
+    ensures { result ≡ points_by reg status bits due }
 {
     let up = due.up;
     let row = due.row;

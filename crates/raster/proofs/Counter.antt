@@ -4,12 +4,12 @@ use Rattle.std.proofs.Common.{◌≡◌, ℕ, ◌-◌, ◌≤◌, Bool, false, c
 use borrow.Author.Tests.{eqb-false}
 use Rattle.laws.proofs.Tests.{neither}
 use Rattle.raster.specs.declared.Raster.{Raster}
-use Rattle.raster.specs.Raster.{up, jumps, starts, jumpLine, jump_to, lineCount, advanced, counted}
-use Rattle.raster.proofs.Tables.{jump-not-0}
+use Rattle.raster.specs.Raster.{up, jumps, starts, jump_line, jump_to, line_count, advanced, counted}
+use Rattle.raster.proofs.Tables.{jump_not_0}
 
 -- R4.1: the counter one up, at line 0 and elsewhere; there it jumps or not
 module _ (g : ℕ → ℕ) (x : Raster) {v : ℕ} (e : v ≡ up x) where
-  pub line-0 : v ≡ 0 → {n : ℕ} → n ≡ lineCount (g 10) → record {
+  pub line_0 : v ≡ 0 → {n : ℕ} → n ≡ line_count (g 10) → record {
     v_counter = v;
     v_counter_jumped = false;
     line_interrupt_counter = n;
@@ -17,9 +17,9 @@ module _ (g : ℕ → ℕ) (x : Raster) {v : ℕ} (e : v ≡ up x) where
     table = x.table;
   } ≡ advanced g x
   unfolding advanced jumps starts
-  line-0 z k = simp (k, sym e, z, jump-not-0 x.table)
+  line_0 z k = simp (k, sym e, z, jump_not_0 x.table)
 
-  pub elsewhere : (v ≡ 0 → ⊥) → {j : ℕ} → j ≡ jumpLine x.table → {t : Bool} → (eqb v j && not x.v_counter_jumped) ≡ t → record {
+  pub elsewhere : (v ≡ 0 → ⊥) → {j : ℕ} → j ≡ jump_line x.table → {t : Bool} → (eqb v j && not x.v_counter_jumped) ≡ t → record {
     v_counter = cond t jump_to v;
     v_counter_jumped = t || x.v_counter_jumped;
     line_interrupt_counter = x.line_interrupt_counter;

@@ -2,7 +2,7 @@
 ghost use Rattle.std.specs.Prelude.{◌≡◌};
 ghost use Rattle.laws.specs.Lists.{at};
 ghost use Rattle.raster.specs.declared.LineTable.TheVariants.{Steps262};
-ghost use Rattle.raster.specs.Raster.{freshRaster, jumpLine, lineTableNumber, lineTableFrom, advanced, lineCount, lineInterrupt, counted};
+ghost use Rattle.raster.specs.Raster.{fresh_raster, jump_line, line_table_number, line_table_from, advanced, line_count, line_interrupt, counted};
 
 // The table that the counter goes by: how many steps a pass has.
 #[derive(Drop)]
@@ -22,7 +22,7 @@ pub struct Raster {
 
 // The number of a table, and the table of a number.
 pub fn table_number(table: LineTable) -> u8
-    ensures { result ≡ lineTableNumber table }
+    ensures { result ≡ line_table_number table }
 {
     match table {
         LineTable::Steps261 => 0,
@@ -31,7 +31,7 @@ pub fn table_number(table: LineTable) -> u8
 }
 
 pub fn table_from(n: u8) -> LineTable
-    ensures { result ≡ lineTableFrom n }
+    ensures { result ≡ line_table_from n }
 {
     if n == 0 {
         LineTable::Steps261
@@ -42,14 +42,14 @@ pub fn table_from(n: u8) -> LineTable
 
 // The number of the table that a device goes by where none is named: the chart's.
 pub fn unnamed_table() -> u8
-    ensures { result ≡ lineTableNumber Steps262 }
+    ensures { result ≡ line_table_number Steps262 }
 {
     table_number(LineTable::Steps262)
 }
 
 // The value at which the counter jumps instead of being read.
 fn jump_line(table: LineTable) -> u8
-    ensures { result ≡ jumpLine table }
+    ensures { result ≡ jump_line table }
 {
     match table {
         LineTable::Steps261 => 0xDA,
@@ -59,7 +59,7 @@ fn jump_line(table: LineTable) -> u8
 
 // The line count that line 0 starts with: register 10 less 1, and 0 stays 0.
 fn line_interrupt_load_start(r10: u8) -> u8
-    ensures { result ≡ lineCount r10 }
+    ensures { result ≡ line_count r10 }
 {
     if 0 < r10 { r10 - 1 } else { 0 }
 }
@@ -67,7 +67,7 @@ fn line_interrupt_load_start(r10: u8) -> u8
 impl Raster {
     // That of a fresh device that goes by this table (R3.2).
     pub fn with_table(table: LineTable) -> Raster
-        ensures { result ≡ freshRaster table }
+        ensures { result ≡ fresh_raster table }
     {
         Raster {
             v_counter: 0,
@@ -113,7 +113,7 @@ impl Raster {
 
     // R4.4, its line part: line interrupts are on and the count is 0.
     pub fn line_interrupt_is_up(self, reg: [u8; 11]) -> bool
-        ensures { result ≡ lineInterrupt (at reg) self }
+        ensures { result ≡ line_interrupt (at reg) self }
     {
         small::is_set(reg[0], 4) & (self.line_interrupt_counter == 0)
     }

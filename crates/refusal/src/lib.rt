@@ -1,6 +1,6 @@
 // The refusals (R2.1): why a call is refused, and the number of each.
 ghost use Rattle.std.specs.Prelude.{◌≡◌, ◌<◌};
-ghost use Rattle.refusal.specs.Refusals.{refusalNumber};
+ghost use Rattle.refusal.specs.Refusals.{refusal_number};
 
 // Why a call is refused, or that it is not (R2.1).
 #[derive(Drop)]
@@ -28,7 +28,7 @@ pub enum Refusal {
 
 // The number of a refusal (R2.1).
 pub fn refusal_number(refusal: Refusal) -> u8
-    ensures value { result ≡ refusalNumber refusal }
+    ensures value { result ≡ refusal_number refusal }
     ensures upper_bound { result < 256 }
 {
     match refusal {

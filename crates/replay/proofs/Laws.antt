@@ -13,12 +13,12 @@ use lib.Dec.{eqb}
 use lib.ListN.{length}
 use Rattle.laws.specs.Lists.{at}
 use Rattle.laws.proofs.Tests.{split}
-use Rattle.picture.specs.Area.{areaFrom, rowSize}
+use Rattle.picture.specs.Area.{area_from, row_size}
 use Rattle.raster.specs.declared.LineTable.TheVariants.{Steps261}
 use Rattle.block.specs.Block.{fits}
-use Rattle.face.proofs.Blocks.{new-on}
-use Rattle.face.specs.Face.{Called, Leaves, newTableCall, outCall, inputCall, rowStepCall}
-use Rattle.replay.specs.Replay.{sum_of, rowSum, agreed, World, world, turn, wrote, read, stepped, turned, Run, run, after, ran, start, tallied, replayed}
+use Rattle.face.proofs.Blocks.{new_on}
+use Rattle.face.specs.Face.{Called, Leaves, new_table_call, out_call, input_call, row_step_call}
+use Rattle.replay.specs.Replay.{sum_of, row_sum, agreed, World, world, turn, wrote, read, stepped, turned, Run, run, after, ran, start, tallied, replayed}
 
 -- ---- checksums
 pub part_low : (i b : ℕ) → i < 1024 → b < 256 → (i + 1) * b ≤ 261120
@@ -32,42 +32,42 @@ unfolding sum_of
 sum_step l i e q = rw (add-one i, e, q, add-one i)
 
 -- the row of area 1 has 1,024 bytes, that of any other 640
-pub wide_row : (n : ℕ) → n ≡ 1 → rowSize (areaFrom n) ≡ 1024
+pub wide_row : (n : ℕ) → n ≡ 1 → row_size (area_from n) ≡ 1024
 wide_row n e = rw e
 
-pub narrow-row : (n : ℕ) → n ≢ 1 → rowSize (areaFrom n) ≡ 640
-narrow-row n h = split (eqb n 0) (λ t. rw t) (λ t. rw (t, ne_eqb n 1 h))
+pub narrow_row : (n : ℕ) → n ≢ 1 → row_size (area_from n) ≡ 640
+narrow_row n h = split (eqb n 0) (λ t. rw t) (λ t. rw (t, ne_eqb n 1 h))
 
 -- ---- the calls
 module _ (l : List ℕ) (k : ℕ) (w : World) where
   called : (c : Called) {n : ℕ} {b x : List ℕ} → Leaves c n b x → record { word = n; block = b; lent = x } ≡ c
   called c e = λ i. record { word = e.word i; block = e.block i; lent = e.lent i }
 
-  pub wrote-turn :
-      at l k ≡ 0x57 → {p n : ℕ} {b' m' : List ℕ} {t : Bool} → p ≡ at l (k + 1) → Leaves (outCall w.block w.vram p (at l (k + 2))) n b' m'
+  pub wrote_turn :
+      at l k ≡ 0x57 → {p n : ℕ} {b' m' : List ℕ} {t : Bool} → p ≡ at l (k + 1) → Leaves (out_call w.block w.vram p (at l (k + 2))) n b' m'
       → t ≡ agreed l k n b' 0 → turn t (world b' m' w.row) ≡ turned l k w
   unfolding turned wrote
-  wrote-turn e {b' = b'} {m' = m'} ep c q =
+  wrote_turn e {b' = b'} {m' = m'} ep c q =
       ap (λ (s : Bool). turn s (world b' m' w.row)) q ∙ ap (wrote l k w)
-      (called _ c ∙ ap (λ (p : ℕ). outCall w.block w.vram p (at l (k + 2))) ep) ∙ sym (rw e)
+      (called _ c ∙ ap (λ (p : ℕ). out_call w.block w.vram p (at l (k + 2))) ep) ∙ sym (rw e)
 
-  pub read-turn :
-      at l k ≡ 0x52 → {p n : ℕ} {b' : List ℕ} {t : Bool} → p ≡ at l (k + 1) → Leaves (inputCall w.block w.vram p) n b' []
+  pub read_turn :
+      at l k ≡ 0x52 → {p n : ℕ} {b' : List ℕ} {t : Bool} → p ≡ at l (k + 1) → Leaves (input_call w.block w.vram p) n b' []
       → t ≡ agreed l k n b' 0 → turn t (world b' w.vram w.row) ≡ turned l k w
   unfolding turned read
-  read-turn e {b' = b'} ep c q =
-      ap (λ (s : Bool). turn s (world b' w.vram w.row)) q ∙ ap (read l k w) (called _ c ∙ ap (inputCall w.block w.vram) ep) ∙ sym (rw e)
+  read_turn e {b' = b'} ep c q =
+      ap (λ (s : Bool). turn s (world b' w.vram w.row)) q ∙ ap (read l k w) (called _ c ∙ ap (input_call w.block w.vram) ep) ∙ sym (rw e)
 
-  pub step-turn :
-      at l k ≡ 0x53 → {n sum : ℕ} {b' x' : List ℕ} {t : Bool} → Leaves (rowStepCall w.block w.vram w.row (at l (k + 1))) n b' x'
-      → sum ≡ rowSum n (at l (k + 1)) x' → t ≡ agreed l k n b' sum → turn t (world b' w.vram x') ≡ turned l k w
+  pub step_turn :
+      at l k ≡ 0x53 → {n sum : ℕ} {b' x' : List ℕ} {t : Bool} → Leaves (row_step_call w.block w.vram w.row (at l (k + 1))) n b' x'
+      → sum ≡ row_sum n (at l (k + 1)) x' → t ≡ agreed l k n b' sum → turn t (world b' w.vram x') ≡ turned l k w
   unfolding turned stepped
-  step-turn e {n} {sum} {b'} {x'} c p q =
+  step_turn e {n} {sum} {b'} {x'} c p q =
       ap (λ (s : Bool). turn s (world b' w.vram x')) (q ∙ ap (agreed l k n b') p) ∙ ap (stepped l k w) (called _ c) ∙ sym (rw e)
 
-  pub no-turn : (at l k ≡ 0x57 → ⊥) → (at l k ≡ 0x52 → ⊥) → (at l k ≡ 0x53 → ⊥) → turn false w ≡ turned l k w
+  pub no_turn : (at l k ≡ 0x57 → ⊥) → (at l k ≡ 0x52 → ⊥) → (at l k ≡ 0x53 → ⊥) → turn false w ≡ turned l k w
   unfolding turned
-  no-turn e f g = sym (rw (ne_eqb (at l k) 0x57 e, ne_eqb (at l k) 0x52 f, ne_eqb (at l k) 0x53 g))
+  no_turn e f g = sym (rw (ne_eqb (at l k) 0x57 e, ne_eqb (at l k) 0x52 f, ne_eqb (at l k) 0x53 g))
 
 -- ---- the records in order
 module _ (l m x : List ℕ) where
@@ -75,11 +75,11 @@ module _ (l m x : List ℕ) where
   up_to n = ran n l (start m x)
 
   -- from a fresh block on
-  pub begun : (b : List ℕ) → length b ≡ 219 → {n : ℕ} {b' : List ℕ} → Leaves (newTableCall b 0) n b' [] → up_to 0 ≡ run 0 true (world b' m x)
+  pub begun : (b : List ℕ) → length b ≡ 219 → {n : ℕ} {b' : List ℕ} → Leaves (new_table_call b 0) n b' [] → up_to 0 ≡ run 0 true (world b' m x)
   unfolding ran
   begun b h e =
       let room : fits Steps261 (length b) ≡ true = rw h in
-      ap (λ (k : List ℕ). run 0 true (world k m x)) (sym (e.block ∙ ap (λ (c : Called). c.block) (new-on b Steps261 room) ∙ rw h))
+      ap (λ (k : List ℕ). run 0 true (world k m x)) (sym (e.block ∙ ap (λ (c : Called). c.block) (new_on b Steps261 room) ∙ rw h))
 
   -- after i records that agree, one more
   pub run_on : (i : ℕ) {w w' : World} {t : Bool} → up_to i ≡ run i true w → turn t w' ≡ turned l (16 * i) w → t ≡ true → up_to (i + 1) ≡ run (i + 1)

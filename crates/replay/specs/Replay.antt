@@ -4,12 +4,12 @@
 use Rattle.std.specs.Prelude.{Bool, true, false, cond, ◌&&◌, List, ℕ, zero, suc, ◌+◌, ◌*◌, ◌/◌, ◌%◌, eqb, length}
 use Rattle.laws.specs.Bits.{bit}
 use Rattle.laws.specs.Lists.{at}
-use Rattle.laws.specs.Paint.{fourAt}
-use Rattle.picture.specs.Area.{rowSize, areaFrom}
+use Rattle.laws.specs.Paint.{four_at}
+use Rattle.picture.specs.Area.{row_size, area_from}
 use Rattle.raster.specs.declared.LineTable.TheVariants.{Steps261}
 use Rattle.vdp.specs.Device.{made}
-use Rattle.block.specs.Block.{oldSize, block_of}
-use Rattle.face.specs.Face.{Called, outCall, inputCall, rowStepCall}
+use Rattle.block.specs.Block.{old_size, block_of}
+use Rattle.face.specs.Face.{Called, out_call, input_call, row_step_call}
 use Rattle.replay.specs.declared.Tally.{Tally}
 
 -- the checksum of n bytes: byte i counts i + 1 times
@@ -18,12 +18,12 @@ sum_of zero l = 0
 sum_of (suc n) l = sum_of n l + (n + 1) * at l n
 
 -- the checksum of the row that a step drew, and 0 where it drew none: bit 24 of the answer says whether it did (R7.7)
-unfoldable pub rowSum : ℕ → ℕ → List ℕ → ℕ
-rowSum word area row = cond (bit word 24) (sum_of (rowSize (areaFrom area)) row) 0
+unfoldable pub row_sum : ℕ → ℕ → List ℕ → ℕ
+row_sum word area row = cond (bit word 24) (sum_of (row_size (area_from area)) row) 0
 
 -- the record at place k has this answer, this block and this row
 unfoldable pub agreed : List ℕ → ℕ → ℕ → List ℕ → ℕ → Bool
-agreed l k word block sum = eqb word (fourAt l (k + 4)) && eqb (sum_of oldSize block) (fourAt l (k + 8)) && eqb sum (fourAt l (k + 12))
+agreed l k word block sum = eqb word (four_at l (k + 4)) && eqb (sum_of old_size block) (four_at l (k + 8)) && eqb sum (four_at l (k + 12))
 
 -- what the calls are made on
 pub record World : Type 0 where
@@ -50,13 +50,13 @@ unfoldable pub read : List ℕ → ℕ → World → Called → Turn
 read l k w c = turn (agreed l k c.word c.block 0) (world c.block w.vram w.row)
 
 unfoldable pub stepped : List ℕ → ℕ → World → Called → Turn
-stepped l k w c = turn (agreed l k c.word c.block (rowSum c.word (at l (k + 1)) c.lent)) (world c.block w.vram c.lent)
+stepped l k w c = turn (agreed l k c.word c.block (row_sum c.word (at l (k + 1)) c.lent)) (world c.block w.vram c.lent)
 
 unfoldable pub turned : List ℕ → ℕ → World → Turn
 turned l k w =
-    cond (eqb (at l k) 0x57) (wrote l k w (outCall w.block w.vram (at l (k + 1)) (at l (k + 2))))
-    (cond (eqb (at l k) 0x52) (read l k w (inputCall w.block w.vram (at l (k + 1))))
-    (cond (eqb (at l k) 0x53) (stepped l k w (rowStepCall w.block w.vram w.row (at l (k + 1))))
+    cond (eqb (at l k) 0x57) (wrote l k w (out_call w.block w.vram (at l (k + 1)) (at l (k + 2))))
+    (cond (eqb (at l k) 0x52) (read l k w (input_call w.block w.vram (at l (k + 1))))
+    (cond (eqb (at l k) 0x53) (stepped l k w (row_step_call w.block w.vram w.row (at l (k + 1))))
     (turn false w)))
 
 -- a run: how many answers agree so far, whether all did, and what the calls left; after the first that differs nothing more is called
@@ -77,7 +77,7 @@ ran (suc n) l r = cond (ran n l r).same (after (ran n l r) (turned l (16 * n) (r
 
 -- a fresh device of table 0, as the Rust's is, in a block of the first version, with the video memory and the row buffer that it is lent
 abbrev pub start : List ℕ → List ℕ → Run
-start m x = run 0 true (world (block_of oldSize (made Steps261)) m x)
+start m x = run 0 true (world (block_of old_size (made Steps261)) m x)
 
 -- WHAT A REPLAY FINDS: the answers of all whole records; a record that is cut differs
 unfoldable pub tallied : List ℕ → Run → Tally

@@ -1,7 +1,7 @@
 // Replays the published Rust's answers on standard input, record by record: each call is made on a device of ours, and what it gives is held to what the
 // Rust gave. oracle/VECTORS.md has the form of the list.
 ghost use Rattle.std.specs.Prelude.{◌≡◌, ◌+◌, ◌*◌, ◌≤◌, ◌<◌, length};
-ghost use Rattle.replay.specs.Replay.{sum_of, rowSum, agreed, world, turn, turned, replayed};
+ghost use Rattle.replay.specs.Replay.{sum_of, row_sum, agreed, world, turn, turned, replayed};
 
 // How many answers agree before the first that does not, and whether all do.
 #[derive(Drop)]
@@ -42,7 +42,7 @@ fn sum_of(bytes: &[u8], n: usize) -> u32
 // The checksum of the row that a step drew, 0 where it drew none.
 fn row_sum(word: u32, area: u8, row: &[u8]) -> u32
     requires { length row.now ≡ 1024 }
-    ensures { result ≡ rowSum word area row.now }
+    ensures { result ≡ row_sum word area row.now }
 {
     if word / 16777216 % 2 != 1 {
         return 0;

@@ -2,12 +2,12 @@
 ghost use Rattle.std.specs.Prelude.{◌≡◌, cond, ◌&&◌, ℕ, ◌+◌, ◌%◌, ◌<◌, ◌≤◌, length, ltb};
 ghost use Rattle.laws.specs.Lists.{at};
 ghost use Rattle.laws.specs.Paint.{painted};
-ghost use Rattle.laws.specs.Sizes.{vramSize};
-ghost use Rattle.bitmap.specs.Mask.{bytesOf, joined};
+ghost use Rattle.laws.specs.Sizes.{vram_size};
+ghost use Rattle.bitmap.specs.Mask.{bytes_of, joined};
 ghost use Rattle.picture.specs.declared.Screen.TheVariants.{VisibleOnly, EffectiveArea, Home};
-ghost use Rattle.picture.specs.Screen.{columns, rows, rowSize, pictureOf};
-ghost use Rattle.picture.specs.Layers.{layersOf, layersIn};
-ghost use Rattle.background.specs.Background.{Room, backColour, shade, prioTo};
+ghost use Rattle.picture.specs.Screen.{columns, rows, row_size, picture_of};
+ghost use Rattle.picture.specs.Layers.{layers_of, layers_in};
+ghost use Rattle.background.specs.Background.{Room, back_colour, shade, prio_to};
 ghost use Rattle.row.specs.Row.{Drawn, Backed};
 
 pub mod points_run;
@@ -46,7 +46,7 @@ fn status_bits(line: Line) -> u8
 
 // A row that is all background's, where its layers are asked for: a buffer with fewer bytes than the row has columns asks for none.
 fn clear(layers: &mut [u8], width: usize)
-    ensures { layers.new ≡ layersIn layers.old width (λ x. 0) }
+    ensures { layers.new ≡ layers_in layers.old width (λ x. 0) }
 {
     if layers.len() < width {
         return;
@@ -68,7 +68,7 @@ fn background_visible(
     scroll: usize,
     line: usize,
 ) -> Back
-    requires { (length vram.now ≡ vramSize) × (rowSize VisibleOnly ≤ length row.old) × (scroll < 256) × (line < rows VisibleOnly) × (columns screen ≡ columns VisibleOnly) }
+    requires { (length vram.now ≡ vram_size) × (row_size VisibleOnly ≤ length row.old) × (scroll < 256) × (line < rows VisibleOnly) × (columns screen ≡ columns VisibleOnly) }
     ensures { Backed screen reg scroll vram.now colours.now line row.old row.new result }
 {
     let sx = (GG_VISIBLE_MAP_X - small::wide(reg[8])) % SCROLL_PIXEL_WIDTH;
@@ -100,7 +100,7 @@ fn background_effective(
     reg: [u8; 11],
     line: usize,
 ) -> Back
-    requires { (length vram.now ≡ vramSize) × (rowSize EffectiveArea ≤ length row.old) × (line < rows EffectiveArea) }
+    requires { (length vram.now ≡ vram_size) × (row_size EffectiveArea ≤ length row.old) × (line < rows EffectiveArea) }
     ensures { (scroll : ℕ) → Backed EffectiveArea reg scroll vram.now colours.now line row.old row.new result }
 {
     let prio = background::render_background_line(
@@ -133,9 +133,9 @@ fn home_background(
     last: usize,
 ) -> Bitmap
     requires room { Room vram.now names sx y }
-    requires row_size_in_bounds { (rowSize Home ≤ length row.old) × (last < 224) }
-    ensures row_after { row.new ≡ painted (painted row.old 0 192 (shade colours.now (backColour vram.now names sx y))) 192 64 (shade colours.now (backColour vram.now names ((sx + 192) % 256) last)) }
-    ensures bits_value { result.bits ≡ joined (bytesOf (prioTo vram.now names sx y 0 192)) (bytesOf (prioTo vram.now names ((sx + 192) % 256) last 0 64)) }
+    requires row_size_in_bounds { (row_size Home ≤ length row.old) × (last < 224) }
+    ensures row_after { row.new ≡ painted (painted row.old 0 192 (shade colours.now (back_colour vram.now names sx y))) 192 64 (shade colours.now (back_colour vram.now names ((sx + 192) % 256) last)) }
+    ensures bits_value { result.bits ≡ joined (bytes_of (prio_to vram.now names sx y 0 192)) (bytes_of (prio_to vram.now names ((sx + 192) % 256) last 0 64)) }
 {
     let left = background::render_background_line(
         row,
@@ -179,7 +179,7 @@ fn fill(row: &mut [u8], on: bool, c: u32)
 
 // R20.6: and their layers the fill's, where `on` and where the row's layers are asked for.
 fn cover(layers: &mut [u8], on: bool)
-    ensures { layers.new ≡ layersIn layers.old (columns Home) (λ x. cond (on && ltb x 8) 2 (at layers.old x)) }
+    ensures { layers.new ≡ layers_in layers.old (columns Home) (λ x. cond (on && ltb x 8) 2 (at layers.old x)) }
 {
     if !on {
         return;
@@ -198,7 +198,7 @@ fn cover(layers: &mut [u8], on: bool)
 fn fill_over(row: &mut [u8], layers: &mut [u8], colours: &[u32; 32], reg: [u8; 11], on: bool)
     requires { 32 ≤ length row.old }
     ensures row_after { row.new ≡ cond on (painted row.old 0 8 (λ i. at colours.now (16 + at reg 7 % 16))) row.old }
-    ensures layers_after { layers.new ≡ layersIn layers.old (columns Home) (λ x. cond (on && ltb x 8) 2 (at layers.old x)) }
+    ensures layers_after { layers.new ≡ layers_in layers.old (columns Home) (λ x. cond (on && ltb x 8) 2 (at layers.old x)) }
 {
     fill(row, on, colours[16 + small::wide(reg[7]) % 16]);
     cover(layers, on);
@@ -213,7 +213,7 @@ fn background_home(
     scroll: usize,
     line: usize,
 ) -> Back
-    requires { (length vram.now ≡ vramSize) × (rowSize Home ≤ length row.old) × (scroll < 256) × (line < rows Home) }
+    requires { (length vram.now ≡ vram_size) × (row_size Home ≤ length row.old) × (scroll < 256) × (line < rows Home) }
     ensures { Backed Home reg scroll vram.now colours.now line row.old row.new result }
 {
     let sx = background::home_column(reg, line);
@@ -238,7 +238,7 @@ fn background_of(
     scroll: usize,
     line: usize,
 ) -> Back
-    requires { (length vram.now ≡ vramSize) × (rowSize screen ≤ length row.old) × (scroll < 256) × (line < rows screen) }
+    requires { (length vram.now ≡ vram_size) × (row_size screen ≤ length row.old) × (scroll < 256) × (line < rows screen) }
     ensures { Backed screen reg scroll vram.now colours.now line row.old row.new result }
 {
     match screen {
@@ -265,9 +265,9 @@ pub fn render_line(
     scroll: u8,
     line: u8,
 ) -> u8
-    requires { (length vram.now ≡ vramSize) × (rowSize screen ≤ length row.old) × (line < rows screen) }
-    ensures drawn { Drawn screen colours.now (pictureOf screen reg scroll vram.now line) row.old row.new result }
-    ensures layers_after { layers.new ≡ layersIn layers.old (columns screen) (layersOf screen reg scroll vram.now line) }
+    requires { (length vram.now ≡ vram_size) × (row_size screen ≤ length row.old) × (line < rows screen) }
+    ensures drawn { Drawn screen colours.now (picture_of screen reg scroll vram.now line) row.old row.new result }
+    ensures layers_after { layers.new ≡ layers_in layers.old (columns screen) (layers_of screen reg scroll vram.now line) }
 {
     let back = background_of(
         row,

@@ -1,7 +1,7 @@
 // Numbers, sizes and tests that every layer uses.
 ghost use Rattle.std.specs.Prelude.{◌≡◌, ◌&&◌, ℕ, ◌+◌, ◌*◌, ◌<◌, ◌≤◌, min, length};
 ghost use Rattle.laws.specs.Bits.{bit, digit};
-ghost use Rattle.laws.specs.Paint.{fourAt};
+ghost use Rattle.laws.specs.Paint.{four_at};
 
 // The bytes of video memory: as a length, and as the number of its addresses.
 pub const VRAM_SIZE: usize = 0x4000;
@@ -33,7 +33,7 @@ pub fn word(low: u8, high: u8) -> u16
 // The four bytes from byte k on as one number, the lowest first: a colour, the four bytes of a tile's line, an answer word.
 pub fn four_at(bytes: &[u8], k: usize) -> u32
     requires { k + 4 ≤ length bytes.now }
-    ensures { result ≡ fourAt bytes.now k }
+    ensures { result ≡ four_at bytes.now k }
 {
     let b0 = part(bytes[k]);
     let b1 = part(bytes[k + 1]);

@@ -2,14 +2,14 @@
 ghost use Rattle.std.specs.Prelude.{◌≡◌, ℕ, ◌+◌, ◌-◌, ◌*◌, ◌/◌, ◌%◌, ◌^◌, ◌<◌, ◌≤◌, Bool, not, ◌||◌, List, length, if◌then◌else◌, ◌==◌, bit_and, bit_or};
 ghost use Rattle.laws.specs.Lists.{at};
 ghost use Rattle.laws.specs.Paint.{painted};
-ghost use Rattle.laws.specs.Sizes.{vramSize};
-ghost use Rattle.bitmap.specs.Mask.{bytesOf, cleared};
+ghost use Rattle.laws.specs.Sizes.{vram_size};
+ghost use Rattle.bitmap.specs.Mask.{bytes_of, cleared};
 ghost use Rattle.picture.specs.View.{early};
-ghost use Rattle.picture.specs.Picture.{table_at, tall, spriteLine};
-ghost use Rattle.picture.specs.Layers.{layersIn};
-ghost use Rattle.tile.specs.Line.{coloursIn};
-ghost use Rattle.stand.specs.Stand.{standOf, Fits};
-ghost use Rattle.sprites.specs.Sprites.{Follows, Finished, Laid, Room, Tabled, Turned, stampedIf, line_of, eightOf};
+ghost use Rattle.picture.specs.Picture.{table_at, tall, sprite_line};
+ghost use Rattle.picture.specs.Layers.{layers_in};
+ghost use Rattle.tile.specs.Line.{colours_in};
+ghost use Rattle.stand.specs.Stand.{stand_of, Fits};
+ghost use Rattle.sprites.specs.Sprites.{Follows, Finished, Laid, Room, Tabled, Turned, stamped_if, line_of, eight_of};
 
 use bitmap::Bitmap;
 use column::Columns;
@@ -125,8 +125,8 @@ fn sprite_double_size_src_line(tall: bool, num: u8, d: usize) -> usize
 // Where that line stands.
 pub fn line_at(reg: [u8; 11], num: u8, d: usize) -> usize
     requires { d < 16 }
-    ensures value { result ≡ spriteLine (at reg) num d }
-    ensures result_bound { result + 4 ≤ vramSize }
+    ensures value { result ≡ sprite_line (at reg) num d }
+    ensures result_bound { result + 4 ≤ vram_size }
 {
     let base = pattern_base(small::is_set(reg[6], 2));
     let char_num = sprite_double_size_src_line(small::is_set(reg[1], 1), num, d);
@@ -145,7 +145,7 @@ fn collision_calc(hit: bool, taken: u8, bits: u8) -> bool
 // What became of the columns of sprite n, from column x on, into the layers; a layer buffer with fewer bytes than the row has columns asks for none.
 fn own(layers: &mut [u8], width: usize, x: usize, n: usize, columns: Columns)
     requires { (x < 65536) × (n < 64) }
-    ensures { layers.new ≡ stampedIf layers.old width x n columns.drawn columns.held }
+    ensures { layers.new ≡ stamped_if layers.old width x n columns.drawn columns.held }
 {
     if width <= layers.len() {
         tile::own_columns(layers, width, x, n, columns.drawn, columns.held);
@@ -170,8 +170,8 @@ fn marked(low: u8, high: u8, place: usize, hit: bool, taken: u8, bits: u8, count
 
 // Where sprite n stands, by its X byte.
 fn stand_of(vram: &[u8], screen: Screen, e: u8, table: usize, n: usize) -> Stand
-    requires { (length vram.now ≡ vramSize) × (table ≤ 16128) × (n < 64) × (e ≤ 8) }
-    ensures value { result ≡ standOf screen e (at vram.now (table + 128 + 2 * n)) }
+    requires { (length vram.now ≡ vram_size) × (table ≤ 16128) × (n < 64) × (e ≤ 8) }
+    ensures value { result ≡ stand_of screen e (at vram.now (table + 128 + 2 * n)) }
     ensures fits { Fits result }
 {
     stand::settings(screen, e, vram[table + 128 + 2 * n])
@@ -199,8 +199,8 @@ fn render_sprite(
 ) -> Turn
     requires room { Room vram.now row.old width }
     requires fits { Fits s }
-    requires table_bound { (table ≤ 16128) × (next.n < 64) × (next.d < 16) × (count < 8) × (coloursIn bytes.now ≡ colours.now) }
-    ensures { Turned row.old layers.old vram.now colours.now (line_of vram.now (at reg) table next) (eightOf front behind s.prio) (eightOf low high s.mark) width next.n s low high hit count result row.new layers.new }
+    requires table_bound { (table ≤ 16128) × (next.n < 64) × (next.d < 16) × (count < 8) × (colours_in bytes.now ≡ colours.now) }
+    ensures { Turned row.old layers.old vram.now colours.now (line_of vram.now (at reg) table next) (eight_of front behind s.prio) (eight_of low high s.mark) width next.n s low high hit count result row.new layers.new }
 {
     let addr = line_at(reg, vram[table + 128 + 2 * next.n + 1], next.d);
     let held = bitmap::window(front, behind, s.prio % 8);
@@ -221,7 +221,7 @@ fn render_sprite(
 
 // The next sprite on the line, of those from sprite `from` on.
 fn next_on(vram: &[u8], table: usize, from: usize, line: usize, lines: usize) -> Next
-    requires { (length vram.now ≡ vramSize) × (table ≤ 16128) × (from ≤ 64) × (lines ≤ 16) }
+    requires { (length vram.now ≡ vram_size) × (table ≤ 16128) × (from ≤ 64) × (lines ≤ 16) }
     ensures by_index { (g : ℕ → ℕ) → table ≡ table_at g → lines ≡ (if tall g then 16 else 8) → Follows (at vram.now) g line from result.n result.d }
     ensures from_le_n { (from ≤ result.n) × (result.n ≤ 64) × (result.d < 16) × (64 ≤ result.n → result.d ≡ 0) }
 {
@@ -242,7 +242,7 @@ fn next_on(vram: &[u8], table: usize, from: usize, line: usize, lines: usize) ->
 
 // The same by the registers.
 pub fn next_sprite(vram: &[u8], reg: [u8; 11], from: usize, line: usize) -> Next
-    requires { (length vram.now ≡ vramSize) × (from ≤ 64) }
+    requires { (length vram.now ≡ vram_size) × (from ≤ 64) }
     ensures follows { Follows (at vram.now) (at reg) line from result.n result.d }
     ensures from_le_n { (from ≤ result.n) × (result.n ≤ 64) × (result.d < 16) × (64 ≤ result.n → result.d ≡ 0) }
 {
@@ -266,8 +266,8 @@ fn sprites_line(
     mut mask: Bitmap,
 ) -> Marks
     requires room { Room vram.now row.old width }
-    requires bytes_value { coloursIn bytes.now ≡ colours.now }
-    ensures { (row₀ layers₀ : List ℕ) (f : ℕ → Bool) (colour : ℕ → ℕ) → prio.bits ≡ bytesOf f → mask.bits ≡ cleared → row.old ≡ painted row₀ 0 width (λ x. at colours.now (colour x)) → layers.old ≡ layersIn layers₀ width (λ x. 0) → Laid (at vram.now) (at reg) (standOf screen (early (at reg))) line f row₀ colours.now width colour row.new result layers₀ layers.new }
+    requires bytes_value { colours_in bytes.now ≡ colours.now }
+    ensures { (row₀ layers₀ : List ℕ) (f : ℕ → Bool) (colour : ℕ → ℕ) → prio.bits ≡ bytes_of f → mask.bits ≡ cleared → row.old ≡ painted row₀ 0 width (λ x. at colours.now (colour x)) → layers.old ≡ layers_in layers₀ width (λ x. 0) → Laid (at vram.now) (at reg) (stand_of screen (early (at reg))) line f row₀ colours.now width colour row.new result layers₀ layers.new }
 {
     let table = table_of(reg);
     let mut hit = false;
@@ -326,7 +326,7 @@ pub fn render_sprites_line(
     prio: Bitmap,
 ) -> Line
     requires { Room vram.now row.old width }
-    ensures { (row₀ layers₀ : List ℕ) (f : ℕ → Bool) (colour : ℕ → ℕ) → prio.bits ≡ bytesOf f → row.old ≡ painted row₀ 0 width (λ x. at colours.now (colour x)) → layers.old ≡ layersIn layers₀ width (λ x. 0) → Finished (at vram.now) (at reg) (standOf screen (early (at reg))) line f row₀ colours.now width colour row.new result.hit result.ninth layers₀ layers.new }
+    ensures { (row₀ layers₀ : List ℕ) (f : ℕ → Bool) (colour : ℕ → ℕ) → prio.bits ≡ bytes_of f → row.old ≡ painted row₀ 0 width (λ x. at colours.now (colour x)) → layers.old ≡ layers_in layers₀ width (λ x. 0) → Finished (at vram.now) (at reg) (stand_of screen (early (at reg))) line f row₀ colours.now width colour row.new result.hit result.ninth layers₀ layers.new }
 {
     let none = Bitmap::new();
     let bytes = tile::bytes_of(colours);

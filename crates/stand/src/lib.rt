@@ -1,7 +1,7 @@
 // Where a sprite stands on each screen (R5.9, R5.10, R18.2, R20.7): the columns of it that are shown, and where the masks have them.
 ghost use Rattle.std.specs.Prelude.{◌≡◌, ◌+◌, ◌-◌, ◌<◌, ◌≤◌, min};
-ghost use Rattle.picture.specs.View.{visibleEnd, visibleStand, effectiveStand, edgeStand};
-ghost use Rattle.stand.specs.Stand.{standOf, Fits};
+ghost use Rattle.picture.specs.View.{visible_end, visible_stand, effective_stand, edge_stand};
+ghost use Rattle.stand.specs.Stand.{stand_of, Fits};
 
 use picture::{Screen, Stand};
 
@@ -23,7 +23,7 @@ fn minus(a: u8, b: u8) -> u8
 
 // The tile's pixel before which a sprite at column x of the visible area ends.
 fn visible_end(x: u8) -> usize
-    ensures value { result ≡ visibleEnd x }
+    ensures value { result ≡ visible_end x }
     ensures upper_bound { result ≤ 8 }
 {
     if WIDTH < x {
@@ -35,7 +35,7 @@ fn visible_end(x: u8) -> usize
 // Where a sprite with X byte h stands in the visible area, the early clock taking e off. One that is seen is marked at X, an unseen one at X + start.
 fn sprite_line_settings_visible(e: u8, h: u8) -> Stand
     requires { e ≤ 8 }
-    ensures value { result ≡ visibleStand e h }
+    ensures value { result ≡ visible_stand e h }
     ensures fits { Fits result }
 {
     let seen = (BEFORE_X < h) & (h < END_X);
@@ -56,7 +56,7 @@ fn sprite_line_settings_visible(e: u8, h: u8) -> Stand
 // The same in the effective area: X goes around the circle, and all are seen.
 fn sprite_line_settings_effective(e: u8, h: u8) -> Stand
     requires { e ≤ 8 }
-    ensures value { result ≡ effectiveStand e h }
+    ensures value { result ≡ effective_stand e h }
     ensures fits { Fits result }
 {
     let x = small::wide(std::num::wrapping_sub_u8(h, e));
@@ -85,7 +85,7 @@ fn edge_end(width: usize, x: usize) -> usize
 // The same by true columns, on a row of `width` columns whose column 0 is at X byte `left`: what lies off the row neither draws nor marks.
 fn sprite_line_settings_true(left: u8, width: usize, e: u8, h: u8) -> Stand
     requires { (left ≤ 48) × (e ≤ 8) }
-    ensures value { result ≡ edgeStand left width e h }
+    ensures value { result ≡ edge_stand left width e h }
     ensures fits { Fits result }
 {
     let x = minus(minus(h, left), e);
@@ -104,7 +104,7 @@ fn sprite_line_settings_true(left: u8, width: usize, e: u8, h: u8) -> Stand
 // The same on each screen.
 pub fn settings(screen: Screen, e: u8, h: u8) -> Stand
     requires { e ≤ 8 }
-    ensures value { result ≡ standOf screen e h }
+    ensures value { result ≡ stand_of screen e h }
     ensures fits { Fits result }
 {
     match screen {

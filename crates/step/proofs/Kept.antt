@@ -10,20 +10,20 @@ use lib.Seq.{set-get_or}
 use borrow.Author.Tests.{eqb-true, not-false}
 use Rattle.laws.specs.Lists.{at}
 use Rattle.laws.proofs.Tests.{either, neither}
-use Rattle.colour.specs.Colour.{coloursOf}
+use Rattle.colour.specs.Colour.{colours_of}
 use Rattle.front.specs.declared.Front.{Front}
 use Rattle.vdp.specs.declared.VdpState.{VdpState}
 use Rattle.vdp.specs.declared.Written.{Written}
 use Rattle.front.specs.declared.Latch.{Latch}
 use Rattle.front.specs.declared.Latch.TheVariants.{Empty, Held}
-use Rattle.vdp.specs.Device.{frontOf, withFront}
-use Rattle.front.specs.Ports.{frontWrite}
+use Rattle.vdp.specs.Device.{front_of, with_front}
+use Rattle.front.specs.Ports.{front_write}
 use Rattle.front.specs.Front.{changed}
-use Rattle.vdp.specs.Ports.{stored, oddPalette, paletteWrite, portWrite, portRead}
+use Rattle.vdp.specs.Ports.{stored, odd_palette, palette_write, port_write, port_read}
 
 -- the cached colours are the palette's whenever the record is not dirty
 abbrev pub Clean : VdpState → Type 0
-Clean d = d.cram_dirty ≡ false → d.color_cache ≡ coloursOf d.cram
+Clean d = d.cram_dirty ≡ false → d.color_cache ≡ colours_of d.cram
 
 pub record Keeps (d d' : VdpState) : Type 0 where
   pub raster : d'.raster ≡ d.raster
@@ -53,19 +53,19 @@ module _ (d : VdpState) where
       rw (unchanged d.cram a low high (same_byte _ low q.1) (same_byte _ high p.1)) (k q.0)
 
   -- any front will do
-  odd : (l : Latch) (f : Front) (v : ℕ) → KeptW (oddPalette l (withFront d f) v)
+  odd : (l : Latch) (f : Front) (v : ℕ) → KeptW (odd_palette l (with_front d f) v)
   odd Empty f v = alike _ refl (λ k. k)
   odd (Held low) f v = alike _ refl (recoloured f.addr low (v % 16))
 
-  palette : (f : Front) (v : ℕ) → KeptW (paletteWrite (withFront d f) v)
+  palette : (f : Front) (v : ℕ) → KeptW (palette_write (with_front d f) v)
   palette f v = either KeptW (eqb (f.addr % 2) 0) (λ _. alike _ refl (λ k. k)) (λ _. odd d.cram_byte1 f v)
 
-  pub write_keeps : (m : List ℕ) (p v : ℕ) → Keeps d (portWrite d m p v).answer.vdp
-  unfolding portWrite
+  pub write_keeps : (m : List ℕ) (p v : ℕ) → Keeps d (port_write d m p v).answer.vdp
+  unfolding port_write
   write_keeps m p v =
-      let a = (frontWrite 64 (frontOf d) m p v).answer in
+      let a = (front_write 64 (front_of d) m p v).answer in
       either KeptW a.palette (λ _. palette a.front v) (λ _. alike _ refl (λ k. k))
 
-  pub read_keeps : (m : List ℕ) (p : ℕ) → Keeps d (portRead d m p).vdp
-  unfolding portRead
+  pub read_keeps : (m : List ℕ) (p : ℕ) → Keeps d (port_read d m p).vdp
+  unfolding port_read
   read_keeps m p = alike _ refl (λ k. k)

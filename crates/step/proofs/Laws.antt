@@ -11,145 +11,145 @@ use Rattle.laws.specs.Bits.{bit}
 use Rattle.laws.specs.Lists.{row_of}
 use Rattle.laws.proofs.Bits.{bit-or}
 use Rattle.picture.specs.declared.RenderArea.{RenderArea}
-use Rattle.picture.specs.Screen.{rowSize, frameSize, statusBits}
-use Rattle.picture.specs.Area.{screenOf}
+use Rattle.picture.specs.Screen.{row_size, frame_size, status_bits}
+use Rattle.picture.specs.Area.{screen_of}
 use Rattle.raster.specs.declared.Raster.{Raster}
-use Rattle.raster.specs.Raster.{advanced, lineInterrupt, counted, ticked}
+use Rattle.raster.specs.Raster.{advanced, line_interrupt, counted, ticked}
 use Rattle.vdp.specs.declared.VdpState.{VdpState}
 use Rattle.refusal.specs.declared.Refusal.TheVariants.{Accepted}
-use Rattle.vdp.specs.Device.{device, withRaster, withStatus}
+use Rattle.vdp.specs.Device.{device, with_raster, with_status}
 use Rattle.refusal.specs.Refusals.{Line, first}
-use Rattle.refusal.proofs.Tables.{Passed, under-either, under-passed, under-refused, under-told}
+use Rattle.refusal.proofs.Tables.{Passed, under_either, under_passed, under_refused, under_told}
 use Rattle.points.specs.declared.VdpInt.TheVariants.{NoInterrupt, InterruptGenerated}
 use Rattle.points.specs.declared.DrawnRow.{DrawnRow}
 use Rattle.points.specs.declared.DrawnRow.TheVariants.{NoRow, Drawn}
 use Rattle.step.specs.declared.Stepped.{Stepped}
-use Rattle.points.specs.Points.{risen, rowOn, comingPicture, bits_of, atEnd, endedBy, reportBy, interruptBy, points_of, row_lines, frameLines}
-use Rattle.step.specs.Step.{register, line_of, coloursNow, rowPicture, reading_of, counterUp, cleaned, stepped, refusedStep, stepWith}
-use Rattle.step.specs.Frame.{drawnBytes, rowAfter, frameAfter}
-use Rattle.points.proofs.Laws.{row-points-length, row-points-past, row-points-none, row-points-here}
-use Rattle.points.proofs.Laws.{frame-points-length, frame-points-other, frame-points-none, frame-points-here}
+use Rattle.points.specs.Points.{risen, row_on, coming_picture, bits_of, at_end, ended_by, report_by, interrupt_by, points_of, row_lines, frame_lines}
+use Rattle.step.specs.Step.{register, line_of, colours_now, row_picture, reading_of, counter_up, cleaned, stepped, refused_step, step_with}
+use Rattle.step.specs.Frame.{drawn_bytes, row_after, frame_after}
+use Rattle.points.proofs.Laws.{row_points_length, row_points_past, row_points_none, row_points_here}
+use Rattle.points.proofs.Laws.{frame_points_length, frame_points_other, frame_points_none, frame_points_here}
 
 -- ---- refusals
 -- a step is refused by the first line of its table that holds
-pub step-exact : (ls : List Line) (a : RenderArea) (vram : List ℕ) (d : VdpState) → (stepWith ls a vram d).refusal ≡ first ls
-unfolding stepWith stepped points_of
-step-exact ls a vram d = under-told (λ (s : Stepped). s.refusal) ls (λ r. refusedStep r d) (stepped a vram d) (λ r. refl) refl
+pub step_exact : (ls : List Line) (a : RenderArea) (vram : List ℕ) (d : VdpState) → (step_with ls a vram d).refusal ≡ first ls
+unfolding step_with stepped points_of
+step_exact ls a vram d = under_told (λ (s : Stepped). s.refusal) ls (λ r. refused_step r d) (stepped a vram d) (λ r. refl) refl
 
 module _ (ls : List Line) (a : RenderArea) (vram : List ℕ) (d : VdpState) where
-  pub step-accepted : Passed ls → stepWith ls a vram d ≡ stepped a vram d
-  unfolding stepWith
-  step-accepted p = under-passed ls (λ r. refusedStep r d) (stepped a vram d) p
+  pub step_accepted : Passed ls → step_with ls a vram d ≡ stepped a vram d
+  unfolding step_with
+  step_accepted p = under_passed ls (λ r. refused_step r d) (stepped a vram d) p
 
   -- a refused step gives no interrupt, no display report, no row, and leaves the device
   abbrev Left : Stepped → Type 0
-  Left s = s.refusal ≢ Accepted → s ≡ refusedStep s.refusal d
+  Left s = s.refusal ≢ Accepted → s ≡ refused_step s.refusal d
 
-  pub step_left : (stepWith ls a vram d).refusal ≢ Accepted → stepWith ls a vram d ≡ refusedStep (stepWith ls a vram d).refusal d
-  unfolding stepWith stepped points_of
-  step_left = under-either Left ls (λ r. refusedStep r d) (stepped a vram d) (λ r n. refl) (λ p n. absurd (n refl))
+  pub step_left : (step_with ls a vram d).refusal ≢ Accepted → step_with ls a vram d ≡ refused_step (step_with ls a vram d).refusal d
+  unfolding step_with stepped points_of
+  step_left = under_either Left ls (λ r. refused_step r d) (stepped a vram d) (λ r n. refl) (λ p n. absurd (n refl))
 
 -- ---- the device after an accepted step, part by part: r is the row that the step draws, d the device with its counter up
-abbrev pub statusDrawn : DrawnRow → RenderArea → List ℕ → VdpState → ℕ
-statusDrawn NoRow a vram d = d.status
-statusDrawn (Drawn y) a vram d = bit_or d.status (statusBits (rowPicture a vram d y))
+abbrev pub status_drawn : DrawnRow → RenderArea → List ℕ → VdpState → ℕ
+status_drawn NoRow a vram d = d.status
+status_drawn (Drawn y) a vram d = bit_or d.status (status_bits (row_picture a vram d y))
 
 -- the status after the row and, at C1, with bit 7
-abbrev pub statusAfter : DrawnRow → RenderArea → List ℕ → VdpState → ℕ
-statusAfter r a vram d = cond (atEnd (line_of d)) (bit_or (statusDrawn r a vram d) 0x80) (statusDrawn r a vram d)
+abbrev pub status_after : DrawnRow → RenderArea → List ℕ → VdpState → ℕ
+status_after r a vram d = cond (at_end (line_of d)) (bit_or (status_drawn r a vram d) 0x80) (status_drawn r a vram d)
 
-abbrev pub dirtyAfter : DrawnRow → VdpState → Bool
-dirtyAfter NoRow d = d.cram_dirty
-dirtyAfter (Drawn y) d = false
+abbrev pub dirty_after : DrawnRow → VdpState → Bool
+dirty_after NoRow d = d.cram_dirty
+dirty_after (Drawn y) d = false
 
-abbrev pub cacheAfter : DrawnRow → VdpState → List ℕ
-cacheAfter NoRow d = d.color_cache
-cacheAfter (Drawn y) d = coloursNow d
+abbrev pub cache_after : DrawnRow → VdpState → List ℕ
+cache_after NoRow d = d.color_cache
+cache_after (Drawn y) d = colours_now d
 
 module _ (a : RenderArea) (vram : List ℕ) (d : VdpState) where
   abbrev left : DrawnRow → VdpState
   left r =
-      device (statusAfter r a vram (counterUp d)) d.reg (ticked (register d) d.raster) d.addr d.vram_buffer d.dest d.cram
+      device (status_after r a vram (counter_up d)) d.reg (ticked (register d) d.raster) d.addr d.vram_buffer d.dest d.cram
       d.cmd_byte1
-      d.cram_byte1 (dirtyAfter r d) (cacheAfter r d)
+      d.cram_byte1 (dirty_after r d) (cache_after r d)
 
   -- the status that the points leave, with the row r
   abbrev last : DrawnRow → ℕ
-  last r = endedBy (line_of (counterUp d)) (bit_or d.status (bits_of r (comingPicture (screenOf a) vram (reading_of d))))
+  last r = ended_by (line_of (counter_up d)) (bit_or d.status (bits_of r (coming_picture (screen_of a) vram (reading_of d))))
 
-  left_by : (r : DrawnRow) → withRaster (withStatus (cleaned r d (coloursNow d)) (last r)) (counted (register d) (risen (reading_of d))) ≡ left r
-  unfolding bits_of endedBy ticked
+  left_by : (r : DrawnRow) → with_raster (with_status (cleaned r d (colours_now d)) (last r)) (counted (register d) (risen (reading_of d))) ≡ left r
+  unfolding bits_of ended_by ticked
   left_by NoRow = rw (or_zero_r d.status)
   left_by (Drawn y) = refl
 
-  module _ {r : DrawnRow} (e : rowOn (screenOf a) (line_of (counterUp d)) ≡ r) where
-    pub stepped-vdp :
+  module _ {r : DrawnRow} (e : row_on (screen_of a) (line_of (counter_up d)) ≡ r) where
+    pub stepped_vdp :
         (stepped a vram d).vdp
-        ≡ device (statusAfter r a vram (counterUp d)) d.reg (ticked (register d) d.raster) d.addr d.vram_buffer d.dest d.cram
-        d.cmd_byte1 d.cram_byte1 (dirtyAfter r d) (cacheAfter r d)
+        ≡ device (status_after r a vram (counter_up d)) d.reg (ticked (register d) d.raster) d.addr d.vram_buffer d.dest d.cram
+        d.cmd_byte1 d.cram_byte1 (dirty_after r d) (cache_after r d)
     unfolding stepped points_of
-    stepped-vdp = rw e (left_by r)
+    stepped_vdp = rw e (left_by r)
 
-    pub stepped-status : (stepped a vram d).vdp.status ≡ statusAfter r a vram (counterUp d)
-    stepped-status = ap (λ (x : VdpState). x.status) stepped-vdp
+    pub stepped_status : (stepped a vram d).vdp.status ≡ status_after r a vram (counter_up d)
+    stepped_status = ap (λ (x : VdpState). x.status) stepped_vdp
 
-    pub stepped-cache : (stepped a vram d).vdp.color_cache ≡ cacheAfter r d
-    stepped-cache = ap (λ (x : VdpState). x.color_cache) stepped-vdp
+    pub stepped_cache : (stepped a vram d).vdp.color_cache ≡ cache_after r d
+    stepped_cache = ap (λ (x : VdpState). x.color_cache) stepped_vdp
 
-    pub stepped-dirty : (stepped a vram d).vdp.cram_dirty ≡ dirtyAfter r d
-    stepped-dirty = ap (λ (x : VdpState). x.cram_dirty) stepped-vdp
+    pub stepped_dirty : (stepped a vram d).vdp.cram_dirty ≡ dirty_after r d
+    stepped_dirty = ap (λ (x : VdpState). x.cram_dirty) stepped_vdp
 
-    pub stepped-row : (stepped a vram d).row ≡ r
+    pub stepped_row : (stepped a vram d).row ≡ r
     unfolding stepped points_of
-    stepped-row = e
+    stepped_row = e
 
-  pub stepped-refusal : (stepped a vram d).refusal ≡ Accepted
+  pub stepped_refusal : (stepped a vram d).refusal ≡ Accepted
   unfolding stepped points_of
-  stepped-refusal = refl
+  stepped_refusal = refl
 
-  pub stepped-report : (stepped a vram d).report ≡ reportBy d.reg (line_of (counterUp d))
+  pub stepped_report : (stepped a vram d).report ≡ report_by d.reg (line_of (counter_up d))
   unfolding stepped points_of
-  stepped-report = refl
+  stepped_report = refl
 
-  pub stepped-raster : (stepped a vram d).vdp.raster ≡ ticked (register d) d.raster
-  stepped-raster = ap (λ (x : VdpState). x.raster) (stepped-vdp refl)
+  pub stepped_raster : (stepped a vram d).vdp.raster ≡ ticked (register d) d.raster
+  stepped_raster = ap (λ (x : VdpState). x.raster) (stepped_vdp refl)
 
-  pub stepped-table : (stepped a vram d).vdp.raster.table ≡ d.raster.table
+  pub stepped_table : (stepped a vram d).vdp.raster.table ≡ d.raster.table
   unfolding ticked counted advanced
-  stepped-table = ap (λ (x : Raster). x.table) stepped-raster
+  stepped_table = ap (λ (x : Raster). x.table) stepped_raster
 
-  pub stepped_line : line_of (stepped a vram d).vdp ≡ line_of (counterUp d)
+  pub stepped_line : line_of (stepped a vram d).vdp ≡ line_of (counter_up d)
   unfolding ticked counted
-  stepped_line = ap (λ (x : Raster). x.v_counter) stepped-raster
+  stepped_line = ap (λ (x : Raster). x.v_counter) stepped_raster
 
-  pub stepped-reg : (stepped a vram d).vdp.reg ≡ d.reg
-  stepped-reg = ap (λ (x : VdpState). x.reg) (stepped-vdp refl)
+  pub stepped_reg : (stepped a vram d).vdp.reg ≡ d.reg
+  stepped_reg = ap (λ (x : VdpState). x.reg) (stepped_vdp refl)
 
-  pub stepped-addr : (stepped a vram d).vdp.addr ≡ d.addr
-  stepped-addr = ap (λ (x : VdpState). x.addr) (stepped-vdp refl)
+  pub stepped_addr : (stepped a vram d).vdp.addr ≡ d.addr
+  stepped_addr = ap (λ (x : VdpState). x.addr) (stepped_vdp refl)
 
-  pub stepped-buffer : (stepped a vram d).vdp.vram_buffer ≡ d.vram_buffer
-  stepped-buffer = ap (λ (x : VdpState). x.vram_buffer) (stepped-vdp refl)
+  pub stepped_buffer : (stepped a vram d).vdp.vram_buffer ≡ d.vram_buffer
+  stepped_buffer = ap (λ (x : VdpState). x.vram_buffer) (stepped_vdp refl)
 
-  pub stepped-dest : (stepped a vram d).vdp.dest ≡ d.dest
-  stepped-dest = ap (λ (x : VdpState). x.dest) (stepped-vdp refl)
+  pub stepped_dest : (stepped a vram d).vdp.dest ≡ d.dest
+  stepped_dest = ap (λ (x : VdpState). x.dest) (stepped_vdp refl)
 
-  pub stepped-cram : (stepped a vram d).vdp.cram ≡ d.cram
-  stepped-cram = ap (λ (x : VdpState). x.cram) (stepped-vdp refl)
+  pub stepped_cram : (stepped a vram d).vdp.cram ≡ d.cram
+  stepped_cram = ap (λ (x : VdpState). x.cram) (stepped_vdp refl)
 
-  pub stepped-command : (stepped a vram d).vdp.cmd_byte1 ≡ d.cmd_byte1
-  stepped-command = ap (λ (x : VdpState). x.cmd_byte1) (stepped-vdp refl)
+  pub stepped_command : (stepped a vram d).vdp.cmd_byte1 ≡ d.cmd_byte1
+  stepped_command = ap (λ (x : VdpState). x.cmd_byte1) (stepped_vdp refl)
 
-  pub stepped-palette-byte : (stepped a vram d).vdp.cram_byte1 ≡ d.cram_byte1
-  stepped-palette-byte = ap (λ (x : VdpState). x.cram_byte1) (stepped-vdp refl)
+  pub stepped_palette_byte : (stepped a vram d).vdp.cram_byte1 ≡ d.cram_byte1
+  stepped_palette_byte = ap (λ (x : VdpState). x.cram_byte1) (stepped_vdp refl)
 
   -- the interrupt, by the status that the step leaves and the line count before it goes down
-  pub stepped-interrupt :
+  pub stepped_interrupt :
       (stepped a vram d).interrupt
-      ≡ cond ((bit (register d 1) 5 && bit (stepped a vram d).vdp.status 7) || lineInterrupt (register d) (advanced (register d) d.raster))
+      ≡ cond ((bit (register d 1) 5 && bit (stepped a vram d).vdp.status 7) || line_interrupt (register d) (advanced (register d) d.raster))
       InterruptGenerated NoInterrupt
-  unfolding stepped points_of interruptBy
-  stepped-interrupt = refl
+  unfolding stepped points_of interrupt_by
+  stepped_interrupt = refl
 
 -- ---- bit 7 of the status: set before, or by the end of the screen
 low_bits : (hit ninth : Bool) → bit (cond hit 32 0 + cond ninth 64 0) 7 ≡ false
@@ -159,76 +159,76 @@ low_bits true false = refl
 low_bits false true = refl
 low_bits false false = refl
 
-drawn-end : (r : DrawnRow) (a : RenderArea) (vram : List ℕ) (d : VdpState) → bit (statusDrawn r a vram d) 7 ≡ bit d.status 7
-drawn-end NoRow a vram d = refl
-drawn-end (Drawn y) a vram d =
-    let p = rowPicture a vram d y in
-    bit-or d.status (statusBits p) 7 ∙ ap (λ (b : Bool). bit d.status 7 || b) (low_bits p.hit p.ninth) ∙ or-false (bit d.status 7)
+drawn_end : (r : DrawnRow) (a : RenderArea) (vram : List ℕ) (d : VdpState) → bit (status_drawn r a vram d) 7 ≡ bit d.status 7
+drawn_end NoRow a vram d = refl
+drawn_end (Drawn y) a vram d =
+    let p = row_picture a vram d y in
+    bit-or d.status (status_bits p) 7 ∙ ap (λ (b : Bool). bit d.status 7 || b) (low_bits p.hit p.ninth) ∙ or-false (bit d.status 7)
 
-end-bit : (t : Bool) (s : ℕ) → bit (cond t (bit_or s 0x80) s) 7 ≡ (bit s 7 || t)
+end_bit : (t : Bool) (s : ℕ) → bit (cond t (bit_or s 0x80) s) 7 ≡ (bit s 7 || t)
 unfolding bit
-end-bit true s = bit-or s 0x80 7
-end-bit false s = sym (or-false (bit s 7))
+end_bit true s = bit-or s 0x80 7
+end_bit false s = sym (or-false (bit s 7))
 
-pub stepped-end : (a : RenderArea) (vram : List ℕ) (d : VdpState) → bit (stepped a vram d).vdp.status 7 ≡
-    (bit d.status 7 || atEnd (line_of (counterUp d)))
-stepped-end a vram d =
-    let r = rowOn (screenOf a) (line_of (counterUp d)) in
-    ap (λ (s : ℕ). bit s 7) (stepped-status a vram d {r = r} refl)
-    ∙ end-bit (atEnd (line_of (counterUp d))) (statusDrawn r a vram (counterUp d))
-    ∙ ap (λ (b : Bool). b || atEnd (line_of (counterUp d))) (drawn-end r a vram (counterUp d))
+pub stepped_end : (a : RenderArea) (vram : List ℕ) (d : VdpState) → bit (stepped a vram d).vdp.status 7 ≡
+    (bit d.status 7 || at_end (line_of (counter_up d)))
+stepped_end a vram d =
+    let r = row_on (screen_of a) (line_of (counter_up d)) in
+    ap (λ (s : ℕ). bit s 7) (stepped_status a vram d {r = r} refl)
+    ∙ end_bit (at_end (line_of (counter_up d))) (status_drawn r a vram (counter_up d))
+    ∙ ap (λ (b : Bool). b || at_end (line_of (counter_up d))) (drawn_end r a vram (counter_up d))
 
 -- ---- R4.8: no step changes the table, refused or not
-pub step-table : (ls : List Line) (a : RenderArea) (vram : List ℕ) (d : VdpState) → (stepWith ls a vram d).vdp.raster.table ≡ d.raster.table
-unfolding stepWith
-step-table ls a vram d =
-    under-either (λ (s : Stepped). s.vdp.raster.table ≡ d.raster.table) ls (λ r. refusedStep r d) (stepped a vram d) (λ r. refl)
-    (λ p. stepped-table a vram d)
+pub step_table : (ls : List Line) (a : RenderArea) (vram : List ℕ) (d : VdpState) → (step_with ls a vram d).vdp.raster.table ≡ d.raster.table
+unfolding step_with
+step_table ls a vram d =
+    under_either (λ (s : Stepped). s.vdp.raster.table ≡ d.raster.table) ls (λ r. refused_step r d) (stepped a vram d) (λ r. refl)
+    (λ p. stepped_table a vram d)
 
 -- ---- and of a device
 module _ (a : RenderArea) (vram : List ℕ) (d : VdpState) (b : List ℕ) where
-  pub row-step-length : length (rowAfter a vram d b) ≡ length b
-  unfolding rowAfter
-  row-step-length = row-points-length (screenOf a) vram (reading_of d) b
+  pub row_step_length : length (row_after a vram d b) ≡ length b
+  unfolding row_after
+  row_step_length = row_points_length (screen_of a) vram (reading_of d) b
 
-  pub row-step-past : drop (rowSize (screenOf a)) (rowAfter a vram d b) ≡ drop (rowSize (screenOf a)) b
-  unfolding rowAfter
-  row-step-past = row-points-past (screenOf a) vram (reading_of d) b
+  pub row_step_past : drop (row_size (screen_of a)) (row_after a vram d b) ≡ drop (row_size (screen_of a)) b
+  unfolding row_after
+  row_step_past = row_points_past (screen_of a) vram (reading_of d) b
 
-  pub row-step-none : rowOn (screenOf a) (line_of (counterUp d)) ≡ NoRow → rowAfter a vram d b ≡ b
-  unfolding rowAfter
-  row-step-none e = row-points-none (screenOf a) vram (reading_of d) b e
+  pub row_step_none : row_on (screen_of a) (line_of (counter_up d)) ≡ NoRow → row_after a vram d b ≡ b
+  unfolding row_after
+  row_step_none e = row_points_none (screen_of a) vram (reading_of d) b e
 
-  pub row-step-refused : first (row_lines (screenOf a) vram (length b)) ≢ Accepted → rowAfter a vram d b ≡ b
-  unfolding rowAfter
-  row-step-refused n = under-refused (row_lines (screenOf a) vram (length b)) (λ r. b) _ n
+  pub row_step_refused : first (row_lines (screen_of a) vram (length b)) ≢ Accepted → row_after a vram d b ≡ b
+  unfolding row_after
+  row_step_refused n = under_refused (row_lines (screen_of a) vram (length b)) (λ r. b) _ n
 
-  pub row-step-here :
-      (y : ℕ) → length vram ≡ 16384 → rowSize (screenOf a) ≤ length b → rowOn (screenOf a) (line_of (counterUp d)) ≡ Drawn y
-      → take (rowSize (screenOf a)) (rowAfter a vram d b) ≡ drawnBytes a vram (counterUp d) y
-  unfolding rowAfter
-  row-step-here y m h e = row-points-here (screenOf a) vram (reading_of d) b y m h e
+  pub row_step_here :
+      (y : ℕ) → length vram ≡ 16384 → row_size (screen_of a) ≤ length b → row_on (screen_of a) (line_of (counter_up d)) ≡ Drawn y
+      → take (row_size (screen_of a)) (row_after a vram d b) ≡ drawn_bytes a vram (counter_up d) y
+  unfolding row_after
+  row_step_here y m h e = row_points_here (screen_of a) vram (reading_of d) b y m h e
 
 module _ (a : RenderArea) (vram : List ℕ) (d : VdpState) (f : List ℕ) where
-  pub frame-step-length : length (frameAfter a vram d f) ≡ length f
-  unfolding frameAfter
-  frame-step-length = frame-points-length (screenOf a) vram (reading_of d) f
+  pub frame_step_length : length (frame_after a vram d f) ≡ length f
+  unfolding frame_after
+  frame_step_length = frame_points_length (screen_of a) vram (reading_of d) f
 
-  pub frame-step-other : (z : ℕ) → rowOn (screenOf a) (line_of (counterUp d)) ≢ Drawn z → row_of (rowSize (screenOf a)) z (frameAfter a vram d f) ≡
-      row_of (rowSize (screenOf a)) z f
-  unfolding frameAfter
-  frame-step-other z n = frame-points-other (screenOf a) vram (reading_of d) f z n
+  pub frame_step_other : (z : ℕ) → row_on (screen_of a) (line_of (counter_up d)) ≢ Drawn z → row_of (row_size (screen_of a)) z (frame_after a vram d f) ≡
+      row_of (row_size (screen_of a)) z f
+  unfolding frame_after
+  frame_step_other z n = frame_points_other (screen_of a) vram (reading_of d) f z n
 
-  pub frame-step-none : rowOn (screenOf a) (line_of (counterUp d)) ≡ NoRow → frameAfter a vram d f ≡ f
-  unfolding frameAfter
-  frame-step-none e = frame-points-none (screenOf a) vram (reading_of d) f e
+  pub frame_step_none : row_on (screen_of a) (line_of (counter_up d)) ≡ NoRow → frame_after a vram d f ≡ f
+  unfolding frame_after
+  frame_step_none e = frame_points_none (screen_of a) vram (reading_of d) f e
 
-  pub frame-step-refused : first (frameLines (screenOf a) vram (length f)) ≢ Accepted → frameAfter a vram d f ≡ f
-  unfolding frameAfter
-  frame-step-refused n = under-refused (frameLines (screenOf a) vram (length f)) (λ r. f) _ n
+  pub frame_step_refused : first (frame_lines (screen_of a) vram (length f)) ≢ Accepted → frame_after a vram d f ≡ f
+  unfolding frame_after
+  frame_step_refused n = under_refused (frame_lines (screen_of a) vram (length f)) (λ r. f) _ n
 
-  pub frame-step-here :
-      (y : ℕ) → length vram ≡ 16384 → length f ≡ frameSize (screenOf a) → rowOn (screenOf a) (line_of (counterUp d)) ≡ Drawn y
-      → row_of (rowSize (screenOf a)) y (frameAfter a vram d f) ≡ drawnBytes a vram (counterUp d) y
-  unfolding frameAfter
-  frame-step-here y m h e = frame-points-here (screenOf a) vram (reading_of d) f y m h e
+  pub frame_step_here :
+      (y : ℕ) → length vram ≡ 16384 → length f ≡ frame_size (screen_of a) → row_on (screen_of a) (line_of (counter_up d)) ≡ Drawn y
+      → row_of (row_size (screen_of a)) y (frame_after a vram d f) ≡ drawn_bytes a vram (counter_up d) y
+  unfolding frame_after
+  frame_step_here y m h e = frame_points_here (screen_of a) vram (reading_of d) f y m h e

@@ -2,29 +2,29 @@
 -- Assumes nothing.
 use Rattle.std.specs.Prelude.{◌≡◌, List, ℕ, length}
 use Rattle.picture.specs.declared.RenderArea.{RenderArea}
-use Rattle.picture.specs.Area.{screenOf, columns, rowBytes}
+use Rattle.picture.specs.Area.{screen_of, columns, row_bytes}
 use Rattle.vdp.specs.declared.VdpState.{VdpState}
 use Rattle.refusal.specs.Refusals.{under}
 use Rattle.step.specs.declared.Stepped.{Stepped}
-use Rattle.points.specs.Bytes.{rowFilled, frameFilled}
-use Rattle.step.specs.Step.{coloursNow, rowPicture, reading_of, row_lines, frameLines, rowStep, frameStep}
+use Rattle.points.specs.Bytes.{row_filled, frame_filled}
+use Rattle.step.specs.Step.{colours_now, row_picture, reading_of, row_lines, frame_lines, row_step_of, frame_step_of}
 
 -- the bytes of row y, as a step draws it on the device d with its counter up
-abbrev pub drawnBytes : RenderArea → List ℕ → VdpState → ℕ → List ℕ
-drawnBytes a vram d y = rowBytes (coloursNow d) (columns a) (rowPicture a vram d y)
+abbrev pub drawn_bytes : RenderArea → List ℕ → VdpState → ℕ → List ℕ
+drawn_bytes a vram d y = row_bytes (colours_now d) (columns a) (row_picture a vram d y)
 
 -- the buffer and the frame that a step leaves, refused or not
-unfoldable pub rowAfter : RenderArea → List ℕ → VdpState → List ℕ → List ℕ
-rowAfter a vram d buffer = under (row_lines a vram (length buffer)) (λ r. buffer) (rowFilled (screenOf a) vram (reading_of d) buffer)
+unfoldable pub row_after : RenderArea → List ℕ → VdpState → List ℕ → List ℕ
+row_after a vram d buffer = under (row_lines a vram (length buffer)) (λ r. buffer) (row_filled (screen_of a) vram (reading_of d) buffer)
 
-unfoldable pub frameAfter : RenderArea → List ℕ → VdpState → List ℕ → List ℕ
-frameAfter a vram d frame = under (frameLines a vram (length frame)) (λ r. frame) (frameFilled (screenOf a) vram (reading_of d) frame)
+unfoldable pub frame_after : RenderArea → List ℕ → VdpState → List ℕ → List ℕ
+frame_after a vram d frame = under (frame_lines a vram (length frame)) (λ r. frame) (frame_filled (screen_of a) vram (reading_of d) frame)
 
 -- What the row step promises of its answer r and of the buffer after it, and the frame step of the frame.
 pub record RowStepLeaves (a : RenderArea) (vram : List ℕ) (d : VdpState) (buffer : List ℕ) (r : Stepped) (buffer' : List ℕ) : Type 0 where
-  pub answer : r ≡ rowStep a vram (length buffer) d
-  pub bytes : buffer' ≡ rowAfter a vram d buffer
+  pub answer : r ≡ row_step_of a vram (length buffer) d
+  pub bytes : buffer' ≡ row_after a vram d buffer
 
 pub record FrameStepLeaves (a : RenderArea) (vram : List ℕ) (d : VdpState) (frame : List ℕ) (r : Stepped) (frame' : List ℕ) : Type 0 where
-  pub answer : r ≡ frameStep a vram (length frame) d
-  pub bytes : frame' ≡ frameAfter a vram d frame
+  pub answer : r ≡ frame_step_of a vram (length frame) d
+  pub bytes : frame' ≡ frame_after a vram d frame

@@ -1,8 +1,8 @@
 // The handheld's step, by the five points, into a row buffer or into a frame. (What else is asked of its record: crate `look`.)
 ghost use Rattle.std.specs.Prelude.{◌≡◌};
 ghost use Rattle.picture.specs.Screen.{columns};
-ghost use Rattle.picture.specs.Area.{screenOf};
-ghost use Rattle.step.specs.Step.{coloursNow, cleaned, joined};
+ghost use Rattle.picture.specs.Area.{screen_of};
+ghost use Rattle.step.specs.Step.{colours_now, cleaned, joined};
 ghost use Rattle.step.specs.Layers.{RowLayersLeave};
 ghost use Rattle.step.specs.Frame.{RowStepLeaves, FrameStepLeaves};
 
@@ -24,7 +24,7 @@ pub struct Stepped {
 
 // The colours that a row is drawn with (R4.2): made anew from the palette where they are dirty, else the cache as it stands.
 pub fn colours_of(vdp: VdpState) -> [u32; 32]
-    ensures { result ≡ coloursNow vdp }
+    ensures { result ≡ colours_now vdp }
 {
     let cram = vdp.cram;
     let color_cache = vdp.color_cache;
@@ -48,7 +48,7 @@ fn clean(mut vdp: VdpState, row: DrawnRow, colours: [u32; 32]) -> VdpState
 
 // The answer of the device's own step, from what its points answer and leave, and the colours that they drew with.
 pub fn join(vdp: VdpState, points: Points, colours: [u32; 32]) -> Stepped
-    requires { colours ≡ coloursNow vdp }
+    requires { colours ≡ colours_now vdp }
     ensures { result ≡ joined vdp points }
 {
     let refusal = points.refusal;
@@ -114,7 +114,7 @@ pub fn layer_row_step(
     layers: &mut [u8],
     area: RenderArea,
 ) -> Stepped
-    ensures { RowLayersLeave (columns (screenOf area)) area vram.now vdp row.old layers.old result row.new layers.new }
+    ensures { RowLayersLeave (columns (screen_of area)) area vram.now vdp row.old layers.old result row.new layers.new }
 {
     let reg = vdp.reg;
     let raster = vdp.raster;

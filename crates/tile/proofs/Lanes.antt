@@ -10,83 +10,83 @@ use lib.Dec.{eqb}
 use lib.Arith.{lt-one}
 use lib.Pow.{shr-shr, shr_le, shl_exact, pow-add, pow_pos}
 use Rattle.laws.specs.Bits.{bit, digit, number}
-use Rattle.laws.proofs.Bits.{bit-or, number-ext, number_bit, bit-shr, bit-mod}
+use Rattle.laws.proofs.Bits.{bit-or, number_ext, number_bit, bit_shr, bit_mod}
 use Rattle.laws.proofs.Sweep.{same}
 use Rattle.picture.specs.Tile.{code_of}
 use Rattle.tile.specs.Lanes.{lanes, lane}
 
 -- ---- the lanes that are left, lane by lane
-pub past-zero : (c : ℕ) → c ≡ c / 2 ^ (8 * 0)
-past-zero c = sym (div-one c)
+pub past_zero : (c : ℕ) → c ≡ c / 2 ^ (8 * 0)
+past_zero c = sym (div-one c)
 
-pub past-step : (c i : ℕ) {w : ℕ} → w ≡ c / 2 ^ (8 * i) → w / 256 ≡ c / 2 ^ (8 * (i + 1))
-past-step c i e =
+pub past_step : (c i : ℕ) {w : ℕ} → w ≡ c / 2 ^ (8 * i) → w / 256 ≡ c / 2 ^ (8 * (i + 1))
+past_step c i e =
     let q : 8 * i + 8 ≡ 8 * (i + 1) = omega arith in
     ap (λ (x : ℕ). x / 256) e ∙ shr-shr c (8 * i) 8 ∙ ap (λ (k : ℕ). c / 2 ^ k) q
 
-pub past-lane : (c i : ℕ) {w : ℕ} → w ≡ c / 2 ^ (8 * i) → w % 256 ≡ lane c i
+pub past_lane : (c i : ℕ) {w : ℕ} → w ≡ c / 2 ^ (8 * i) → w % 256 ≡ lane c i
 unfolding lane
-past-lane c i e = ap (λ (x : ℕ). x % 256) e
+past_lane c i e = ap (λ (x : ℕ). x % 256) e
 
 -- ---- a lane of lanes
-pub lane-zero : (w : ℕ) → lane w 0 ≡ w % 256
+pub lane_zero : (w : ℕ) → lane w 0 ≡ w % 256
 unfolding lane
-lane-zero w = omega arith
+lane_zero w = omega arith
 
 pub lane_past : (w s k : ℕ) → lane (w / 2 ^ (8 * s)) k ≡ lane w (s + k)
 unfolding lane
 lane_past w s k = let e : 8 * s + 8 * k ≡ 8 * (s + k) = omega arith in rw (shr-shr, e)
 
-pub lane-suc : (w k : ℕ) → lane w (suc k) ≡ lane (w / 256) k
-lane-suc w k = let e : 1 + k ≡ suc k = omega arith in rw e at (sym (lane_past w 1 k))
+pub lane_suc : (w k : ℕ) → lane w (suc k) ≡ lane (w / 256) k
+lane_suc w k = let e : 1 + k ≡ suc k = omega arith in rw e at (sym (lane_past w 1 k))
 
-pub lane-lanes : (n : ℕ) (f : ℕ → ℕ) → ((k : ℕ) → f k < 256) → (i : ℕ) → i < n → lane (lanes n f) i ≡ f i
+pub lane_lanes : (n : ℕ) (f : ℕ → ℕ) → ((k : ℕ) → f k < 256) → (i : ℕ) → i < n → lane (lanes n f) i ≡ f i
 unfolding lanes
-lane-lanes zero f h i l = absurd (not-suc-le-zero l)
-lane-lanes (suc n) f h zero l = lane-zero _ ∙ omega (arith, h 0)
-lane-lanes (suc n) f h (suc i) l =
+lane_lanes zero f h i l = absurd (not-suc-le-zero l)
+lane_lanes (suc n) f h zero l = lane_zero _ ∙ omega (arith, h 0)
+lane_lanes (suc n) f h (suc i) l =
     let e : (f 0 + 256 * lanes n (λ k. f (suc k))) / 256 ≡ lanes n (λ k. f (suc k)) = omega (arith, h 0) in
-    lane-suc _ i ∙ ap (λ (x : ℕ). lane x i) e ∙ lane-lanes n (λ k. f (suc k)) (λ k. h (suc k)) i (omega arith)
+    lane_suc _ i ∙ ap (λ (x : ℕ). lane x i) e ∙ lane_lanes n (λ k. f (suc k)) (λ k. h (suc k)) i (omega arith)
 
-pub lane-lt : (w k : ℕ) → lane w k < 256
+pub lane_lt : (w k : ℕ) → lane w k < 256
 unfolding lane
-lane-lt w k = omega arith
+lane_lt w k = omega arith
 
 -- ---- lanes that count bytes, four to a colour
-pub lane-quad : (n c : ℕ) → ((k : ℕ) → k < n → lane c k < 16) → (i : ℕ) → i < n → lane (c * 4) i ≡ 4 * lane c i
-lane-quad zero c h i l = absurd (not-suc-le-zero l)
-lane-quad (suc n) c h zero l =
+pub lane_quad : (n c : ℕ) → ((k : ℕ) → k < n → lane c k < 16) → (i : ℕ) → i < n → lane (c * 4) i ≡ 4 * lane c i
+lane_quad zero c h i l = absurd (not-suc-le-zero l)
+lane_quad (suc n) c h zero l =
     let q = h 0 (omega arith) in
-    let z = lane-zero c in
-    lane-zero (c * 4) ∙ omega (arith, q, z)
-lane-quad (suc n) c h (suc i) l =
+    let z = lane_zero c in
+    lane_zero (c * 4) ∙ omega (arith, q, z)
+lane_quad (suc n) c h (suc i) l =
     let q = h 0 (omega arith) in
-    let z = lane-zero c in
+    let z = lane_zero c in
     let e : c * 4 / 256 ≡ c / 256 * 4 = omega (arith, q, z) in
-    lane-suc (c * 4) i
+    lane_suc (c * 4) i
     ∙ ap (λ (x : ℕ). lane x i) e
-    ∙ lane-quad n (c / 256) (λ k m. rw (← lane-suc c k) (h (suc k) (omega arith))) i (omega arith)
-    ∙ ap (λ (x : ℕ). 4 * x) (sym (lane-suc c i))
+    ∙ lane_quad n (c / 256) (λ k m. rw (← lane_suc c k) (h (suc k) (omega arith))) i (omega arith)
+    ∙ ap (λ (x : ℕ). 4 * x) (sym (lane_suc c i))
 
-pub lane-bytes : (c : ℕ) → c < 2 ^ 64 → ((k : ℕ) → k < 8 → lane c k < 16) → (i : ℕ) → i < 8 → lane (c * 4 % 2 ^ 64) i ≡ 4 * lane c i
+pub lane_bytes : (c : ℕ) → c < 2 ^ 64 → ((k : ℕ) → k < 8 → lane c k < 16) → (i : ℕ) → i < 8 → lane (c * 4 % 2 ^ 64) i ≡ 4 * lane c i
 unfolding lane
-lane-bytes c l h i m =
+lane_bytes c l h i m =
     let q = h 7 (omega arith) in
     let e : c * 4 % 2 ^ 64 ≡ c * 4 = omega (arith, q) in
-    ap (λ (x : ℕ). lane x i) e ∙ lane-quad 8 c h i m
+    ap (λ (x : ℕ). lane x i) e ∙ lane_quad 8 c h i m
 
 -- a number of n lanes from its lanes
-pub lanes-is : (n w : ℕ) (f : ℕ → ℕ) → w < 2 ^ (8 * n) → ((k : ℕ) → k < n → lane w k ≡ f k) → w ≡ lanes n f
+pub lanes_is : (n w : ℕ) (f : ℕ → ℕ) → w < 2 ^ (8 * n) → ((k : ℕ) → k < n → lane w k ≡ f k) → w ≡ lanes n f
 unfolding lanes
-lanes-is zero w f h e = lt-one h
-lanes-is (suc n) w f h e =
+lanes_is zero w f h e = lt-one h
+lanes_is (suc n) w f h e =
     let p : 2 ^ (8 * suc n) ≡ 2 ^ (8 * n) * 256 = let q : 8 * suc n ≡ 8 * n + 8 = omega arith in ap (λ (k : ℕ). 2 ^ k) q ∙ pow-add 2 (8 * n) 8 in
     let l : w / 256 < 2 ^ (8 * n) = omega arith in
     omega (
       arith,
-      sym (lane-zero w) ∙ e 0 (omega arith),
-      lanes-is n (w / 256) (λ k. f (suc k)) l
-          (λ k q. sym (lane-suc w k) ∙ e (suc k) (omega arith)),
+      sym (lane_zero w) ∙ e 0 (omega arith),
+      lanes_is n (w / 256) (λ k. f (suc k)) l
+          (λ k q. sym (lane_suc w k) ∙ e (suc k) (omega arith)),
     )
 
 -- ---- the bits of a byte in the other order, by a sweep over all bytes
@@ -96,36 +96,36 @@ reverses b =
     let y = bit_or (bit_and x 0x33 * 4 % 256) (bit_and (x / 4) 0x33) in
     bit_or (bit_and y 0x55 * 2 % 256) (bit_and (y / 2) 0x55)
 
-pub reversed-is : (b x y : ℕ) → b < 256 → x ≡ bit_or (b * 16 % 256) (b / 16) → y ≡ bit_or (bit_and x 0x33 * 4 % 256) (bit_and (x / 4) 0x33)
+pub reversed_is : (b x y : ℕ) → b < 256 → x ≡ bit_or (b * 16 % 256) (b / 16) → y ≡ bit_or (bit_and x 0x33 * 4 % 256) (bit_and (x / 4) 0x33)
     → bit_or (bit_and y 0x55 * 2 % 256) (bit_and (y / 2) 0x55) ≡ number 8 (λ k. bit b (7 - k))
 unfolding reverses number bit
-reversed-is b x y h e q = rw (q, e) (same 256 reverses (λ b. number 8 (λ k. bit b (7 - k))) tt b h)
+reversed_is b x y h e q = rw (q, e) (same 256 reverses (λ b. number 8 (λ k. bit b (7 - k))) tt b h)
 
 -- ---- the lanes in the other order, by fours
-pub half-mirrored-is : (w : ℕ) → w / 16777216 % 256 + w / 65536 % 256 * 256 + w / 256 % 256 * 65536 + w % 256 * 16777216 ≡ lanes 4 (λ k. lane w (3 - k))
+pub half_mirrored_is : (w : ℕ) → w / 16777216 % 256 + w / 65536 % 256 * 256 + w / 256 % 256 * 65536 + w % 256 * 16777216 ≡ lanes 4 (λ k. lane w (3 - k))
 unfolding lanes lane
-half-mirrored-is w =
+half_mirrored_is w =
     let four : (a b c d : ℕ) → a + b * 256 + c * 65536 + d * 16777216 ≡ a + 256 * (b + 256 * (c + 256 * (d + 256 * 0))) = λ a b c d. omega arith in
-    ap (λ (d : ℕ). w / 16777216 % 256 + w / 65536 % 256 * 256 + w / 256 % 256 * 65536 + d * 16777216) (sym (lane-zero w))
+    ap (λ (d : ℕ). w / 16777216 % 256 + w / 65536 % 256 * 256 + w / 256 % 256 * 65536 + d * 16777216) (sym (lane_zero w))
     ∙ four (w / 16777216 % 256) (w / 65536 % 256) (w / 256 % 256) (lane w 0)
 
-pub mirrored-is : (w : ℕ) {a b : ℕ} → a ≡ lanes 4 (λ k. lane (w / 4294967296) (3 - k)) → b ≡ lanes 4 (λ k. lane w (3 - k))
+pub mirrored_is : (w : ℕ) {a b : ℕ} → a ≡ lanes 4 (λ k. lane (w / 4294967296) (3 - k)) → b ≡ lanes 4 (λ k. lane w (3 - k))
     → a + b * 4294967296 ≡ lanes 8 (λ k. lane w (7 - k))
 unfolding lanes
-mirrored-is w p q =
+mirrored_is w p q =
     let eight : (a b c d e f g h : ℕ) → a + 256 * (b + 256 * (c + 256 * (d + 256 * 0))) + (e + 256 * (f + 256 * (g + 256 * (h + 256 * 0)))) * 4294967296
     ≡ a + 256 * (b + 256 * (c + 256 * (d + 256 * (e + 256 * (f + 256 * (g + 256 * (h + 256 * 0))))))) = λ a b c d e f g h. omega arith in
     rw (p, q, lane_past w 4 3, lane_past w 4 2, lane_past w 4 1, lane_past w 4 0)
     (eight (lane w 7) (lane w 6) (lane w 5) (lane w 4) (lane w 3) (lane w 2) (lane w 1) (lane w 0))
 
-lanes-ext : (n : ℕ) (f g : ℕ → ℕ) → ((k : ℕ) → k < n → f k ≡ g k) → lanes n f ≡ lanes n g
+lanes_ext : (n : ℕ) (f g : ℕ → ℕ) → ((k : ℕ) → k < n → f k ≡ g k) → lanes n f ≡ lanes n g
 unfolding lanes
-lanes-ext zero f g e = refl
-lanes-ext (suc n) f g e = rw (e 0 (omega arith), lanes-ext n (λ k. f (suc k)) (λ k. g (suc k)) (λ k h. e (suc k) (omega arith)))
+lanes_ext zero f g e = refl
+lanes_ext (suc n) f g e = rw (e 0 (omega arith), lanes_ext n (λ k. f (suc k)) (λ k. g (suc k)) (λ k h. e (suc k) (omega arith)))
 
 -- lanes that are known, in the other order
-pub turned-lanes : (f : ℕ → ℕ) → ((k : ℕ) → f k < 256) → {w : ℕ} → w ≡ lanes 8 f → lanes 8 (λ k. lane w (7 - k)) ≡ lanes 8 (λ k. f (7 - k))
-turned-lanes f h e = lanes-ext 8 _ _ (λ k l. ap (λ (x : ℕ). lane x (7 - k)) e ∙ lane-lanes 8 f h (7 - k) (omega arith))
+pub turned_lanes : (f : ℕ → ℕ) → ((k : ℕ) → f k < 256) → {w : ℕ} → w ≡ lanes 8 f → lanes 8 (λ k. lane w (7 - k)) ≡ lanes 8 (λ k. f (7 - k))
+turned_lanes f h e = lanes_ext 8 _ _ (λ k l. ap (λ (x : ℕ). lane x (7 - k)) e ∙ lane_lanes 8 f h (7 - k) (omega arith))
 
 -- ---- which pixels are not of code 0
 some : (d0 d1 d2 d3 : Bool) → ((d0 || d2) || (d1 || d3)) ≡ not (eqb (digit d0 + 2 * digit d1 + 4 * digit d2 + 8 * digit d3) 0)
@@ -146,24 +146,24 @@ some true true false true = refl
 some true true true false = refl
 some true true true true = refl
 
-pub solid-bit : (b0 b1 b2 b3 k : ℕ) → bit (bit_or (bit_or b0 b2) (bit_or b1 b3)) k ≡ not (eqb (code_of b0 b1 b2 b3 k) 0)
+pub solid_bit : (b0 b1 b2 b3 k : ℕ) → bit (bit_or (bit_or b0 b2) (bit_or b1 b3)) k ≡ not (eqb (code_of b0 b1 b2 b3 k) 0)
 unfolding code_of
-solid-bit b0 b1 b2 b3 k = rw (bit-or, bit-or, bit-or) (some (bit b0 k) (bit b1 k) (bit b2 k) (bit b3 k))
+solid_bit b0 b1 b2 b3 k = rw (bit-or, bit-or, bit-or) (some (bit b0 k) (bit b1 k) (bit b2 k) (bit b3 k))
 
 -- ---- a byte's bits, straight and cut
 pub straight : (b : ℕ) → b < 256 → b ≡ number 8 (λ k. bit b (7 - (7 - k)))
 straight b h =
     sym (number_bit 8 b h)
-    ∙ number-ext 8 (bit b) (λ k. bit b (7 - (7 - k))) (λ j l. let e : j ≡ 7 - (7 - j) = omega arith in ap (bit b) e)
+    ∙ number_ext 8 (bit b) (λ k. bit b (7 - (7 - k))) (λ j l. let e : j ≡ 7 - (7 - j) = omega arith in ap (bit b) e)
 
 pub cut_low : (n : ℕ) → n ≤ 8 → 1 * 2 ^ n % 2 ^ 64 ≡ 2 ^ n
 cut_low n h = shl_exact {a = 1} 1 n 64 (omega arith) (omega arith) ∙ one-mul (2 ^ n)
 
-pub cut-lt : (b s m : ℕ) → b < 256 → b / 2 ^ s % m < 256
-cut-lt b s m h = omega (arith, mod-le (b / 2 ^ s) m, shr_le b s)
+pub cut_lt : (b s m : ℕ) → b < 256 → b / 2 ^ s % m < 256
+cut_lt b s m h = omega (arith, mod-le (b / 2 ^ s) m, shr_le b s)
 
-pub cut-is : (b s n : ℕ) → s + n ≤ 8 → b / 2 ^ s % (1 * 2 ^ n % 2 ^ 64) ≡ number n (λ k. bit b (s + k))
-cut-is b s n h =
+pub cut_is : (b s n : ℕ) → s + n ≤ 8 → b / 2 ^ s % (1 * 2 ^ n % 2 ^ 64) ≡ number n (λ k. bit b (s + k))
+cut_is b s n h =
     rw (cut_low n (omega arith))
     (sym (number_bit n (b / 2 ^ s % 2 ^ n) (mod-lt (b / 2 ^ s) (pow_pos n)))
-    ∙ number-ext n (bit (b / 2 ^ s % 2 ^ n)) (λ k. bit b (s + k)) (λ j l. bit-mod n (b / 2 ^ s) j l ∙ bit-shr b s j))
+    ∙ number_ext n (bit (b / 2 ^ s % 2 ^ n)) (λ k. bit b (s + k)) (λ j l. bit_mod n (b / 2 ^ s) j l ∙ bit_shr b s j))

@@ -12,7 +12,7 @@ use lib.Seq.{get_or-set_same, get_or-set_other}
 use borrow.Author.Tests.{lt-ltb, le-ltb, le-leb, lt-leb}
 use Rattle.laws.specs.Bits.{bit}
 use Rattle.laws.specs.Lists.{at}
-use Rattle.laws.proofs.Tables.{length-table, getD-table, is-table}
+use Rattle.laws.proofs.Tables.{length-table, get_d_table, is_table}
 use Rattle.picture.specs.Layers.{owner}
 use Rattle.tile.specs.Layer.{stamped}
 
@@ -21,19 +21,19 @@ module _ (l : List ℕ) (width x n drawn held : ℕ) where
   abbrev stamp : ℕ → ℕ → ℕ
   stamp count k = cond (leb x k && (ltb (k - x) count && ltb k width)) (owner n (bit drawn (k - x)) (bit held (k - x)) (at l k)) (at l k)
 
-  pub stamped-length : (count : ℕ) → length (stamped l width x n drawn held count) ≡ length l
+  pub stamped_length : (count : ℕ) → length (stamped l width x n drawn held count) ≡ length l
   unfolding stamped
-  stamped-length count = length-table (length l) (stamp count)
+  stamped_length count = length-table (length l) (stamp count)
 
-  pub stamped-at : (count k : ℕ) → k < length l → at (stamped l width x n drawn held count) k ≡ stamp count k
+  pub stamped_at : (count k : ℕ) → k < length l → at (stamped l width x n drawn held count) k ≡ stamp count k
   unfolding stamped
-  stamped-at count k h = getD-table (length l) (stamp count) k h
+  stamped_at count k h = get_d_table (length l) (stamp count) k h
 
   -- no column yet
-  pub stamped-none : l ≡ stamped l width x n drawn held 0
+  pub stamped_none : l ≡ stamped l width x n drawn held 0
   unfolding stamped
-  stamped-none =
-      is-table l (length l) (stamp 0) refl
+  stamped_none =
+      is_table l (length l) (stamp 0) refl
       (λ k h. let z : 0 ≤ k - x = omega arith in rw (le-ltb (k - x) 0 z, and-false (leb x k)))
 
   -- ---- column i more
@@ -52,20 +52,20 @@ module _ (l : List ℕ) (width x n drawn held : ℕ) where
               ]
         ]
 
-    test-here : x + i < width → (leb x (x + i) && (ltb (x + i - x) (i + 1) && ltb (x + i) width)) ≡ true
-    test-here h =
+    test_here : x + i < width → (leb x (x + i) && (ltb (x + i - x) (i + 1) && ltb (x + i) width)) ≡ true
+    test_here h =
         let a : x ≤ x + i = omega arith in
         let b : x + i - x < i + 1 = omega arith in
         rw (le-leb x (x + i) a, lt-ltb (x + i - x) (i + 1) b, lt-ltb (x + i) width h)
 
-    old-here : (leb x (x + i) && (ltb (x + i - x) i && ltb (x + i) width)) ≡ false
-    old-here =
+    old_here : (leb x (x + i) && (ltb (x + i - x) i && ltb (x + i) width)) ≡ false
+    old_here =
         let a : x ≤ x + i = omega arith in
         let b : i ≤ x + i - x = omega arith in
         rw (le-leb x (x + i) a, le-ltb (x + i - x) i b)
 
-    off-row : width ≤ x + i → (leb x (x + i) && (ltb (x + i - x) (i + 1) && ltb (x + i) width)) ≡ false
-    off-row h =
+    off_row : width ≤ x + i → (leb x (x + i) && (ltb (x + i - x) (i + 1) && ltb (x + i) width)) ≡ false
+    off_row h =
         let a : x ≤ x + i = omega arith in
         let b : x + i - x < i + 1 = omega arith in
         rw (le-leb x (x + i) a, lt-ltb (x + i - x) (i + 1) b, le-ltb (x + i) width h)
@@ -75,28 +75,28 @@ module _ (l : List ℕ) (width x n drawn held : ℕ) where
         ≡ stamp (i + 1) (x + i)
     here h r m e =
         let q : x + i - x ≡ i = omega arith in
-        let o : at m (x + i) ≡ at l (x + i) = ap (λ (z : List ℕ). at z (x + i)) e ∙ stamped-at i (x + i) r ∙ rw old-here in
-        rw (test-here h, q, o)
+        let o : at m (x + i) ≡ at l (x + i) = ap (λ (z : List ℕ). at z (x + i)) e ∙ stamped_at i (x + i) r ∙ rw old_here in
+        rw (test_here h, q, o)
 
     other : (k : ℕ) → k < length l → (k ≡ x + i → ⊥) → (m : List ℕ) → m ≡ stamped l width x n drawn held i → at m k ≡ stamp (i + 1) k
-    other k h o m e = ap (λ (z : List ℕ). at z k) e ∙ stamped-at i k h ∙ rw (same_test k o)
+    other k h o m e = ap (λ (z : List ℕ). at z k) e ∙ stamped_at i k h ∙ rw (same_test k o)
 
     off : width ≤ x + i → x + i < length l → (m : List ℕ) → m ≡ stamped l width x n drawn held i → at m (x + i) ≡ stamp (i + 1) (x + i)
-    off w h m e = ap (λ (z : List ℕ). at z (x + i)) e ∙ stamped-at i (x + i) h ∙ rw (old-here, off-row w)
+    off w h m e = ap (λ (z : List ℕ). at z (x + i)) e ∙ stamped_at i (x + i) h ∙ rw (old_here, off_row w)
 
-    pub stamped-step :
+    pub stamped_step :
         {m m' : List ℕ} {d h : Bool} → width ≤ length l → m ≡ stamped l width x n drawn held i → d ≡ bit drawn i → h ≡ bit held i
         → m' ≡ cond (ltb (x + i) width) (set m (x + i) (owner n d h (at m (x + i)))) m → m' ≡ stamped l width x n drawn held (i + 1)
     unfolding stamped
-    stamped-step {m} {m'} {d} {h} room e ed eh p =
-        let n₀ : length m ≡ length l = ap length e ∙ stamped-length i in
+    stamped_step {m} {m'} {d} {h} room e ed eh p =
+        let n₀ : length m ≡ length l = ap length e ∙ stamped_length i in
         elim (dec_lt (x + i) width) [
           | yes w ↦
               let v = owner n (bit drawn i) (bit held i) (at m (x + i)) in
               let q : m' ≡ set m (x + i) v = p ∙ rw (lt-ltb (x + i) width w, ed, eh) in
               let r : x + i < length l = omega arith in
               q
-              ∙ is-table (set m (x + i) v) (length l) (stamp (i + 1)) (length-set m (x + i) v ∙ n₀)
+              ∙ is_table (set m (x + i) v) (length l) (stamp (i + 1)) (length-set m (x + i) v ∙ n₀)
               (λ k a.
               elim (ℕ_discrete k (x + i)) [
                 | yes t ↦ let s : x + i < length m = omega arith in rw t (get_or-set_same m (x + i) v 0 s ∙ here w r m e)
@@ -106,7 +106,7 @@ module _ (l : List ℕ) (width x n drawn held : ℕ) where
               let u : width ≤ x + i = omega arith in
               let q : m' ≡ m = p ∙ rw (le-ltb (x + i) width u) in
               q
-              ∙ is-table m (length l) (stamp (i + 1)) n₀
+              ∙ is_table m (length l) (stamp (i + 1)) n₀
               (λ k a.
               elim (ℕ_discrete k (x + i)) [
                 | yes t ↦ let s : x + i < length l = omega arith in rw t (off u s m e)

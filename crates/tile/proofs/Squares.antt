@@ -11,49 +11,49 @@ use lib.Dec.{eqb, ltb, leb}
 use lib.Pow.{shl-shr, shr-shr, shr_le, pow-add, pow_pos}
 use borrow.Author.Tests.{lt-ltb, le-ltb, le-leb, lt-leb}
 use Rattle.laws.specs.Bits.{bit, digit, number, byte_of}
-use Rattle.laws.proofs.Bits.{bit-or, bit-and, bit-shr, bit-mod, bit-above, byte-is}
+use Rattle.laws.proofs.Bits.{bit-or, bit-and, bit_shr, bit_mod, bit_above, byte_is}
 use Rattle.laws.proofs.Sweep.{same}
 use Rattle.picture.specs.Tile.{code_of}
 use Rattle.tile.specs.Lanes.{lanes, lane, exchange}
-use Rattle.tile.proofs.Lanes.{lane-lt, lanes-is}
+use Rattle.tile.proofs.Lanes.{lane_lt, lanes_is}
 
 -- ---- `^` and `<<`, bit by bit
 abbrev unlike : Bool → Bool → Bool
 unlike true b = not b
 unlike false b = b
 
-unlike-digits : (p q : ℕ) → p < 2 → q < 2 → eqb (differ p q) 1 ≡ unlike (eqb p 1) (eqb q 1)
-unlike-digits zero zero hp hq = refl
-unlike-digits zero (suc zero) hp hq = refl
-unlike-digits zero (suc (suc q)) hp hq = absurd (omega arith)
-unlike-digits (suc zero) zero hp hq = refl
-unlike-digits (suc zero) (suc zero) hp hq = refl
-unlike-digits (suc zero) (suc (suc q)) hp hq = absurd (omega arith)
-unlike-digits (suc (suc p)) q hp hq = absurd (omega arith)
+unlike_digits : (p q : ℕ) → p < 2 → q < 2 → eqb (differ p q) 1 ≡ unlike (eqb p 1) (eqb q 1)
+unlike_digits zero zero hp hq = refl
+unlike_digits zero (suc zero) hp hq = refl
+unlike_digits zero (suc (suc q)) hp hq = absurd (omega arith)
+unlike_digits (suc zero) zero hp hq = refl
+unlike_digits (suc zero) (suc zero) hp hq = refl
+unlike_digits (suc zero) (suc (suc q)) hp hq = absurd (omega arith)
+unlike_digits (suc (suc p)) q hp hq = absurd (omega arith)
 
-differ-lt : (p q : ℕ) → p < 2 → q < 2 → differ p q < 2
-differ-lt zero zero hp hq = omega arith
-differ-lt zero (suc zero) hp hq = omega arith
-differ-lt zero (suc (suc q)) hp hq = absurd (omega arith)
-differ-lt (suc zero) zero hp hq = omega arith
-differ-lt (suc zero) (suc zero) hp hq = omega arith
-differ-lt (suc zero) (suc (suc q)) hp hq = absurd (omega arith)
-differ-lt (suc (suc p)) q hp hq = absurd (omega arith)
+differ_lt : (p q : ℕ) → p < 2 → q < 2 → differ p q < 2
+differ_lt zero zero hp hq = omega arith
+differ_lt zero (suc zero) hp hq = omega arith
+differ_lt zero (suc (suc q)) hp hq = absurd (omega arith)
+differ_lt (suc zero) zero hp hq = omega arith
+differ_lt (suc zero) (suc zero) hp hq = omega arith
+differ_lt (suc zero) (suc (suc q)) hp hq = absurd (omega arith)
+differ_lt (suc (suc p)) q hp hq = absurd (omega arith)
 
 xor_low : (a b : ℕ) → bit_xor a b % 2 ≡ differ (a % 2) (b % 2)
-xor_low a b = let h = differ-lt (a % 2) (b % 2) (omega arith) (omega arith) in omega (arith, xor_step a b)
+xor_low a b = let h = differ_lt (a % 2) (b % 2) (omega arith) (omega arith) in omega (arith, xor_step a b)
 
 bit-xor : (a b j : ℕ) → bit (bit_xor a b) j ≡ unlike (bit a j) (bit b j)
 unfolding bit
 bit-xor a b j =
     ap (λ (x : ℕ). eqb (x % 2) 1) (xor_shr a b j)
     ∙ ap (λ (x : ℕ). eqb x 1) (xor_low (a / 2 ^ j) (b / 2 ^ j))
-    ∙ unlike-digits (a / 2 ^ j % 2) (b / 2 ^ j % 2) (omega arith) (omega arith)
+    ∙ unlike_digits (a / 2 ^ j % 2) (b / 2 ^ j % 2) (omega arith) (omega arith)
 
 -- below the shift no bit is set, and from it on stand the bits of v
-bit-up-low : (v s j : ℕ) → j < s → bit (v * 2 ^ s) j ≡ false
+bit_up_low : (v s j : ℕ) → j < s → bit (v * 2 ^ s) j ≡ false
 unfolding bit
-bit-up-low v s j h =
+bit_up_low v s j h =
     let d = s - j - 1 in
     let e : s ≡ suc d + j = omega arith in
     let q : v * 2 ^ s ≡ v * 2 ^ suc d * 2 ^ j = ap (λ (k : ℕ). v * 2 ^ k) e ∙ ap (λ (k : ℕ). v * k) (pow-add 2 (suc d) j) ∙ sym
@@ -62,13 +62,13 @@ bit-up-low v s j h =
 
 bit_up : (v s j : ℕ) → j < 64 → bit (v * 2 ^ s % 2 ^ 64) j ≡ (leb s j && bit v (j - s))
 bit_up v s j h =
-    bit-mod 64 (v * 2 ^ s) j h
+    bit_mod 64 (v * 2 ^ s) j h
     ∙ elim (dec_lt j s) [
-      | yes l ↦ bit-up-low v s j l ∙ rw (lt-leb s j l)
+      | yes l ↦ bit_up_low v s j l ∙ rw (lt-leb s j l)
       | no nl ↦
           let le : s ≤ j = omega arith in
           let e : s + (j - s) ≡ j = omega arith in
-          ap (bit (v * 2 ^ s)) (sym e) ∙ sym (bit-shr (v * 2 ^ s) s (j - s)) ∙ ap (λ (x : ℕ). bit x (j - s)) (shl-shr v s) ∙ rw (le-leb s j le)
+          ap (bit (v * 2 ^ s)) (sym e) ∙ sym (bit_shr (v * 2 ^ s) s (j - s)) ∙ ap (λ (x : ℕ). bit x (j - s)) (shl-shr v s) ∙ rw (le-leb s j le)
     ]
 
 -- ---- one exchange: where a bit of the number comes from
@@ -117,42 +117,42 @@ lower x s j u =
           rw (le-leb s j le, e)
     ]
 
-of-cond : (x : ℕ) (t : Bool) (i j : ℕ) → bit x (cond t i j) ≡ cond t (bit x i) (bit x j)
-of-cond x true i j = refl
-of-cond x false i j = refl
+of_cond : (x : ℕ) (t : Bool) (i j : ℕ) → bit x (cond t i j) ≡ cond t (bit x i) (bit x j)
+of_cond x true i j = refl
+of_cond x false i j = refl
 
-exchange-bit : (x s m j : ℕ) → j < 64 → (bit m j && (leb s j && bit m (j - s))) ≡ false → bit (exchange x s m) j ≡ bit x (moved s m j)
+exchange_bit : (x s m j : ℕ) → j < 64 → (bit m j && (leb s j && bit m (j - s))) ≡ false → bit (exchange x s m) j ≡ bit x (moved s m j)
 unfolding exchange
-exchange-bit x s m j h e =
+exchange_bit x s m j h e =
     let t = bit_and (bit_xor x (x / 2 ^ s)) m in
     let q : (i : ℕ) → bit t i ≡ (unlike (bit x i) (bit x (s + i)) && bit m i) =
-    λ i. bit-and (bit_xor x (x / 2 ^ s)) m i ∙ ap (λ (b : Bool). b && bit m i) (bit-xor x (x / 2 ^ s) i ∙ ap (unlike (bit x i)) (bit-shr x s i)) in
+    λ i. bit-and (bit_xor x (x / 2 ^ s)) m i ∙ ap (λ (b : Bool). b && bit m i) (bit-xor x (x / 2 ^ s) i ∙ ap (unlike (bit x i)) (bit_shr x s i)) in
     bit-xor (bit_xor x t) (t * 2 ^ s % 2 ^ 64) j
     ∙ ap₂ unlike
     (bit-xor x t j ∙ ap (unlike (bit x j)) (q j))
     (bit_up t s j h ∙ ap (λ (b : Bool). leb s j && b) (q (j - s)) ∙ lower x s j (bit m (j - s)))
     ∙ three (bit x j) (bit x (s + j)) (bit x (j - s)) (bit m j) (leb s j && bit m (j - s)) e
-    ∙ sym (of-cond x (bit m j) (s + j) (cond (leb s j && bit m (j - s)) (j - s) j)
-    ∙ ap (cond (bit m j) (bit x (s + j))) (of-cond x (leb s j && bit m (j - s)) (j - s) j))
+    ∙ sym (of_cond x (bit m j) (s + j) (cond (leb s j && bit m (j - s)) (j - s) j)
+    ∙ ap (cond (bit m j) (bit x (s + j))) (of_cond x (leb s j && bit m (j - s)) (j - s) j))
 
-exchange-lt : (x s m : ℕ) → x < 2 ^ 64 → exchange x s m < 2 ^ 64
+exchange_lt : (x s m : ℕ) → x < 2 ^ 64 → exchange x s m < 2 ^ 64
 unfolding exchange
-exchange-lt x s m h =
+exchange_lt x s m h =
     let t = bit_and (bit_xor x (x / 2 ^ s)) m in
     let u : bit_xor x (x / 2 ^ s) < 2 ^ 64 = xor_lt 64 x (x / 2 ^ s) h (lt_of_le_of_lt (shr_le x s) h) in
     xor_lt 64 (bit_xor x t) (t * 2 ^ s % 2 ^ 64) (xor_lt 64 x t h (lt_of_le_of_lt (and_le_l (bit_xor x (x / 2 ^ s)) m) u))
     (mod-lt (t * 2 ^ s) (pow_pos 64))
 
 -- ---- tests as numbers, for the sweeps
-digit-false : (b : Bool) → digit b ≡ 0 → b ≡ false
-digit-false true e = absurd (omega arith)
-digit-false false e = refl
+digit_false : (b : Bool) → digit b ≡ 0 → b ≡ false
+digit_false true e = absurd (omega arith)
+digit_false false e = refl
 
-pub digit-same : (a b : Bool) → digit a ≡ digit b → a ≡ b
-digit-same true true e = refl
-digit-same true false e = absurd (omega arith)
-digit-same false true e = absurd (omega arith)
-digit-same false false e = refl
+pub digit_same : (a b : Bool) → digit a ≡ digit b → a ≡ b
+digit_same true true e = refl
+digit_same true false e = absurd (omega arith)
+digit_same false true e = absurd (omega arith)
+digit_same false false e = refl
 
 ltb-digit : (a b : ℕ) → digit (ltb a b) ≡ 1 → a < b
 ltb-digit a b e =
@@ -169,9 +169,9 @@ fours x = bit_and (bit_or x (x * 2 ^ 28 % 2 ^ 64)) 0x0F0F0F0F0F0F0F0F
 abbrev halved : ℕ → ℕ
 halved j = cond (ltb j 32) j (j - 28)
 
-fours-bit : (x j : ℕ) → x < 2 ^ 32 → j < 64 → bit (fours x) j ≡ (bit x (halved j) && bit 0x0F0F0F0F0F0F0F0F j)
+fours_bit : (x j : ℕ) → x < 2 ^ 32 → j < 64 → bit (fours x) j ≡ (bit x (halved j) && bit 0x0F0F0F0F0F0F0F0F j)
 unfolding bit
-fours-bit x j h l =
+fours_bit x j h l =
     bit-and (bit_or x (x * 2 ^ 28 % 2 ^ 64)) 0x0F0F0F0F0F0F0F0F j
     ∙ ap (λ (b : Bool). b && bit 0x0F0F0F0F0F0F0F0F j) (bit-or x (x * 2 ^ 28 % 2 ^ 64) j ∙ ap (λ (b : Bool). bit x j || b) (bit_up x 28 j l))
     ∙ elim (dec_lt j 32) [
@@ -179,14 +179,14 @@ fours-bit x j h l =
         | yes v ↦ rw (lt-ltb j 32 u, lt-leb 28 j v, or-false (bit x j))
         | no nv ↦
             let q : j ≡ 28 + (j - 28) = omega arith in
-            let e = ap (bit 0x0F0F0F0F0F0F0F0F) q ∙ digit-false _
+            let e = ap (bit 0x0F0F0F0F0F0F0F0F) q ∙ digit_false _
             (same 4 (λ i. digit (bit 0x0F0F0F0F0F0F0F0F (28 + i))) (λ i. 0) tt (j - 28) (omega arith)) in
             rw (e, and-false (bit x j || (leb 28 j && bit x (j - 28))), and-false (bit x (halved j)))
       ]
       | no nu ↦
           let a : 32 ≤ j = omega arith in
           let b : 28 ≤ j = omega arith in
-          rw (le-ltb j 32 a, le-leb 28 j b, bit-above 32 x j h a)
+          rw (le-ltb j 32 a, le-leb 28 j b, bit_above 32 x j h a)
     ]
 
 -- ---- the exchanges, one after the other: bit j of the codes
@@ -203,14 +203,14 @@ columns : (x j : ℕ) → x < 2 ^ 32 → j < 64 → bit (exchange (exchange (fou
     (bit x (halved (source j)) && ltb (j % 8) 4)
 unfolding bit
 columns x j h l =
-    let a = digit-false _ (same 64 (clash 7 0x00AA00AA00AA00AA) (λ j. 0) tt j l) in
+    let a = digit_false _ (same 64 (clash 7 0x00AA00AA00AA00AA) (λ j. 0) tt j l) in
     let b = ltb-digit _ _ (same 64 (λ j. digit (ltb (first j) 64)) (λ j. 1) tt j l) in
-    let c = digit-false _ (same 64 (λ j. clash 14 0x0000CCCC0000CCCC (first j)) (λ j. 0) tt j l) in
+    let c = digit_false _ (same 64 (λ j. clash 14 0x0000CCCC0000CCCC (first j)) (λ j. 0) tt j l) in
     let d = ltb-digit _ _ (same 64 (λ j. digit (ltb (source j) 64)) (λ j. 1) tt j l) in
-    let e = digit-same _ _ (same 64 (λ j. digit (bit 0x0F0F0F0F0F0F0F0F (source j))) (λ j. digit (ltb (j % 8) 4)) tt j l) in
-    exchange-bit (exchange (fours x) 14 0x0000CCCC0000CCCC) 7 0x00AA00AA00AA00AA j l a
-    ∙ exchange-bit (fours x) 14 0x0000CCCC0000CCCC (first j) b c
-    ∙ fours-bit x (source j) h d
+    let e = digit_same _ _ (same 64 (λ j. digit (bit 0x0F0F0F0F0F0F0F0F (source j))) (λ j. digit (ltb (j % 8) 4)) tt j l) in
+    exchange_bit (exchange (fours x) 14 0x0000CCCC0000CCCC) 7 0x00AA00AA00AA00AA j l a
+    ∙ exchange_bit (fours x) 14 0x0000CCCC0000CCCC (first j) b c
+    ∙ fours_bit x (source j) h d
     ∙ ap (λ (b : Bool). bit x (halved (source j)) && b) e
 
 turns : (j : ℕ) → j < 64 → cond (ltb (j % 8) 4) (halved (source j)) 0 ≡ cond (ltb (j % 8) 4) (8 * (j % 8) + j / 8) 0
@@ -239,15 +239,15 @@ squares x k r h hk hr =
     ]
 
 -- ---- the codes, lane by lane
-bit-lane : (w k r : ℕ) → r < 8 → bit (lane w k) r ≡ bit w (8 * k + r)
+bit_lane : (w k r : ℕ) → r < 8 → bit (lane w k) r ≡ bit w (8 * k + r)
 unfolding lane
-bit-lane w k r h = bit-mod 8 (w / 2 ^ (8 * k)) r h ∙ bit-shr w (8 * k) r
+bit_lane w k r h = bit_mod 8 (w / 2 ^ (8 * k)) r h ∙ bit_shr w (8 * k) r
 
-code-byte : (x k : ℕ) → k < 8 → byte_of (λ r. bit x (8 * r + k) && ltb r 4) ≡ code_of (lane x 0) (lane x 1) (lane x 2) (lane x 3) k
+code_byte : (x k : ℕ) → k < 8 → byte_of (λ r. bit x (8 * r + k) && ltb r 4) ≡ code_of (lane x 0) (lane x 1) (lane x 2) (lane x 3) k
 unfolding byte_of number code_of
-code-byte x k h =
+code_byte x k h =
     let q : (r : ℕ) → r < 4 → digit (bit x (8 * r + k) && ltb r 4) ≡ digit (bit (lane x r) k) =
-    λ r l. ap (λ (b : Bool). digit (bit x (8 * r + k) && b)) (lt-ltb r 4 l) ∙ ap digit (and-true (bit x (8 * r + k)) ∙ sym (bit-lane x r k h)) in
+    λ r l. ap (λ (b : Bool). digit (bit x (8 * r + k) && b)) (lt-ltb r 4 l) ∙ ap digit (and-true (bit x (8 * r + k)) ∙ sym (bit_lane x r k h)) in
     let z : (r : ℕ) → 4 ≤ r → digit (bit x (8 * r + k) && ltb r 4) ≡ 0 =
     λ r l. ap (λ (b : Bool). digit (bit x (8 * r + k) && b)) (le-ltb r 4 l) ∙ ap digit (and-false (bit x (8 * r + k))) in
     omega (
@@ -263,27 +263,27 @@ code-byte x k h =
       z 7 (omega arith),
     )
 
-codes-lane : (x k : ℕ) → x < 2 ^ 32 → k < 8 → lane (codes x) k ≡ code_of (lane x 0) (lane x 1) (lane x 2) (lane x 3) k
-codes-lane x k h hk =
-    byte-is (lane (codes x) k) (λ r. bit x (8 * r + k) && ltb r 4) (lane-lt (codes x) k)
-    (λ r l. sym (bit-lane (codes x) k r l ∙ squares x k r h hk l))
-    ∙ code-byte x k hk
+codes_lane : (x k : ℕ) → x < 2 ^ 32 → k < 8 → lane (codes x) k ≡ code_of (lane x 0) (lane x 1) (lane x 2) (lane x 3) k
+codes_lane x k h hk =
+    byte_is (lane (codes x) k) (λ r. bit x (8 * r + k) && ltb r 4) (lane_lt (codes x) k)
+    (λ r l. sym (bit_lane (codes x) k r l ∙ squares x k r h hk l))
+    ∙ code_byte x k hk
 
-fours-lt : (x : ℕ) → x < 2 ^ 32 → fours x < 2 ^ 64
-fours-lt x h = lt_of_le_of_lt (and_le_r (bit_or x (x * 2 ^ 28 % 2 ^ 64)) 0x0F0F0F0F0F0F0F0F) (omega arith)
+fours_lt : (x : ℕ) → x < 2 ^ 32 → fours x < 2 ^ 64
+fours_lt x h = lt_of_le_of_lt (and_le_r (bit_or x (x * 2 ^ 28 % 2 ^ 64)) 0x0F0F0F0F0F0F0F0F) (omega arith)
 
-pub codes-are : (x : ℕ) (f : ℕ → ℕ) → x < 2 ^ 32 → ((k : ℕ) → k < 8 → f k ≡ k) → codes x ≡ lanes 8
+pub codes_are : (x : ℕ) (f : ℕ → ℕ) → x < 2 ^ 32 → ((k : ℕ) → k < 8 → f k ≡ k) → codes x ≡ lanes 8
     (λ k. code_of (lane x 0) (lane x 1) (lane x 2) (lane x 3) (f k))
-codes-are x f h e =
-    lanes-is 8 (codes x) (λ k. code_of (lane x 0) (lane x 1) (lane x 2) (lane x 3) (f k))
-    (exchange-lt (exchange (fours x) 14 0x0000CCCC0000CCCC) 7 0x00AA00AA00AA00AA (exchange-lt (fours x) 14 0x0000CCCC0000CCCC (fours-lt x h)))
-    (λ k l. codes-lane x k h l ∙ ap (code_of (lane x 0) (lane x 1) (lane x 2) (lane x 3)) (sym (e k l)))
+codes_are x f h e =
+    lanes_is 8 (codes x) (λ k. code_of (lane x 0) (lane x 1) (lane x 2) (lane x 3) (f k))
+    (exchange_lt (exchange (fours x) 14 0x0000CCCC0000CCCC) 7 0x00AA00AA00AA00AA (exchange_lt (fours x) 14 0x0000CCCC0000CCCC (fours_lt x h)))
+    (λ k l. codes_lane x k h l ∙ ap (code_of (lane x 0) (lane x 1) (lane x 2) (lane x 3)) (sym (e k l)))
 
 -- ---- the four bytes laid over each other
-pub solid-is : (x : ℕ) → bit_or (bit_or x (x / 2 ^ 16)) (bit_or x (x / 2 ^ 16) / 2 ^ 8) % 256 ≡ bit_or (bit_or (lane x 0) (lane x 2))
+pub solid_is : (x : ℕ) → bit_or (bit_or x (x / 2 ^ 16)) (bit_or x (x / 2 ^ 16) / 2 ^ 8) % 256 ≡ bit_or (bit_or (lane x 0) (lane x 2))
     (bit_or (lane x 1) (lane x 3))
 unfolding lane
-solid-is x =
+solid_is x =
     or_mod (bit_or x (x / 2 ^ 16)) (bit_or x (x / 2 ^ 16) / 2 ^ 8) 8
     ∙ ap₂ bit_or
     (or_mod x (x / 2 ^ 16) 8 ∙ ap (λ (n : ℕ). bit_or n (x / 2 ^ 16 % 256)) (ap (λ (n : ℕ). n % 256) (sym (div-one x))))

@@ -3,14 +3,14 @@ ghost use Rattle.std.specs.Prelude.{◌≡◌, true, cond, ℕ, ◌+◌, ◌-◌
 ghost use Rattle.std.specs.Int.Bits.{bit_or};
 ghost use Rattle.laws.specs.Bits.{bit, number, byte_of};
 ghost use Rattle.laws.specs.Lists.{at};
-ghost use Rattle.laws.specs.Paint.{put, painted, putIf, overlaid, fourAt};
+ghost use Rattle.laws.specs.Paint.{put, painted, put_if, overlaid, four_at};
 ghost use Rattle.picture.specs.Tile.{code_of, code_at, turned};
 ghost use Rattle.picture.specs.Picture.{solid};
 ghost use Rattle.picture.specs.Layers.{owner};
 ghost use Rattle.tile.specs.Lanes.{lanes, lane, exchange};
 ghost use Rattle.tile.specs.Layer.{stamped};
 ghost use Rattle.tile.specs.Fours.{fours, one_of, chosen_of};
-ghost use Rattle.tile.specs.Line.{colourBytes, coloursIn, lineColour, lineSolid, lineMarked, lineDrawn, lineHeld, spriteColour};
+ghost use Rattle.tile.specs.Line.{colour_bytes, colours_in, line_colour, line_solid, line_marked, line_drawn, line_held, sprite_colour};
 
 use column::Columns;
 
@@ -57,7 +57,7 @@ pub fn pixel_set_full(row: &mut [u8], x: usize, c: u32)
 // The same where `shown`; else the row stays.
 fn pixel_set_if(shown: bool, row: &mut [u8], x: usize, c: u32)
     requires { shown ≡ true → x * 4 + 4 ≤ length row.old }
-    ensures { row.new ≡ putIf shown row.old x c }
+    ensures { row.new ≡ put_if shown row.old x c }
 {
     if shown {
         pixel_set_full(row, x, c);
@@ -134,7 +134,7 @@ fn solids_of(flip: bool, x: u32) -> u8
 fn line_of(vram: &[u8], addr: usize, flip: bool) -> TileLine
     requires { addr + 4 ≤ length vram.now }
     ensures codes_value { result.codes ≡ lanes 8 (λ k. code_at (at vram.now) addr (turned flip k)) }
-    ensures solids_value { result.solids ≡ number 8 (lineSolid vram.now addr flip 0) }
+    ensures solids_value { result.solids ≡ number 8 (line_solid vram.now addr flip 0) }
 {
     let x = small::four_at(vram, addr);
     TileLine {
@@ -194,8 +194,8 @@ fn paint(row: &mut [u8], colours: &[u32], palette: usize, x: usize, codes: u64, 
 // The colours into a row of 32 pixels.
 fn paint_colours(row: &mut [u8], colours: &[u32])
     requires { (length row.old ≡ 128) × (length colours.now ≡ 32) }
-    ensures row_after { row.new ≡ colourBytes colours.now }
-    ensures row_after_2 { coloursIn row.new ≡ colours.now }
+    ensures row_after { row.new ≡ colour_bytes colours.now }
+    ensures row_after_2 { colours_in row.new ≡ colours.now }
 {
     let mut i: usize = 0;
     while i < 32 {
@@ -206,8 +206,8 @@ fn paint_colours(row: &mut [u8], colours: &[u32])
 
 // The colours as bytes, four to each.
 pub fn bytes_of(colours: &[u32; 32]) -> [u8; 128]
-    ensures value { result ≡ colourBytes colours.now }
-    ensures result_value { coloursIn result ≡ colours.now }
+    ensures value { result ≡ colour_bytes colours.now }
+    ensures result_value { colours_in result ≡ colours.now }
 {
     let mut table = [0u8; 128];
     paint_colours(&mut table, colours);
@@ -217,7 +217,7 @@ pub fn bytes_of(colours: &[u32; 32]) -> [u8; 128]
 // The colour whose first byte lane k names.
 fn lane_colour(table: &[u8], codes: u64, k: usize) -> u32
     requires { (k < 8) × ((i : ℕ) → i < 8 → lane codes i + 4 ≤ length table.now) }
-    ensures { result ≡ fourAt table.now (lane codes k) }
+    ensures { result ≡ four_at table.now (lane codes k) }
 {
     small::four_at(table, color_code(codes, k))
 }
@@ -225,7 +225,7 @@ fn lane_colour(table: &[u8], codes: u64, k: usize) -> u32
 // The colours that the four lanes from lane k on name, of 16 of the colours from colour `palette` on. A lane times 4 is the place of its first byte.
 fn lane_colours(table: &[u8], palette: usize, codes: u64, k: usize) -> Four
     requires { (k < 5) × (palette ≤ 16) × (length table.now ≡ 128) × ((i : ℕ) → i < 8 → lane codes i < 16) }
-    ensures { result ≡ fours (λ i. at (coloursIn table.now) (palette + lane codes i)) k }
+    ensures { result ≡ fours (λ i. at (colours_in table.now) (palette + lane codes i)) k }
 {
     let low = 4 * palette;
     let top = low + 64;
@@ -254,7 +254,7 @@ fn four_set_full(row: &mut [u8], x: usize, v: Four)
 // first is stored: a store could not change them, but the compiler does not know that.
 fn paint_whole(row: &mut [u8], table: &[u8], palette: usize, x: usize, codes: u64)
     requires { (x < 65536) × ((x + 8) * 4 ≤ length row.old) × (palette ≤ 16) × (length table.now ≡ 128) × ((k : ℕ) → k < 8 → lane codes k < 16) }
-    ensures { row.new ≡ painted row.old x 8 (λ k. at (coloursIn table.now) (palette + lane codes k)) }
+    ensures { row.new ≡ painted row.old x 8 (λ k. at (colours_in table.now) (palette + lane codes k)) }
 {
     let left = lane_colours(table, palette, codes, 0);
     let right = lane_colours(table, palette, codes, 4);
@@ -275,8 +275,8 @@ pub fn character_line(
     n: usize,
 ) -> u8
     requires { (start + n ≤ 8) × (addr + 4 ≤ length vram.now) × (palette ≤ 16) × ((x + n) * 4 ≤ length row.old) }
-    ensures row_after { row.new ≡ painted row.old x n (lineColour colours.now palette vram.now addr flip start) }
-    ensures value { result ≡ number n (lineSolid vram.now addr flip start) }
+    ensures row_after { row.new ≡ painted row.old x n (line_colour colours.now palette vram.now addr flip start) }
+    ensures value { result ≡ number n (line_solid vram.now addr flip start) }
 {
     let line = line_of(vram, addr, flip);
     paint(row, colours, palette, x, line.codes >> (8 * (start % 8)), n);
@@ -294,8 +294,8 @@ pub fn character_whole(
     x: usize,
 ) -> u8
     requires { (addr + 4 ≤ length vram.now) × (palette ≤ 16) × (x < 65536) × ((x + 8) * 4 ≤ length row.old) }
-    ensures row_after { row.new ≡ painted row.old x 8 (lineColour (coloursIn table.now) palette vram.now addr flip 0) }
-    ensures value { result ≡ number 8 (lineSolid vram.now addr flip 0) }
+    ensures row_after { row.new ≡ painted row.old x 8 (line_colour (colours_in table.now) palette vram.now addr flip 0) }
+    ensures value { result ≡ number 8 (line_solid vram.now addr flip 0) }
 {
     let line = line_of(vram, addr, flip);
     paint_whole(row, table, palette, x, line.codes);
@@ -343,8 +343,8 @@ pub fn sprite_columns(
     end: usize,
 ) -> Columns
     requires { (end ≤ 8) × (start ≤ 256) × (addr + 4 ≤ length vram.now) × (x < 65536) × (width * 4 ≤ length row.old) }
-    ensures row_after { row.new ≡ overlaid row.old x 8 (lineDrawn vram.now addr start end held taken width x) (spriteColour colours.now vram.now addr start) }
-    ensures marks_value { (result.marks ≡ byte_of (lineMarked vram.now addr start end held)) × (result.drawn ≡ byte_of (lineDrawn vram.now addr start end held taken width x)) × (result.held ≡ byte_of (lineHeld vram.now addr start end held)) }
+    ensures row_after { row.new ≡ overlaid row.old x 8 (line_drawn vram.now addr start end held taken width x) (sprite_colour colours.now vram.now addr start) }
+    ensures marks_value { (result.marks ≡ byte_of (line_marked vram.now addr start end held)) × (result.drawn ≡ byte_of (line_drawn vram.now addr start end held taken width x)) × (result.held ≡ byte_of (line_held vram.now addr start end held)) }
 {
     if end <= start {
         return column::fates(0, held, taken, 0);
@@ -360,7 +360,7 @@ pub fn sprite_columns(
 // The colours of the four pixels from pixel x of the row on, as they stand there.
 fn row_colours(row: &[u8], x: usize) -> Four
     requires { (x < 65540) × ((x + 4) * 4 ≤ length row.now) }
-    ensures { result ≡ fours (λ i. fourAt row.now (i * 4)) x }
+    ensures { result ≡ fours (λ i. four_at row.now (i * 4)) x }
 {
     Four {
         a: small::four_at(row, x * 4),
@@ -396,7 +396,7 @@ fn overlay_four(row: &mut [u8], x: usize, drawn: u8, k: usize, new: Four, old: F
 // were, so that there is no branch. All are read before the first is stored, as in `paint_whole`.
 fn overlay(row: &mut [u8], table: &[u8], x: usize, codes: u64, drawn: u8)
     requires { (x < 65536) × ((x + 8) * 4 ≤ length row.old) × (length table.now ≡ 128) × ((k : ℕ) → k < 8 → lane codes k < 16) }
-    ensures { row.new ≡ overlaid row.old x 8 (bit drawn) (λ k. at (coloursIn table.now) (16 + lane codes k)) }
+    ensures { row.new ≡ overlaid row.old x 8 (bit drawn) (λ k. at (colours_in table.now) (16 + lane codes k)) }
 {
     let old_left = row_colours(row, x);
     let old_right = row_colours(row, x + 4);
@@ -418,8 +418,8 @@ fn sprite_whole(
     x: usize,
 ) -> Columns
     requires { (addr + 4 ≤ length vram.now) × (x < 65536) × (x + 8 ≤ width) × (width * 4 ≤ length row.old) }
-    ensures row_after { row.new ≡ overlaid row.old x 8 (lineDrawn vram.now addr 0 8 held taken width x) (spriteColour (coloursIn table.now) vram.now addr 0) }
-    ensures marks_value { (result.marks ≡ byte_of (lineMarked vram.now addr 0 8 held)) × (result.drawn ≡ byte_of (lineDrawn vram.now addr 0 8 held taken width x)) × (result.held ≡ byte_of (lineHeld vram.now addr 0 8 held)) }
+    ensures row_after { row.new ≡ overlaid row.old x 8 (line_drawn vram.now addr 0 8 held taken width x) (sprite_colour (colours_in table.now) vram.now addr 0) }
+    ensures marks_value { (result.marks ≡ byte_of (line_marked vram.now addr 0 8 held)) × (result.drawn ≡ byte_of (line_drawn vram.now addr 0 8 held taken width x)) × (result.held ≡ byte_of (line_held vram.now addr 0 8 held)) }
 {
     let line = line_of(vram, addr, false);
     let columns = column::fates(line.solids, held, taken, 255);
@@ -441,9 +441,9 @@ pub fn character_line_sprite(
     start: usize,
     end: usize,
 ) -> Columns
-    requires { (end ≤ 8) × (start ≤ 256) × (addr + 4 ≤ length vram.now) × (x < 65536) × (width * 4 ≤ length row.old) × (coloursIn table.now ≡ colours.now) }
-    ensures row_after { row.new ≡ overlaid row.old x 8 (lineDrawn vram.now addr start end held taken width x) (spriteColour colours.now vram.now addr start) }
-    ensures marks_value { (result.marks ≡ byte_of (lineMarked vram.now addr start end held)) × (result.drawn ≡ byte_of (lineDrawn vram.now addr start end held taken width x)) × (result.held ≡ byte_of (lineHeld vram.now addr start end held)) }
+    requires { (end ≤ 8) × (start ≤ 256) × (addr + 4 ≤ length vram.now) × (x < 65536) × (width * 4 ≤ length row.old) × (colours_in table.now ≡ colours.now) }
+    ensures row_after { row.new ≡ overlaid row.old x 8 (line_drawn vram.now addr start end held taken width x) (sprite_colour colours.now vram.now addr start) }
+    ensures marks_value { (result.marks ≡ byte_of (line_marked vram.now addr start end held)) × (result.drawn ≡ byte_of (line_drawn vram.now addr start end held taken width x)) × (result.held ≡ byte_of (line_held vram.now addr start end held)) }
 {
     if small::both(small::both(start == 0, end == 8), x + 8 <= width) {
         return sprite_whole(row, vram, table, addr, held, taken, width, x);

@@ -10,68 +10,68 @@ use lib.ListN.{length}
 use borrow.Author.Tests.{eq-eqb, ne_eqb, le-leb, lt-leb}
 use Rattle.laws.specs.Lists.{at, written}
 use Rattle.refusal.specs.declared.Refusal.TheVariants.{Accepted, VramLength, UnknownTile, CodesLength, HighCode}
-use Rattle.tile_codes.specs.Tiles.{codesAt, tileBytes}
-use Rattle.tile_codes.specs.Calls.{anyHigh, readTileRefusal, writeTileRefusal, tileWritten, tileRead, WriteLeaves, ReadLeaves}
+use Rattle.tile_codes.specs.Tiles.{codes_at, tile_bytes}
+use Rattle.tile_codes.specs.Calls.{any_high, read_tile_refusal, write_tile_refusal, tile_written, tile_read, WriteLeaves, ReadLeaves}
 
 module _ (vram : List ℕ) (n : ℕ) (codes : List ℕ) where
-  pub write-8 : length vram ≢ 16384 → WriteLeaves vram n codes VramLength vram
-  unfolding writeTileRefusal tileWritten
-  write-8 h = let t = ne_eqb (length vram) 16384 h in record { refusal = rw t; memory = rw t }
+  pub write_8 : length vram ≢ 16384 → WriteLeaves vram n codes VramLength vram
+  unfolding write_tile_refusal tile_written
+  write_8 h = let t = ne_eqb (length vram) 16384 h in record { refusal = rw t; memory = rw t }
 
-  pub read-8 : length vram ≢ 16384 → ReadLeaves vram n codes VramLength codes
-  unfolding readTileRefusal tileRead
-  read-8 h = let t = ne_eqb (length vram) 16384 h in record { refusal = rw t; buffer = rw t }
+  pub read_8 : length vram ≢ 16384 → ReadLeaves vram n codes VramLength codes
+  unfolding read_tile_refusal tile_read
+  read_8 h = let t = ne_eqb (length vram) 16384 h in record { refusal = rw t; buffer = rw t }
 
   module _ (mem : length vram ≡ 16384) where
-    pub write-13 : 511 < n → WriteLeaves vram n codes UnknownTile vram
-    unfolding writeTileRefusal tileWritten
-    write-13 h = let t = eq-eqb (length vram) 16384 mem in let u = lt-leb n 511 h in record { refusal = rw (t, u); memory = rw (t, u) }
+    pub write_13 : 511 < n → WriteLeaves vram n codes UnknownTile vram
+    unfolding write_tile_refusal tile_written
+    write_13 h = let t = eq-eqb (length vram) 16384 mem in let u = lt-leb n 511 h in record { refusal = rw (t, u); memory = rw (t, u) }
 
-    pub read-13 : 511 < n → ReadLeaves vram n codes UnknownTile codes
-    unfolding readTileRefusal tileRead
-    read-13 h = let t = eq-eqb (length vram) 16384 mem in let u = lt-leb n 511 h in record { refusal = rw (t, u); buffer = rw (t, u) }
+    pub read_13 : 511 < n → ReadLeaves vram n codes UnknownTile codes
+    unfolding read_tile_refusal tile_read
+    read_13 h = let t = eq-eqb (length vram) 16384 mem in let u = lt-leb n 511 h in record { refusal = rw (t, u); buffer = rw (t, u) }
 
     module _ (low : n ≤ 511) where
-      pub write-14 : length codes ≢ 64 → WriteLeaves vram n codes CodesLength vram
-      unfolding writeTileRefusal tileWritten
-      write-14 h =
+      pub write_14 : length codes ≢ 64 → WriteLeaves vram n codes CodesLength vram
+      unfolding write_tile_refusal tile_written
+      write_14 h =
           let t = eq-eqb (length vram) 16384 mem in
           let u = le-leb n 511 low in
           let v = ne_eqb (length codes) 64 h in
           record { refusal = rw (t, u, v); memory = rw (t, u, v) }
 
-      pub read-14 : length codes ≢ 64 → ReadLeaves vram n codes CodesLength codes
-      unfolding readTileRefusal tileRead
-      read-14 h =
+      pub read_14 : length codes ≢ 64 → ReadLeaves vram n codes CodesLength codes
+      unfolding read_tile_refusal tile_read
+      read_14 h =
           let t = eq-eqb (length vram) 16384 mem in
           let u = le-leb n 511 low in
           let v = ne_eqb (length codes) 64 h in
           record { refusal = rw (t, u, v); buffer = rw (t, u, v) }
 
       module _ (many : length codes ≡ 64) where
-        pub write-15 : anyHigh codes ≡ true → WriteLeaves vram n codes HighCode vram
-        unfolding writeTileRefusal tileWritten
-        write-15 h =
+        pub write_15 : any_high codes ≡ true → WriteLeaves vram n codes HighCode vram
+        unfolding write_tile_refusal tile_written
+        write_15 h =
             let t = eq-eqb (length vram) 16384 mem in
             let u = le-leb n 511 low in
             let v = eq-eqb (length codes) 64 many in
             record { refusal = rw (t, u, v, h); memory = rw (t, u, v, h) }
 
-        pub write-0 :
-            {vram' : List ℕ} → anyHigh codes ≡ false → vram' ≡ written vram (32 * n) (tileBytes (λ k. at codes (0 + k))) → WriteLeaves vram n codes
+        pub write_0 :
+            {vram' : List ℕ} → any_high codes ≡ false → vram' ≡ written vram (32 * n) (tile_bytes (λ k. at codes (0 + k))) → WriteLeaves vram n codes
             Accepted vram'
-        unfolding writeTileRefusal tileWritten
-        write-0 h e =
+        unfolding write_tile_refusal tile_written
+        write_0 h e =
             let t = eq-eqb (length vram) 16384 mem in
             let u = le-leb n 511 low in
             let v = eq-eqb (length codes) 64 many in
-            let z : written vram (32 * n) (tileBytes (λ k. at codes (0 + k))) ≡ written vram (32 * n) (tileBytes (at codes)) =
-            (λ i. written vram (32 * n) (tileBytes (λ k. at codes (zero-add k i)))) in
+            let z : written vram (32 * n) (tile_bytes (λ k. at codes (0 + k))) ≡ written vram (32 * n) (tile_bytes (at codes)) =
+            (λ i. written vram (32 * n) (tile_bytes (λ k. at codes (zero-add k i)))) in
             record { refusal = rw (t, u, v, h); memory = rw (t, u, v, h) (e ∙ z) }
 
-        pub read-0 : {codes' : List ℕ} → codes' ≡ codesAt (at vram) (32 * n) → ReadLeaves vram n codes Accepted codes'
-        unfolding readTileRefusal tileRead
-        read-0 e =
+        pub read_0 : {codes' : List ℕ} → codes' ≡ codes_at (at vram) (32 * n) → ReadLeaves vram n codes Accepted codes'
+        unfolding read_tile_refusal tile_read
+        read_0 e =
             let t = eq-eqb (length vram) 16384 mem in
             let u = le-leb n 511 low in
             let v = eq-eqb (length codes) 64 many in

@@ -10,11 +10,11 @@ use native.Mathlib.Omega.{arith}
 use lib.ListN.{length}
 use Rattle.laws.specs.Bits.{bit, digit, number, byte_of, any}
 use Rattle.laws.specs.Lists.{at}
-use Rattle.laws.proofs.Bits.{number-ext}
-use Rattle.laws.proofs.Tables.{length-table, getD-table}
+use Rattle.laws.proofs.Bits.{number_ext}
+use Rattle.laws.proofs.Tables.{length-table, get_d_table}
 use Rattle.picture.specs.Tile.{code_of, code_at}
-use Rattle.tile_codes.specs.Tiles.{codesAt, tileBytes}
-use Rattle.tile_codes.proofs.Planes.{code-bits, byte-of-tile}
+use Rattle.tile_codes.specs.Tiles.{codes_at, tile_bytes}
+use Rattle.tile_codes.proofs.Planes.{code_bits, byte_of_tile}
 
 -- a code from its four weights
 pub code_sum :
@@ -33,20 +33,20 @@ module _ (codes : List ℕ) (from p : ℕ) where
   pub half_is :
       code_of (at codes (from + 3)) (at codes (from + 2)) (at codes (from + 1)) (at codes from) p ≡ number 4 (λ b. bit (at codes (from + (3 - b))) p)
   half_is =
-      code-bits (at codes (from + 3)) (at codes (from + 2)) (at codes (from + 1)) (at codes from) p (λ b. bit (at codes (from + (3 - b))) p) refl refl refl
+      code_bits (at codes (from + 3)) (at codes (from + 2)) (at codes (from + 1)) (at codes from) p (λ b. bit (at codes (from + (3 - b))) p) refl refl refl
       (ap (λ (k : ℕ). bit (at codes k) p) (sym (add-zero from)))
 
-  pub plane-sum :
+  pub plane_sum :
       {h l : ℕ} → h ≡ number 4 (λ b. bit (at codes (from + (3 - b))) p) → l ≡ number 4 (λ b. bit (at codes (from + 4 + (3 - b))) p)
       → 16 * h + l ≡ byte_of (λ b. bit (at codes (from + (7 - b))) p)
-  plane-sum e d =
+  plane_sum e d =
       let f : ℕ → Bool = λ b. bit (at codes (from + (7 - b))) p in
       let on : (b : ℕ) → b < 4 → bit (at codes (from + 4 + (3 - b))) p ≡ f b =
       λ b h. let k : from + 4 + (3 - b) ≡ from + (7 - b) = omega arith in ap (λ (k : ℕ). bit (at codes k) p) k in
       let up : (b : ℕ) → b < 4 → bit (at codes (from + (3 - b))) p ≡ f (4 + b) =
       λ b h. let k : from + (3 - b) ≡ from + (7 - (4 + b)) = omega arith in ap (λ (k : ℕ). bit (at codes k) p) k in
-      (λ i. 16 * (e ∙ number-ext 4 (λ b. bit (at codes (from + (3 - b))) p) (λ b. f (4 + b)) up) i
-      + (d ∙ number-ext 4 (λ b. bit (at codes (from + 4 + (3 - b))) p) f on) i)
+      (λ i. 16 * (e ∙ number_ext 4 (λ b. bit (at codes (from + (3 - b))) p) (λ b. f (4 + b)) up) i
+      + (d ∙ number_ext 4 (λ b. bit (at codes (from + 4 + (3 - b))) p) f on) i)
       ∙ halves f
 
 -- ---- any code above 15, one more looked at
@@ -55,32 +55,32 @@ unfolding any
 any_step f i e = rw add-one (ap (λ (t : Bool). f i || t) e)
 
 -- ---- the bytes of a tile, one more put
-pub tile-long : (c : ℕ → ℕ) → length (tileBytes c) ≡ 32
-unfolding tileBytes
-tile-long c = length-table 32 (λ j. byte_of (λ b. bit (c (8 * (j / 4) + (7 - b))) (j % 4)))
+pub tile_long : (c : ℕ → ℕ) → length (tile_bytes c) ≡ 32
+unfolding tile_bytes
+tile_long c = length-table 32 (λ j. byte_of (λ b. bit (c (8 * (j / 4) + (7 - b))) (j % 4)))
 
-pub plane-is :
+pub plane_is :
     (codes : List ℕ) (from j : ℕ) {v : ℕ} → j < 32 → v ≡ byte_of (λ b. bit (at codes (from + 8 * (j / 4) + (7 - b))) (j % 4))
-    → v ≡ at (tileBytes (λ k. at codes (from + k))) j
+    → v ≡ at (tile_bytes (λ k. at codes (from + k))) j
 unfolding byte_of
-plane-is codes from j h e =
+plane_is codes from j h e =
     e
-    ∙ number-ext 8 (λ b. bit (at codes (from + 8 * (j / 4) + (7 - b))) (j % 4)) (λ b. bit (at codes (from + (8 * (j / 4) + (7 - b)))) (j % 4))
+    ∙ number_ext 8 (λ b. bit (at codes (from + 8 * (j / 4) + (7 - b))) (j % 4)) (λ b. bit (at codes (from + (8 * (j / 4) + (7 - b)))) (j % 4))
     (λ b hb. ap (λ (z : ℕ). bit (at codes z) (j % 4)) (add_assoc from (8 * (j / 4)) (7 - b)))
-    ∙ sym (byte-of-tile (λ k. at codes (from + k)) j h)
+    ∙ sym (byte_of_tile (λ k. at codes (from + k)) j h)
 
 -- ---- the codes of a tile, one more got
-pub codes-long : (m : ℕ → ℕ) (a : ℕ) → length (codesAt m a) ≡ 64
-unfolding codesAt
-codes-long m a = length-table 64 (λ k. code_at m (a + 4 * (k / 8)) (k % 8))
+pub codes_long : (m : ℕ → ℕ) (a : ℕ) → length (codes_at m a) ≡ 64
+unfolding codes_at
+codes_long m a = length-table 64 (λ k. code_at m (a + 4 * (k / 8)) (k % 8))
 
-pub code_got : (m : ℕ → ℕ) (a k : ℕ) → k < 64 → at (codesAt m a) k ≡ code_at m (a + 4 * (k / 8)) (k % 8)
-unfolding codesAt
-code_got m a k h = getD-table 64 (λ k. code_at m (a + 4 * (k / 8)) (k % 8)) k h
+pub code_got : (m : ℕ → ℕ) (a k : ℕ) → k < 64 → at (codes_at m a) k ≡ code_at m (a + 4 * (k / 8)) (k % 8)
+unfolding codes_at
+code_got m a k h = get_d_table 64 (λ k. code_at m (a + 4 * (k / 8)) (k % 8)) k h
 
 pub code_is :
     (m : ℕ → ℕ) (a k : ℕ) {v : ℕ} → k < 64
     → v ≡ code_of (m (a + 4 * (k / 8))) (m (a + 4 * (k / 8) + 1)) (m (a + 4 * (k / 8) + 2)) (m (a + 4 * (k / 8) + 3)) (7 - k % 8)
-    → v ≡ at (codesAt m a) k
+    → v ≡ at (codes_at m a) k
 unfolding code_at
 code_is m a k h e = e ∙ sym (code_got m a k h)

@@ -13,27 +13,27 @@ use Rattle.laws.specs.Bits.{bit}
 use Rattle.laws.specs.Lists.{at, written}
 use Rattle.laws.proofs.Any.{any_none, any_false}
 use Rattle.laws.proofs.Lists.{length-written}
-use Rattle.laws.proofs.Places.{written_at, written-before, written_behind, written_same}
-use Rattle.laws.proofs.Tables.{is-table}
+use Rattle.laws.proofs.Places.{written_at, written_before, written_behind, written_same}
+use Rattle.laws.proofs.Tables.{is_table}
 use Rattle.laws.proofs.Tests.{split}
-use Rattle.picture.specs.Tile.{code_at, entryCode, tileLine, turned}
-use Rattle.picture.specs.Picture.{tall, spriteLine}
+use Rattle.picture.specs.Tile.{code_at, entry_code, tile_line, turned}
+use Rattle.picture.specs.Picture.{tall, sprite_line}
 use Rattle.refusal.specs.declared.Refusal.TheVariants.{Accepted}
-use Rattle.refusal.specs.Refusals.{refusalNumber, whole}
-use Rattle.tile_codes.specs.Tiles.{codesAt, tileBytes}
-use Rattle.tile_codes.specs.Calls.{anyHigh, readTileRefusal, writeTileRefusal, tileWritten, tileRead}
+use Rattle.refusal.specs.Refusals.{refusal_number, whole}
+use Rattle.tile_codes.specs.Tiles.{codes_at, tile_bytes}
+use Rattle.tile_codes.specs.Calls.{any_high, read_tile_refusal, write_tile_refusal, tile_written, tile_read}
 use Rattle.tile_codes.specs.Promises.{Imported, Exported}
-use Rattle.tile_codes.proofs.Planes.{shown, same_byte, code-low}
-use Rattle.tile_codes.proofs.Loops.{tile-long, codes-long, code_got}
+use Rattle.tile_codes.proofs.Planes.{shown, same_byte, code_low}
+use Rattle.tile_codes.proofs.Loops.{tile_long, codes_long, code_got}
 
 -- ---- codes, none of them above 15
-pub none-high : (codes : List ℕ) → anyHigh codes ≡ false → (k : ℕ) → k < length codes → at codes k < 16
-unfolding anyHigh
-none-high codes e k h = let l = ltb-false 15 (at codes k) (any_false (length codes) (λ k. ltb 15 (at codes k)) e k h) in omega (arith, l)
+pub none_high : (codes : List ℕ) → any_high codes ≡ false → (k : ℕ) → k < length codes → at codes k < 16
+unfolding any_high
+none_high codes e k h = let l = ltb-false 15 (at codes k) (any_false (length codes) (λ k. ltb 15 (at codes k)) e k h) in omega (arith, l)
 
-pub all-low : (codes : List ℕ) → ((k : ℕ) → k < length codes → at codes k < 16) → anyHigh codes ≡ false
-unfolding anyHigh
-all-low codes low =
+pub all_low : (codes : List ℕ) → ((k : ℕ) → k < length codes → at codes k < 16) → any_high codes ≡ false
+unfolding any_high
+all_low codes low =
     any_none (length codes) (λ k. ltb 15 (at codes k)) (λ k h. let l : at codes k ≤ 15 = omega (arith, low k h) in le-ltb 15 (at codes k) l)
 
 -- ---- what an accepted call was given
@@ -42,154 +42,154 @@ pub record Taken (vram : List ℕ) (n size : ℕ) : Type 0 where
   pub few : n ≤ 511
   pub many : size ≡ 64
 
-pub read_taken : (vram : List ℕ) (n size : ℕ) → readTileRefusal vram n size ≡ Accepted → Taken vram n size
-unfolding readTileRefusal
+pub read_taken : (vram : List ℕ) (n size : ℕ) → read_tile_refusal vram n size ≡ Accepted → Taken vram n size
+unfolding read_tile_refusal
 read_taken vram n size e =
     split (whole vram)
     (λ t. split (leb n 511)
     (λ u. split (eqb size 64)
     (λ v. record { mem = eqb-true (length vram) 16384 t; few = leb-true n 511 u; many = eqb-true size 64 v })
-    (λ v. let z = ap refusalNumber (simp (t, u, v) at e) in absurd (omega (arith, z))))
-    (λ u. let z = ap refusalNumber (simp (t, u) at e) in absurd (omega (arith, z))))
-    (λ t. let z = ap refusalNumber (simp t at e) in absurd (omega (arith, z)))
+    (λ v. let z = ap refusal_number (simp (t, u, v) at e) in absurd (omega (arith, z))))
+    (λ u. let z = ap refusal_number (simp (t, u) at e) in absurd (omega (arith, z))))
+    (λ t. let z = ap refusal_number (simp t at e) in absurd (omega (arith, z)))
 
-pub write-taken : (vram : List ℕ) (n : ℕ) (codes : List ℕ) → writeTileRefusal vram n codes ≡ Accepted → Taken vram n (length codes) ×
-    (anyHigh codes ≡ false)
-unfolding writeTileRefusal
-write-taken vram n codes e =
+pub write_taken : (vram : List ℕ) (n : ℕ) (codes : List ℕ) → write_tile_refusal vram n codes ≡ Accepted → Taken vram n (length codes) ×
+    (any_high codes ≡ false)
+unfolding write_tile_refusal
+write_taken vram n codes e =
     split (whole vram)
     (λ t. split (leb n 511)
     (λ u. split (eqb (length codes) 64)
-    (λ v. split (anyHigh codes)
-    (λ h. let z = ap refusalNumber (simp (t, u, v, h) at e) in absurd (omega (arith, z)))
+    (λ v. split (any_high codes)
+    (λ h. let z = ap refusal_number (simp (t, u, v, h) at e) in absurd (omega (arith, z)))
     (λ h. (record { mem = eqb-true (length vram) 16384 t; few = leb-true n 511 u; many = eqb-true (length codes) 64 v }, h)))
-    (λ v. let z = ap refusalNumber (simp (t, u, v) at e) in absurd (omega (arith, z))))
-    (λ u. let z = ap refusalNumber (simp (t, u) at e) in absurd (omega (arith, z))))
-    (λ t. let z = ap refusalNumber (simp t at e) in absurd (omega (arith, z)))
+    (λ v. let z = ap refusal_number (simp (t, u, v) at e) in absurd (omega (arith, z))))
+    (λ u. let z = ap refusal_number (simp (t, u) at e) in absurd (omega (arith, z))))
+    (λ t. let z = ap refusal_number (simp t at e) in absurd (omega (arith, z)))
 
-pub reads : (vram : List ℕ) (n size : ℕ) → Taken vram n size → readTileRefusal vram n size ≡ Accepted
-unfolding readTileRefusal
+pub reads : (vram : List ℕ) (n size : ℕ) → Taken vram n size → read_tile_refusal vram n size ≡ Accepted
+unfolding read_tile_refusal
 reads vram n size g = rw (eq-eqb (length vram) 16384 g.mem, le-leb n 511 g.few, eq-eqb size 64 g.many)
 
-pub writes : (vram : List ℕ) (n : ℕ) (codes : List ℕ) → Taken vram n (length codes) → anyHigh codes ≡ false → writeTileRefusal vram n codes ≡ Accepted
-unfolding writeTileRefusal
+pub writes : (vram : List ℕ) (n : ℕ) (codes : List ℕ) → Taken vram n (length codes) → any_high codes ≡ false → write_tile_refusal vram n codes ≡ Accepted
+unfolding write_tile_refusal
 writes vram n codes g h = rw (eq-eqb (length vram) 16384 g.mem, le-leb n 511 g.few, eq-eqb (length codes) 64 g.many, h)
 
 -- ---- what it left
-pub wrote : (vram : List ℕ) (n : ℕ) (codes : List ℕ) → writeTileRefusal vram n codes ≡ Accepted → tileWritten vram n codes ≡ written vram (32 * n)
-    (tileBytes (at codes))
-unfolding tileWritten
+pub wrote : (vram : List ℕ) (n : ℕ) (codes : List ℕ) → write_tile_refusal vram n codes ≡ Accepted → tile_written vram n codes ≡ written vram (32 * n)
+    (tile_bytes (at codes))
+unfolding tile_written
 wrote vram n codes e = rw e
 
-pub read : (vram : List ℕ) (n : ℕ) (buffer : List ℕ) → readTileRefusal vram n (length buffer) ≡ Accepted → tileRead vram n buffer ≡ codesAt (at vram)
+pub read : (vram : List ℕ) (n : ℕ) (buffer : List ℕ) → read_tile_refusal vram n (length buffer) ≡ Accepted → tile_read vram n buffer ≡ codes_at (at vram)
     (32 * n)
-unfolding tileRead
+unfolding tile_read
 read vram n buffer e = rw e
 
 -- ---- where a tile's lines are
-turned-low : (flip : Bool) (k : ℕ) → k < 8 → turned flip k < 8
-turned-low true k h = omega arith
-turned-low false k h = omega arith
+turned_low : (flip : Bool) (k : ℕ) → k < 8 → turned flip k < 8
+turned_low true k h = omega arith
+turned_low false k h = omega arith
 
 base : (b : Bool) → cond b 8192 0 ≡ 32 * cond b 256 0
 base true = refl
 base false = refl
 
-sprite-at : (g : ℕ → ℕ) (tile d n : ℕ) → cond (bit (g 6) 2) 256 0 + cond (tall g) (tile / 2 * 2 + d / 8) tile ≡ n → spriteLine g tile d ≡ 32 * n + 4
+sprite_at : (g : ℕ → ℕ) (tile d n : ℕ) → cond (bit (g 6) 2) 256 0 + cond (tall g) (tile / 2 * 2 + d / 8) tile ≡ n → sprite_line g tile d ≡ 32 * n + 4
     * (d % 8)
-unfolding spriteLine
-sprite-at g tile d n e = omega (arith, e, base (bit (g 6) 2))
+unfolding sprite_line
+sprite_at g tile d n e = omega (arith, e, base (bit (g 6) 2))
 
 -- ---- codes written
-module _ (vram : List ℕ) (n : ℕ) (codes : List ℕ) (e : writeTileRefusal vram n codes ≡ Accepted) where
+module _ (vram : List ℕ) (n : ℕ) (codes : List ℕ) (e : write_tile_refusal vram n codes ≡ Accepted) where
   g : Taken vram n (length codes)
-  g = (write-taken vram n codes e).0
+  g = (write_taken vram n codes e).0
 
   after : List ℕ
-  after = written vram (32 * n) (tileBytes (at codes))
+  after = written vram (32 * n) (tile_bytes (at codes))
 
-  fits : 32 * n + length (tileBytes (at codes)) ≤ length vram
-  fits = omega (arith, tile-long (at codes), g.mem, g.few)
+  fits : 32 * n + length (tile_bytes (at codes)) ≤ length vram
+  fits = omega (arith, tile_long (at codes), g.mem, g.few)
 
-  long : length (tileWritten vram n codes) ≡ length vram
-  long = ap length (wrote vram n codes e) ∙ length-written vram (32 * n) (tileBytes (at codes)) fits
+  long : length (tile_written vram n codes) ≡ length vram
+  long = ap length (wrote vram n codes e) ∙ length-written vram (32 * n) (tile_bytes (at codes)) fits
 
-  showing : (x y : ℕ) → x < 8 → y < 8 → code_at (at (tileWritten vram n codes)) (32 * n + 4 * y) x ≡ at codes (8 * y + x)
+  showing : (x y : ℕ) → x < 8 → y < 8 → code_at (at (tile_written vram n codes)) (32 * n + 4 * y) x ≡ at codes (8 * y + x)
   showing x y hx hy =
       ap (λ (l : List ℕ). code_at (at l) (32 * n + 4 * y) x) (wrote vram n codes e)
-      ∙ shown (at (written vram (32 * n) (tileBytes (at codes)))) (32 * n) (at codes)
-      (λ j h. let l : j < length (tileBytes (at codes)) = omega (arith, tile-long (at codes)) in written_at vram (32 * n) (tileBytes (at codes)) fits
+      ∙ shown (at (written vram (32 * n) (tile_bytes (at codes)))) (32 * n) (at codes)
+      (λ j h. let l : j < length (tile_bytes (at codes)) = omega (arith, tile_long (at codes)) in written_at vram (32 * n) (tile_bytes (at codes)) fits
       j l)
       x y hx hy
-      (none-high codes (write-taken vram n codes e).1 (8 * y + x) (omega (arith, g.many)))
+      (none_high codes (write_taken vram n codes e).1 (8 * y + x) (omega (arith, g.many)))
 
-  comes_back : (buffer : List ℕ) → length buffer ≡ 64 → tileRead (tileWritten vram n codes) n buffer ≡ codes
-  unfolding codesAt
+  comes_back : (buffer : List ℕ) → length buffer ≡ 64 → tile_read (tile_written vram n codes) n buffer ≡ codes
+  unfolding codes_at
   comes_back buffer h =
-      let m = at (tileWritten vram n codes) in
-      read (tileWritten vram n codes) n buffer
-      (reads (tileWritten vram n codes) n (length buffer) (record { mem = long ∙ g.mem; few = g.few; many = h }))
+      let m = at (tile_written vram n codes) in
+      read (tile_written vram n codes) n buffer
+      (reads (tile_written vram n codes) n (length buffer) (record { mem = long ∙ g.mem; few = g.few; many = h }))
       ∙ sym
-      (is-table codes 64 (λ k. code_at m (32 * n + 4 * (k / 8)) (k % 8)) g.many
+      (is_table codes 64 (λ k. code_at m (32 * n + 4 * (k / 8)) (k % 8)) g.many
       (λ k l.
       let q : 8 * (k / 8) + k % 8 ≡ k = omega arith in
       sym (showing (k % 8) (k / 8) (omega arith) (omega arith) ∙ ap (at codes) q)))
 
   pub imported : Imported vram n codes
-  unfolding entryCode tileLine
+  unfolding entry_code tile_line
   imported =
       record {
         shows = showing;
         background =
             λ lo hi x y q.
-            let m = at (tileWritten vram n codes) in
+            let m = at (tile_written vram n codes) in
             ap (λ (t : ℕ). code_at m (32 * t + 4 * turned (bit hi 2) (y % 8)) (turned (bit hi 1) (x % 8))) q
-            ∙ showing (turned (bit hi 1) (x % 8)) (turned (bit hi 2) (y % 8)) (turned-low (bit hi 1) (x % 8) (omega arith))
-            (turned-low (bit hi 2) (y % 8) (omega arith));
+            ∙ showing (turned (bit hi 1) (x % 8)) (turned (bit hi 2) (y % 8)) (turned_low (bit hi 1) (x % 8) (omega arith))
+            (turned_low (bit hi 2) (y % 8) (omega arith));
         sprite =
             λ r tile d x hx q.
-            ap (λ (a : ℕ). code_at (at (tileWritten vram n codes)) a x) (sprite-at r tile d n q) ∙ showing x (d % 8) hx (omega arith);
+            ap (λ (a : ℕ). code_at (at (tile_written vram n codes)) a x) (sprite_at r tile d n q) ∙ showing x (d % 8) hx (omega arith);
         back = comes_back;
-        before = λ k h. ap (λ (l : List ℕ). at l k) (wrote vram n codes e) ∙ written-before vram (32 * n) (tileBytes (at codes)) fits k h;
+        before = λ k h. ap (λ (l : List ℕ). at l k) (wrote vram n codes e) ∙ written_before vram (32 * n) (tile_bytes (at codes)) fits k h;
         behind =
             λ k h.
-            let l : 32 * n + length (tileBytes (at codes)) ≤ k = omega (arith, tile-long (at codes)) in
-            ap (λ (l : List ℕ). at l k) (wrote vram n codes e) ∙ written_behind vram (32 * n) (tileBytes (at codes)) fits k l;
+            let l : 32 * n + length (tile_bytes (at codes)) ≤ k = omega (arith, tile_long (at codes)) in
+            ap (λ (l : List ℕ). at l k) (wrote vram n codes e) ∙ written_behind vram (32 * n) (tile_bytes (at codes)) fits k l;
         as_long = long;
       }
 
 -- ---- bytes read
-module _ (vram : List ℕ) (n : ℕ) (buffer : List ℕ) (bytes : (k : ℕ) → at vram k < 256) (e : readTileRefusal vram n (length buffer) ≡ Accepted) where
+module _ (vram : List ℕ) (n : ℕ) (buffer : List ℕ) (bytes : (k : ℕ) → at vram k < 256) (e : read_tile_refusal vram n (length buffer) ≡ Accepted) where
   given : Taken vram n (length buffer)
   given = read_taken vram n (length buffer) e
 
-  codes-low : (k : ℕ) → k < 64 → at (codesAt (at vram) (32 * n)) k < 16
-  codes-low k h = rw (code_got (at vram) (32 * n) k h) (code-low (at vram) (32 * n + 4 * (k / 8)) (k % 8))
+  codes_low : (k : ℕ) → k < 64 → at (codes_at (at vram) (32 * n)) k < 16
+  codes_low k h = rw (code_got (at vram) (32 * n) k h) (code_low (at vram) (32 * n + 4 * (k / 8)) (k % 8))
 
   -- the bytes that are made of the codes are those that are there
-  there : tileBytes (at (codesAt (at vram) (32 * n))) ≡ take 32 (drop (32 * n) vram)
+  there : tile_bytes (at (codes_at (at vram) (32 * n))) ≡ take 32 (drop (32 * n) vram)
   there =
-      let c = at (codesAt (at vram) (32 * n)) in
+      let c = at (codes_at (at vram) (32 * n)) in
       let d : 32 ≤ length (drop (32 * n) vram) = simp length-drop (omega (arith, given.mem, given.few)) in
-      ext_get_or 0 (tileBytes c) (take 32 (drop (32 * n) vram)) (tile-long c ∙ sym (length-take-le 32 (drop (32 * n) vram) d))
+      ext_get_or 0 (tile_bytes c) (take 32 (drop (32 * n) vram)) (tile_long c ∙ sym (length-take-le 32 (drop (32 * n) vram) d))
       (λ j h.
-      let l : j < 32 = omega (arith, tile-long c) in
+      let l : j < 32 = omega (arith, tile_long c) in
       same_byte (at vram) (32 * n) c (λ k q. code_got (at vram) (32 * n) k q) j l (bytes (32 * n + j))
       ∙ sym (get_or-take 32 (drop (32 * n) vram) j 0 l ∙ get_or-drop (32 * n) vram j 0))
 
-  accepted : writeTileRefusal vram n (codesAt (at vram) (32 * n)) ≡ Accepted
+  accepted : write_tile_refusal vram n (codes_at (at vram) (32 * n)) ≡ Accepted
   accepted =
-      let c = codesAt (at vram) (32 * n) in
-      let l = codes-long (at vram) (32 * n) in
-      writes vram n c (record { mem = given.mem; few = given.few; many = l }) (all-low c (λ k h. codes-low k (omega (arith, l))))
+      let c = codes_at (at vram) (32 * n) in
+      let l = codes_long (at vram) (32 * n) in
+      writes vram n c (record { mem = given.mem; few = given.few; many = l }) (all_low c (λ k h. codes_low k (omega (arith, l))))
 
-  again : tileWritten vram n (codesAt (at vram) (32 * n)) ≡ vram
+  again : tile_written vram n (codes_at (at vram) (32 * n)) ≡ vram
   again =
-      wrote vram n (codesAt (at vram) (32 * n)) accepted
+      wrote vram n (codes_at (at vram) (32 * n)) accepted
       ∙ ap (written vram (32 * n)) there
       ∙ written_same vram (32 * n) 32 (omega (arith, given.mem, given.few))
 
   pub exported : Exported vram n buffer
   exported =
       let r = read vram n buffer e in
-      record { taken = ap (writeTileRefusal vram n) r ∙ accepted; same = ap (tileWritten vram n) r ∙ again }
+      record { taken = ap (write_tile_refusal vram n) r ∙ accepted; same = ap (tile_written vram n) r ∙ again }

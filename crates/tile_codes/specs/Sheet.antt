@@ -2,26 +2,26 @@
 -- Assumes nothing.
 use Rattle.std.specs.Prelude.{◌≡◌, Bool, cond, not, ◌&&◌, List, [], ◌∷◌, ◌++◌, ℕ, zero, suc, ◌+◌, ◌*◌, ◌/◌, ◌%◌, eqb, leb, length}
 use Rattle.laws.specs.Lists.{at, written}
-use Rattle.tile_codes.specs.Tiles.{tileBytes}
-use Rattle.tile_codes.specs.Calls.{anyHigh}
+use Rattle.tile_codes.specs.Tiles.{tile_bytes}
+use Rattle.tile_codes.specs.Calls.{any_high}
 
-abbrev pub tilesIn : List ℕ → ℕ
-tilesIn s = length s / 64
+abbrev pub tiles_in : List ℕ → ℕ
+tiles_in s = length s / 64
 
-unfoldable pub isSheet : List ℕ → Bool
-isSheet s = ((eqb (length s % 64) 0 && leb 1 (tilesIn s)) && leb (tilesIn s) 256) && not (anyHigh s)
+unfoldable pub is_sheet : List ℕ → Bool
+is_sheet s = ((eqb (length s % 64) 0 && leb 1 (tiles_in s)) && leb (tiles_in s) 256) && not (any_high s)
 
 -- the bytes of the first n tiles of a sheet
-unfoldable pub sheetBytes : ℕ → List ℕ → List ℕ
-sheetBytes zero s = []
-sheetBytes (suc n) s = sheetBytes n s ++ tileBytes (λ k. at s (64 * n + k))
+unfoldable pub sheet_bytes : ℕ → List ℕ → List ℕ
+sheet_bytes zero s = []
+sheet_bytes (suc n) s = sheet_bytes n s ++ tile_bytes (λ k. at s (64 * n + k))
 
-abbrev pub badLine : List ℕ
-badLine = 0x62 ∷ 0x61 ∷ 0x64 ∷ 0x0A ∷ []
+abbrev pub bad_line : List ℕ
+bad_line = 0x62 ∷ 0x61 ∷ 0x64 ∷ 0x0A ∷ []
 
 -- WHAT `sheet` WRITES of the input s
 unfoldable pub converted : List ℕ → List ℕ
-converted s = cond (isSheet s) (sheetBytes (tilesIn s) s) badLine
+converted s = cond (is_sheet s) (sheet_bytes (tiles_in s) s) bad_line
 
 -- What the function behind it promises of its answer n and of its buffer after it: these bytes at its start, and their number; nothing at all without room
 -- for 256 tiles.

@@ -3,9 +3,9 @@ ghost use Rattle.std.specs.Prelude.{◌≡◌, ◌+◌, ◌-◌, ◌*◌, ◌<�
 ghost use Rattle.laws.specs.Bits.{bit, digit, byte_of};
 ghost use Rattle.laws.specs.Lists.{at, written};
 ghost use Rattle.picture.specs.Tile.{code_of};
-ghost use Rattle.tile_codes.specs.Tiles.{codesAt, tileBytes};
-ghost use Rattle.tile_codes.specs.Calls.{anyHigh, WriteLeaves, ReadLeaves};
-ghost use Rattle.tile_codes.specs.Sheet.{isSheet, SheetLeaves};
+ghost use Rattle.tile_codes.specs.Tiles.{codes_at, tile_bytes};
+ghost use Rattle.tile_codes.specs.Calls.{any_high, WriteLeaves, ReadLeaves};
+ghost use Rattle.tile_codes.specs.Sheet.{is_sheet, SheetLeaves};
 
 use refusal::Refusal;
 
@@ -41,7 +41,7 @@ fn plane_byte(codes: &[u8], from: usize, plane: usize) -> u8
 // The 32 bytes of the tile whose codes start at `from`, into dst at `to`.
 fn put_tile(dst: &mut [u8], to: usize, codes: &[u8], from: usize)
     requires { (to + 32 ≤ length dst.old) × (from + 64 ≤ length codes.now) }
-    ensures { dst.new ≡ written dst.old to (tileBytes (λ k. at codes.now (from + k))) }
+    ensures { dst.new ≡ written dst.old to (tile_bytes (λ k. at codes.now (from + k))) }
 {
     let mut j = 0;
     while j < 32 {
@@ -53,7 +53,7 @@ fn put_tile(dst: &mut [u8], to: usize, codes: &[u8], from: usize)
 // The 64 codes of the tile whose bytes start at `from`, into a buffer of that length.
 fn get_tile(src: &[u8], from: usize, codes: &mut [u8])
     requires { (from + 32 ≤ length src.now) × (length codes.old ≡ 64) }
-    ensures { codes.new ≡ codesAt (at src.now) from }
+    ensures { codes.new ≡ codes_at (at src.now) from }
 {
     let mut k = 0;
     while k < 64 {
@@ -65,7 +65,7 @@ fn get_tile(src: &[u8], from: usize, codes: &mut [u8])
 
 // Whether a code is above 15.
 fn any_high(codes: &[u8]) -> bool
-    ensures { result ≡ anyHigh codes.now }
+    ensures { result ≡ any_high codes.now }
 {
     let mut high = false;
     let mut i = 0;
@@ -115,7 +115,7 @@ pub fn read_tile(vram: &[u8], n: u16, codes: &mut [u8]) -> Refusal
 
 // Whether the input is a sheet: 1 to 256 tiles of 64 codes, none above 15.
 fn is_sheet(input: &[u8]) -> bool
-    ensures { result ≡ isSheet input.now }
+    ensures { result ≡ is_sheet input.now }
 {
     let n = input.len() / 64;
     (input.len() % 64 == 0) & (1 <= n) & (n <= 256) & !any_high(input)

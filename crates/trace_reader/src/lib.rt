@@ -1,6 +1,6 @@
 // A reader of a recording (R19.3), which goes from one record to the next: what an author's own program goes by. The programs here go by offsets.
 ghost use Rattle.std.specs.Prelude.{◌≡◌, length, leb};
-ghost use Rattle.trace_record.specs.Record.{recordAt};
+ghost use Rattle.trace_record.specs.Record.{record_at};
 ghost use Rattle.trace_record.specs.Reader.{past};
 
 use trace_record::Record;
@@ -37,7 +37,7 @@ impl<'a> Reader<'a> {
 
     // The record that it hands out next, which is the one that it stands at.
     pub fn next_record(self) -> Record
-        ensures { result ≡ recordAt self.entry.recording.now self.entry.at }
+        ensures { result ≡ record_at self.entry.recording.now self.entry.at }
     {
         trace_record::record_at(self.recording, self.at)
     }

@@ -13,13 +13,13 @@ use Rattle.laws.proofs.Tests.{either, split, clash}
 use Rattle.refusal.specs.declared.Refusal.TheVariants.{Accepted, RecordRoom}
 use Rattle.trace_record.specs.declared.Record.{Record}
 use Rattle.trace_record.specs.declared.Record.TheVariants.{Write, Read, Step, Bad, End}
-use Rattle.trace_record.specs.Record.{recordAt, marked}
-use Rattle.trace_record.specs.Writer.{recordBytes, size, recorded, RecordLeaves}
+use Rattle.trace_record.specs.Record.{record_at, marked}
+use Rattle.trace_record.specs.Writer.{record_bytes, size, recorded, RecordLeaves}
 use Rattle.trace_record.specs.Reader.{is_call}
 
 -- a record lies in the recording
-pub fits : (s : List ℕ) (k : ℕ) → size (recordAt s k) ≤ length s - k
-unfolding recordAt marked
+pub fits : (s : List ℕ) (k : ℕ) → size (record_at s k) ≤ length s - k
+unfolding record_at marked
 fits s k =
     let n = length s - k in
     let m = 256 * at s k + at s (k + 1) in
@@ -42,7 +42,7 @@ call_long (Step a) e = omega arith
 call_long Bad e = clash (sym e)
 call_long End e = clash (sym e)
 
-pub no_call : (x : Record) → is_call x ≡ false → recordBytes x ≡ []
+pub no_call : (x : Record) → is_call x ≡ false → record_bytes x ≡ []
 no_call (Write p v) e = clash e
 no_call (Read p) e = clash e
 no_call (Step a) e = clash e
@@ -53,37 +53,37 @@ no_call End e = refl
 pub no_room : (n k c : ℕ) → n < k → false ≡ leb (k + c) n
 no_room n k c h = sym (lt-leb (k + c) n (omega arith))
 
-pub room-is : (n k c : ℕ) → k ≤ n → leb c (n - k) ≡ leb (k + c) n
-room-is n k c h =
+pub room_is : (n k c : ℕ) → k ≤ n → leb c (n - k) ≡ leb (k + c) n
+room_is n k c h =
     split (leb c (n - k))
     (λ t. t ∙ sym (le-leb (k + c) n (omega (arith, leb-true c (n - k) t))))
     (λ t. t ∙ sym (lt-leb (k + c) n (omega (arith, leb-false c (n - k) t))))
 
 -- the bytes of a record, of the four that have them in front
-module _ (x : Record) {c : ℕ} (count : c ≡ size x) (l : List ℕ) (e : take (size x) l ≡ recordBytes x) where
-  bytes-are : take c l ≡ recordBytes x
-  bytes-are = ap (λ (n : ℕ). take n l) count ∙ e
+module _ (x : Record) {c : ℕ} (count : c ≡ size x) (l : List ℕ) (e : take (size x) l ≡ record_bytes x) where
+  bytes_are : take c l ≡ record_bytes x
+  bytes_are = ap (λ (n : ℕ). take n l) count ∙ e
 
   pub bytes_count : c ≡ length (take c l)
-  bytes_count = count ∙ sym (ap length bytes-are)
+  bytes_count = count ∙ sym (ap length bytes_are)
 
 -- ---- what the writer leaves, without room and with it
 module _ (s : List ℕ) (k : ℕ) (x : Record) {c : ℕ} {b : Bool} (count : c ≡ size x) (room : b ≡ leb (k + c) (length s)) where
-  pub room_for : b ≡ true → (l : List ℕ) → take (size x) l ≡ recordBytes x → k + length (take c l) ≤ length s
+  pub room_for : b ≡ true → (l : List ℕ) → take (size x) l ≡ record_bytes x → k + length (take c l) ≤ length s
   room_for t l e = let h = leb-true (k + c) (length s) (sym room ∙ t) in omega (arith, bytes_count x count l e)
 
-  too_long : b ≡ false → ltb (length s) (k + size x) ≡ true
-  too_long t = let h = leb-false (k + c) (length s) (sym room ∙ t) in lt-ltb (length s) (k + size x) (omega arith)
+  too_long_lem : b ≡ false → ltb (length s) (k + size x) ≡ true
+  too_long_lem t = let h = leb-false (k + c) (length s) (sym room ∙ t) in lt-ltb (length s) (k + size x) (omega arith)
 
-  pub left-full : b ≡ false → RecordLeaves s k x (record { refusal = RecordRoom; count = 0 }) s
+  pub left_full : b ≡ false → RecordLeaves s k x (record { refusal = RecordRoom; count = 0 }) s
   unfolding recorded
-  left-full t = let e = too_long t in record { refusal = simp e; count = simp e; recording = simp e }
+  left_full t = let e = too_long_lem t in record { refusal = simp e; count = simp e; recording = simp e }
 
-  pub left-stored :
-      b ≡ true → (l : List ℕ) → take (size x) l ≡ recordBytes x → {s' : List ℕ} → s' ≡ written s k (take c l)
+  pub left_stored :
+      b ≡ true → (l : List ℕ) → take (size x) l ≡ record_bytes x → {s' : List ℕ} → s' ≡ written s k (take c l)
       → RecordLeaves s k x (record { refusal = Accepted; count = c }) s'
   unfolding recorded
-  left-stored t l f q =
+  left_stored t l f q =
       let h = leb-true (k + c) (length s) (sym room ∙ t) in
       let e : ltb (length s) (k + size x) ≡ false = le-ltb (length s) (k + size x) (omega arith) in
-      record { refusal = simp e; count = simp e count; recording = simp e (q ∙ ap (written s k) (bytes-are x count l f)) }
+      record { refusal = simp e; count = simp e count; recording = simp e (q ∙ ap (written s k) (bytes_are x count l f)) }

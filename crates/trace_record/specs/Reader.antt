@@ -3,7 +3,7 @@
 use Rattle.std.specs.Prelude.{Bool, true, false, cond, List, [], ◌∷◌, ℕ, zero, suc, ◌+◌, length}
 use Rattle.trace_record.specs.declared.Record.{Record}
 use Rattle.trace_record.specs.declared.Record.TheVariants.{Write, Read, Step, Bad, End}
-use Rattle.trace_record.specs.Record.{recordAt}
+use Rattle.trace_record.specs.Record.{record_at}
 use Rattle.trace_record.specs.Writer.{size}
 
 -- whether it is a write, a read or a step
@@ -16,12 +16,12 @@ is_call End = false
 
 -- R19.3: the offset behind the record at offset k; at a bad record and at the end the reader stays where it is
 unfoldable pub past : List ℕ → ℕ → ℕ
-past s k = k + size (recordAt s k)
+past s k = k + size (record_at s k)
 
 -- R19.4: the calls that it hands out in n turns from offset k on, until there is none, and where it then stands
 unfoldable pub handed : ℕ → List ℕ → ℕ → List Record
 handed zero s k = []
-handed (suc n) s k = cond (is_call (recordAt s k)) (recordAt s k ∷ handed n s (past s k)) []
+handed (suc n) s k = cond (is_call (record_at s k)) (record_at s k ∷ handed n s (past s k)) []
 
 unfoldable pub place : ℕ → List ℕ → ℕ → ℕ
 place zero s k = k

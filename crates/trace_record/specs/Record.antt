@@ -2,7 +2,7 @@
 -- Assumes nothing.
 use Rattle.std.specs.Prelude.{cond, List, ℕ, ◌+◌, ◌-◌, ◌*◌, ltb, leb, eqb, length}
 use Rattle.laws.specs.Lists.{at}
-use Rattle.picture.specs.Area.{areaFrom}
+use Rattle.picture.specs.Area.{area_from}
 use Rattle.trace_record.specs.declared.Record.{Record}
 use Rattle.trace_record.specs.declared.Record.TheVariants.{Write, Read, Step, Bad, End}
 
@@ -12,9 +12,9 @@ unfoldable pub marked : List ℕ → ℕ → ℕ → ℕ → Record
 marked s k n m =
     cond (eqb m 0x5057) (cond (ltb n 4) Bad (Write (at s (k + 2)) (at s (k + 3))))
     (cond (eqb m 0x5052) (Read (at s (k + 2)))
-    (cond (eqb m 0x4C53) (cond (ltb 2 (at s (k + 2))) Bad (Step (areaFrom (at s (k + 2))))) Bad))
+    (cond (eqb m 0x4C53) (cond (ltb 2 (at s (k + 2))) Bad (Step (area_from (at s (k + 2))))) Bad))
 
 -- the record at offset k: the shortest has 3 bytes, and the mark is the first two
-unfoldable pub recordAt : List ℕ → ℕ → Record
-recordAt s k =
+unfoldable pub record_at : List ℕ → ℕ → Record
+record_at s k =
     cond (leb (length s) k) End (cond (ltb (length s - k) 3) Bad (marked s k (length s - k) (256 * at s k + at s (k + 1))))

@@ -11,32 +11,32 @@ use Rattle.trace_record.specs.declared.Record.TheVariants.{Write, Read, Step, Ba
 use Rattle.trace_record.specs.declared.Recorded.{Recorded}
 
 -- R7.9: the number of an area
-abbrev pub areaNumber : RenderArea → ℕ
-areaNumber VisibleOnly = 0
-areaNumber EffectiveArea = 1
-areaNumber TrueEdges = 2
+abbrev pub area_number : RenderArea → ℕ
+area_number VisibleOnly = 0
+area_number EffectiveArea = 1
+area_number TrueEdges = 2
 
 -- R7.9: the bytes of a record: `PW` port value, `PR` port, `LS` area; a bad one and the end are none
-abbrev pub recordBytes : Record → List ℕ
-recordBytes (Write port value) = 0x50 ∷ 0x57 ∷ port ∷ value ∷ []
-recordBytes (Read port) = 0x50 ∷ 0x52 ∷ port ∷ []
-recordBytes (Step area) = 0x4C ∷ 0x53 ∷ areaNumber area ∷ []
-recordBytes Bad = []
-recordBytes End = []
+abbrev pub record_bytes : Record → List ℕ
+record_bytes (Write port value) = 0x50 ∷ 0x57 ∷ port ∷ value ∷ []
+record_bytes (Read port) = 0x50 ∷ 0x52 ∷ port ∷ []
+record_bytes (Step area) = 0x4C ∷ 0x53 ∷ area_number area ∷ []
+record_bytes Bad = []
+record_bytes End = []
 
 abbrev pub size : Record → ℕ
-size x = length (recordBytes x)
+size x = length (record_bytes x)
 
 -- R19.2, refusal 18: the record is longer than the room from offset k to the end of s; past the end there is none
-abbrev pub recordLines : List ℕ → ℕ → Record → List Line
-recordLines s k x = line (ltb (length s) (k + size x)) RecordRoom ∷ []
+abbrev pub record_lines : List ℕ → ℕ → Record → List Line
+record_lines s k x = line (ltb (length s) (k + size x)) RecordRoom ∷ []
 
 -- R19.1: the recording with the record in its bytes from offset k on, and all others as they were; refused, it stays
 unfoldable pub recorded : List ℕ → ℕ → Record → List ℕ
-recorded s k x = under (recordLines s k x) (λ r. s) (written s k (recordBytes x))
+recorded s k x = under (record_lines s k x) (λ r. s) (written s k (record_bytes x))
 
 -- What the writer promises of its answer r, and of the recording after it.
 pub record RecordLeaves (s : List ℕ) (k : ℕ) (x : Record) (r : Recorded) (s' : List ℕ) : Type 0 where
-  pub refusal : r.refusal ≡ first (recordLines s k x)
-  pub count : r.count ≡ under (recordLines s k x) (λ r. 0) (size x)
+  pub refusal : r.refusal ≡ first (record_lines s k x)
+  pub count : r.count ≡ under (record_lines s k x) (λ r. 0) (size x)
   pub recording : s' ≡ recorded s k x

@@ -1,9 +1,9 @@
 // The records of a recording (R7.9): what stands at an offset, and a record put behind those that are there. (A reader of them: crate `trace_reader`.)
 ghost use Rattle.std.specs.Prelude.{◌≡◌, ◌+◌, ◌≤◌, length, take, leb};
 ghost use Rattle.laws.specs.Lists.{written};
-ghost use Rattle.trace_record.specs.Record.{recordAt, marked};
-ghost use Rattle.trace_record.specs.Machine.{hasArea, recordOn};
-ghost use Rattle.trace_record.specs.Writer.{areaNumber, recordBytes, size, RecordLeaves};
+ghost use Rattle.trace_record.specs.Record.{record_at, marked};
+ghost use Rattle.trace_record.specs.Machine.{has_area, record_on};
+ghost use Rattle.trace_record.specs.Writer.{area_number, record_bytes, size, RecordLeaves};
 
 use picture::RenderArea;
 use refusal::Refusal;
@@ -44,7 +44,7 @@ fn record_marked(s: &[u8], at: usize, left: usize, mark: u16) -> Record
 
 // The record at this offset. Its mark is two bytes, the first one the higher.
 pub fn record_at(s: &[u8], at: usize) -> Record
-    ensures { result ≡ recordAt s.now at }
+    ensures { result ≡ record_at s.now at }
 {
     if s.len() <= at {
         return Record::End;
@@ -68,7 +68,7 @@ pub enum Machine {
 
 // Whether a machine has steps of this area.
 fn has_area(machine: Machine, area: RenderArea) -> bool
-    ensures { result ≡ hasArea machine area }
+    ensures { result ≡ has_area machine area }
 {
     match machine {
         Machine::Handheld => true,
@@ -82,7 +82,7 @@ fn has_area(machine: Machine, area: RenderArea) -> bool
 
 // R20.9: the record at this offset; a step of an area that the machine has not is bad.
 pub fn record_on(machine: Machine, s: &[u8], at: usize) -> Record
-    ensures { result ≡ recordOn machine s.now at }
+    ensures { result ≡ record_on machine s.now at }
 {
     let record = record_at(s, at);
     let Record::Step(area) = record else {
@@ -105,7 +105,7 @@ pub struct Recorded {
 
 // The number of an area.
 pub fn area_number(area: RenderArea) -> u8
-    ensures { result ≡ areaNumber area }
+    ensures { result ≡ area_number area }
 {
     match area {
         RenderArea::VisibleOnly => 0,
@@ -130,7 +130,7 @@ pub fn size_of(call: Record) -> u8
 
 // Its bytes, with zeros behind them up to four.
 fn bytes_of(call: Record) -> [u8; 4]
-    ensures { take (size call) result ≡ recordBytes call }
+    ensures { take (size call) result ≡ record_bytes call }
 {
     match call {
         Record::Write(port, value) => [b'P', b'W', port, value],

@@ -13,12 +13,12 @@ use Rattle.refusal.specs.declared.Refusal.{Refusal}
 use Rattle.refusal.specs.declared.Refusal.TheVariants.{Accepted, UnknownPort, HorizontalCounter, HighRegister, NothingChosen, PaletteRead, NoPaletteByte}
 use Rattle.refusal.specs.declared.Refusal.TheVariants.{OutsideMemory, VramLength, PixelLength, BlockMalformed, UnknownArea, FrameTooLong, UnknownTile}
 use Rattle.refusal.specs.declared.Refusal.TheVariants.{CodesLength, HighCode, LayerLength, ListLength, RecordRoom}
-use Rattle.refusal.specs.Refusals.{refusalNumber}
+use Rattle.refusal.specs.Refusals.{refusal_number}
 use Rattle.trace_run.specs.declared.Device.{Device}
-use Rattle.trace_text.specs.Text.{digitOf, decimal}
-use Rattle.trace_run.specs.Run.{start, rowTurn, ran}
+use Rattle.trace_text.specs.Text.{digit_of, decimal}
+use Rattle.trace_run.specs.Run.{start, row_turn, ran}
 use Rattle.trace_text.proofs.Lines.{one}
-use Rattle.trace_run.proofs.Runs.{row-moves, ran-small}
+use Rattle.trace_run.proofs.Runs.{row_moves, ran_small}
 
 -- the number that decimal digits spell, read from the left behind the number k
 abbrev pub spelt : ℕ → List ℕ → ℕ
@@ -26,97 +26,97 @@ spelt k [] = k
 spelt k (d ∷ ds) = spelt (10 * k + (d - 48)) ds
 
 -- the digits, by the tests that lead to them
-two : (n : ℕ) → 10 ≤ n → n < 100 → decimal n ≡ digitOf (n / 10) ∷ digitOf n ∷ []
+two : (n : ℕ) → 10 ≤ n → n < 100 → decimal n ≡ digit_of (n / 10) ∷ digit_of n ∷ []
 unfolding decimal
 two n g h = rw (le-ltb n 10 g, lt-ltb n 100 h)
 
-three : (n : ℕ) → 100 ≤ n → n < 1000 → decimal n ≡ digitOf (n / 100) ∷ digitOf (n / 10) ∷ digitOf n ∷ []
+three : (n : ℕ) → 100 ≤ n → n < 1000 → decimal n ≡ digit_of (n / 100) ∷ digit_of (n / 10) ∷ digit_of n ∷ []
 unfolding decimal
 three n g h = rw (le-ltb n 10 (omega arith), le-ltb n 100 g, lt-ltb n 1000 h)
 
-four : (n : ℕ) → 1000 ≤ n → n < 10000 → decimal n ≡ digitOf (n / 1000) ∷ digitOf (n / 100) ∷ digitOf (n / 10) ∷ digitOf n ∷ []
+four : (n : ℕ) → 1000 ≤ n → n < 10000 → decimal n ≡ digit_of (n / 1000) ∷ digit_of (n / 100) ∷ digit_of (n / 10) ∷ digit_of n ∷ []
 unfolding decimal
 four n g h = rw (le-ltb n 10 (omega arith), le-ltb n 100 (omega arith), le-ltb n 1000 g, lt-ltb n 10000 h)
 
-five : (n : ℕ) → 10000 ≤ n → decimal n ≡ digitOf (n / 10000) ∷ digitOf (n / 1000) ∷ digitOf (n / 100) ∷ digitOf (n / 10) ∷ digitOf n ∷ []
+five : (n : ℕ) → 10000 ≤ n → decimal n ≡ digit_of (n / 10000) ∷ digit_of (n / 1000) ∷ digit_of (n / 100) ∷ digit_of (n / 10) ∷ digit_of n ∷ []
 unfolding decimal
 five n g = rw (le-ltb n 10 (omega arith), le-ltb n 100 (omega arith), le-ltb n 1000 (omega arith), le-ltb n 10000 g)
 
 -- a first digit, and one digit more: q is what stands before the last digit of n
-first : (q : ℕ) → q < 10 → 10 * 0 + (digitOf q - 48) ≡ q
+first : (q : ℕ) → q < 10 → 10 * 0 + (digit_of q - 48) ≡ q
 first q h = omega arith
 
-more : {k : ℕ} (q n : ℕ) → q ≡ n / 10 → k ≡ q → 10 * k + (digitOf n - 48) ≡ n
+more : {k : ℕ} (q n : ℕ) → q ≡ n / 10 → k ≡ q → 10 * k + (digit_of n - 48) ≡ n
 more q n e f = omega arith
 
-below-100 : (n : ℕ) → n < 100 → n / 10 < 10
-below-100 n h = omega arith
+below_100 : (n : ℕ) → n < 100 → n / 10 < 10
+below_100 n h = omega arith
 
-below-1000 : (n : ℕ) → n < 1000 → n / 100 < 10
-below-1000 n h = omega arith
+below_1000 : (n : ℕ) → n < 1000 → n / 100 < 10
+below_1000 n h = omega arith
 
-below-10000 : (n : ℕ) → n < 10000 → n / 1000 < 10
-below-10000 n h = omega arith
+below_10000 : (n : ℕ) → n < 10000 → n / 1000 < 10
+below_10000 n h = omega arith
 
-below-100000 : (n : ℕ) → n < 100000 → n / 10000 < 10
-below-100000 n h = omega arith
+below_100000 : (n : ℕ) → n < 100000 → n / 10000 < 10
+below_100000 n h = omega arith
 
 -- a number of at most five digits reads back
-pub reads-back : (n : ℕ) → n < 100000 → spelt 0 (decimal n) ≡ n
-reads-back n h =
+pub reads_back : (n : ℕ) → n < 100000 → spelt 0 (decimal n) ≡ n
+reads_back n h =
     let h1 : n / 100 ≡ n / 10 / 10 = sym (div-div-eq-div-mul n 10 10) in
     let h2 : n / 1000 ≡ n / 100 / 10 = sym (div-div-eq-div-mul n 100 10) in
     let h3 : n / 10000 ≡ n / 1000 / 10 = sym (div-div-eq-div-mul n 1000 10) in
     split (ltb n 10) (λ t. rw (one n (ltb-true n 10 t)) (first n (ltb-true n 10 t)))
     (λ t.
     split (ltb n 100)
-    (λ u. let b = ltb-true n 100 u in rw (two n (ltb-false n 10 t) b) (more (n / 10) n refl (first (n / 10) (below-100 n b))))
+    (λ u. let b = ltb-true n 100 u in rw (two n (ltb-false n 10 t) b) (more (n / 10) n refl (first (n / 10) (below_100 n b))))
     (λ u.
     split (ltb n 1000)
     (λ v.
     let b = ltb-true n 1000 v in
-    rw (three n (ltb-false n 100 u) b) (more (n / 10) n refl (more (n / 100) (n / 10) h1 (first (n / 100) (below-1000 n b)))))
+    rw (three n (ltb-false n 100 u) b) (more (n / 10) n refl (more (n / 100) (n / 10) h1 (first (n / 100) (below_1000 n b)))))
     (λ v.
     split (ltb n 10000)
     (λ w.
     let b = ltb-true n 10000 w in
     rw (four n (ltb-false n 1000 v) b)
-    (more (n / 10) n refl (more (n / 100) (n / 10) h1 (more (n / 1000) (n / 100) h2 (first (n / 1000) (below-10000 n b))))))
+    (more (n / 10) n refl (more (n / 100) (n / 10) h1 (more (n / 1000) (n / 100) h2 (first (n / 1000) (below_10000 n b))))))
     (λ w.
     rw (five n (ltb-false n 10000 w))
     (more (n / 10) n refl
-    (more (n / 100) (n / 10) h1 (more (n / 1000) (n / 100) h2 (more (n / 10000) (n / 1000) h3 (first (n / 10000) (below-100000 n h))))))))))
+    (more (n / 100) (n / 10) h1 (more (n / 1000) (n / 100) h2 (more (n / 10000) (n / 1000) h3 (first (n / 10000) (below_100000 n h))))))))))
 
 -- every number that is printed in decimal is one: refusals, interrupts, reports, and places and counts in a recording that is not too long
-pub refusal-low : (f : Refusal) → refusalNumber f < 100000
-refusal-low Accepted = lit≤ tt
-refusal-low UnknownPort = lit≤ tt
-refusal-low HorizontalCounter = lit≤ tt
-refusal-low HighRegister = lit≤ tt
-refusal-low NothingChosen = lit≤ tt
-refusal-low PaletteRead = lit≤ tt
-refusal-low NoPaletteByte = lit≤ tt
-refusal-low OutsideMemory = lit≤ tt
-refusal-low VramLength = lit≤ tt
-refusal-low PixelLength = lit≤ tt
-refusal-low BlockMalformed = lit≤ tt
-refusal-low UnknownArea = lit≤ tt
-refusal-low FrameTooLong = lit≤ tt
-refusal-low UnknownTile = lit≤ tt
-refusal-low CodesLength = lit≤ tt
-refusal-low HighCode = lit≤ tt
-refusal-low LayerLength = lit≤ tt
-refusal-low ListLength = lit≤ tt
-refusal-low RecordRoom = lit≤ tt
+pub refusal_low : (f : Refusal) → refusal_number f < 100000
+refusal_low Accepted = lit≤ tt
+refusal_low UnknownPort = lit≤ tt
+refusal_low HorizontalCounter = lit≤ tt
+refusal_low HighRegister = lit≤ tt
+refusal_low NothingChosen = lit≤ tt
+refusal_low PaletteRead = lit≤ tt
+refusal_low NoPaletteByte = lit≤ tt
+refusal_low OutsideMemory = lit≤ tt
+refusal_low VramLength = lit≤ tt
+refusal_low PixelLength = lit≤ tt
+refusal_low BlockMalformed = lit≤ tt
+refusal_low UnknownArea = lit≤ tt
+refusal_low FrameTooLong = lit≤ tt
+refusal_low UnknownTile = lit≤ tt
+refusal_low CodesLength = lit≤ tt
+refusal_low HighCode = lit≤ tt
+refusal_low LayerLength = lit≤ tt
+refusal_low ListLength = lit≤ tt
+refusal_low RecordRoom = lit≤ tt
 
-pub place-low : (d : Device) (s : List ℕ) (vram row frame : List ℕ) → length s ≤ 65535 → (ran rowTurn s (start d vram row frame)).run.at < 100000
+pub place_low : (d : Device) (s : List ℕ) (vram row frame : List ℕ) → length s ≤ 65535 → (ran row_turn s (start d vram row frame)).run.at < 100000
 unfolding ran
-place-low d s vram row frame h =
-    let g = ran-small row-moves (length s) s (start d vram row frame) refl refl refl in
+place_low d s vram row frame h =
+    let g = ran_small row_moves (length s) s (start d vram row frame) refl refl refl in
     omega (arith, g.inside)
 
-pub count_low : (d : Device) (s : List ℕ) (vram row frame : List ℕ) → length s ≤ 65535 → (ran rowTurn s (start d vram row frame)).run.count < 100000
+pub count_low : (d : Device) (s : List ℕ) (vram row frame : List ℕ) → length s ≤ 65535 → (ran row_turn s (start d vram row frame)).run.count < 100000
 unfolding ran
 count_low d s vram row frame h =
-    let g = ran-small row-moves (length s) s (start d vram row frame) refl refl refl in
+    let g = ran_small row_moves (length s) s (start d vram row frame) refl refl refl in
     omega (arith, g.inside, g.counted)

@@ -8,21 +8,21 @@ use native.Mathlib.Omega.{arith}
 use lib.ListN.{length}
 use Rattle.laws.specs.Lists.{at}
 use Rattle.laws.specs.Paint.{painted}
-use Rattle.laws.proofs.Paint.{painted-cong}
+use Rattle.laws.proofs.Paint.{painted_cong}
 use Rattle.laws.proofs.Tests.{split}
-use Rattle.picture.proofs.Layers.{layersIn-at}
+use Rattle.picture.proofs.Layers.{layers_in-at}
 use Rattle.picture.specs.declared.RenderArea.{RenderArea}
 use Rattle.picture.specs.declared.RenderArea.TheVariants.{VisibleOnly, EffectiveArea, TrueEdges}
-use Rattle.picture.specs.Area.{screenOf, columns, rows, frameSize}
+use Rattle.picture.specs.Area.{screen_of, columns, rows, frame_size}
 use Rattle.vdp.specs.declared.VdpState.{VdpState}
 use Rattle.vdp.specs.declared.Written.{Written}
 use Rattle.vdp.specs.declared.ReadBack.{ReadBack}
 use Rattle.refusal.specs.Refusals.{Line}
-use Rattle.vdp.specs.Ports.{portRead, WriteLeaves}
+use Rattle.vdp.specs.Ports.{port_read, WriteLeaves}
 use Rattle.points.specs.declared.DrawnRow.{DrawnRow}
 use Rattle.points.specs.declared.DrawnRow.TheVariants.{NoRow, Drawn}
 use Rattle.step.specs.declared.Stepped.{Stepped}
-use Rattle.step.specs.Step.{line_of, counterUp, rowOn, stepped, row_lines, stepWith, rowStep}
+use Rattle.step.specs.Step.{line_of, counter_up, row_on, stepped, row_lines, step_with, row_step_of}
 use Rattle.points.specs.Points.{RowIn, points_of}
 use Rattle.step.specs.Frame.{RowStepLeaves, FrameStepLeaves}
 use Rattle.home.specs.declared.HomeWritten.{HomeWritten}
@@ -30,8 +30,8 @@ use Rattle.home.specs.declared.HomeRead.{HomeRead}
 use Rattle.home.specs.declared.HomeStepped.{HomeStepped}
 use Rattle.home.specs.Ports as homePorts
 use Rattle.home.specs.Step as homeStep
-use Rattle.points.specs.Bytes.{layersBy, alsoLayers}
-use Rattle.step.specs.Layers.{rowLayers, layersAfter, RowLayersLeave}
+use Rattle.points.specs.Bytes.{layers_by, also_layers}
+use Rattle.step.specs.Layers.{row_layers, layers_after, RowLayersLeave}
 use Rattle.points.proofs.Rows.{row_in}
 use Rattle.step.proofs.Steps.{aside}
 use Rattle.trace_record.specs.declared.Record.{Record}
@@ -43,11 +43,11 @@ use Rattle.trace_text.specs.declared.Answer.TheVariants as Says
 use Rattle.trace_run.specs.declared.Shown.{Shown}
 use Rattle.trace_run.specs.declared.Shown.TheVariants.{Nothing, Colours, Layers}
 use Rattle.trace_run.specs.declared.Turned.{Turned}
-use Rattle.trace_record.specs.Machine.{recordOn}
-use Rattle.trace_run.specs.Device.{withVdp, withHome, AfterStep, wrote, gave, ofHandheld, ofHome, writeOn, read_on, rowStepOn, frameStepOn}
-use Rattle.trace_run.specs.Device.{deviceWrite, deviceRead, deviceRowStep, deviceFrameStep}
-use Rattle.trace_run.specs.Run.{World, Turn, held, on, stepAnswer, rowTurn, intoFrame, frameTurn, layerColour, layersPainted, layersOn}
-use Rattle.trace_run.specs.Run.{layersInto, layerTurn, shownOf, frame_for, turnFor, turnBy, turn_of, TurnLeaves, writeTurned, readTurned, stepTurned}
+use Rattle.trace_record.specs.Machine.{record_on}
+use Rattle.trace_run.specs.Device.{with_vdp, with_home, AfterStep, wrote, gave, of_handheld, of_home, write_on, read_on, row_step_on, frame_step_on}
+use Rattle.trace_run.specs.Device.{device_write, device_read, device_row_step, device_frame_step}
+use Rattle.trace_run.specs.Run.{World, Turn, held, on, step_answer, row_turn, into_frame, frame_turn, layer_colour, layers_painted, layers_on}
+use Rattle.trace_run.specs.Run.{layers_into, layer_turn, shown_of, frame_for, turn_for, turn_by, turn_of, TurnLeaves, write_turned, read_turned, step_turned}
 
 -- the same turn, said in another way
 same_turn : {u v : Turn} {t : Turned} {vram row frame : List ℕ} → u ≡ v → TurnLeaves u t vram row frame → TurnLeaves v t vram row frame
@@ -55,69 +55,69 @@ same_turn e h = record { answer = h.answer ∙ ap (λ (x : Turn). x.answer) e; w
 
 -- ---- a call of either machine, as its own contract has it, is one of the device
 module _ (d : Device) (m : List ℕ) (p : ℕ) where
-  pub handheld-wrote : (v : ℕ) {r : Written} {m' : List ℕ} → d.machine ≡ Handheld → WriteLeaves d.vdp m p v r m' → wrote r.refusal
-      (withVdp d r.vdp) m' ≡ deviceWrite d m p v
-  handheld-wrote v e h = (λ i. wrote (h.answer i).refusal (withVdp d (h.answer i).vdp) (h.memory i)) ∙ ap (λ (k : Machine). writeOn k d m p v)
+  pub handheld_wrote : (v : ℕ) {r : Written} {m' : List ℕ} → d.machine ≡ Handheld → WriteLeaves d.vdp m p v r m' → wrote r.refusal
+      (with_vdp d r.vdp) m' ≡ device_write d m p v
+  handheld_wrote v e h = (λ i. wrote (h.answer i).refusal (with_vdp d (h.answer i).vdp) (h.memory i)) ∙ ap (λ (k : Machine). write_on k d m p v)
       (sym e)
 
-  pub home-wrote : (v : ℕ) {r : HomeWritten} {m' : List ℕ} → d.machine ≡ Home → homePorts.WriteLeaves d.home m p v r m' → wrote r.refusal
-      (withHome d r.home) m' ≡ deviceWrite d m p v
-  home-wrote v e h = (λ i. wrote (h.answer i).refusal (withHome d (h.answer i).home) (h.memory i)) ∙ ap (λ (k : Machine). writeOn k d m p v)
+  pub home_wrote : (v : ℕ) {r : HomeWritten} {m' : List ℕ} → d.machine ≡ Home → homePorts.WriteLeaves d.home m p v r m' → wrote r.refusal
+      (with_home d r.home) m' ≡ device_write d m p v
+  home_wrote v e h = (λ i. wrote (h.answer i).refusal (with_home d (h.answer i).home) (h.memory i)) ∙ ap (λ (k : Machine). write_on k d m p v)
       (sym e)
 
-  pub handheld-gave : {r : ReadBack} → d.machine ≡ Handheld → r ≡ portRead d.vdp m p → gave r.refusal r.byte (withVdp d r.vdp) ≡
-      deviceRead d m p
-  handheld-gave e h = (λ i. gave (h i).refusal (h i).byte (withVdp d (h i).vdp)) ∙ ap (λ (k : Machine). read_on k d m p) (sym e)
+  pub handheld_gave : {r : ReadBack} → d.machine ≡ Handheld → r ≡ port_read d.vdp m p → gave r.refusal r.byte (with_vdp d r.vdp) ≡
+      device_read d m p
+  handheld_gave e h = (λ i. gave (h i).refusal (h i).byte (with_vdp d (h i).vdp)) ∙ ap (λ (k : Machine). read_on k d m p) (sym e)
 
-  pub home-gave : {r : HomeRead} → d.machine ≡ Home → r ≡ homePorts.portRead d.home m p → gave r.refusal r.byte (withHome d r.home) ≡
-      deviceRead d m p
-  home-gave e h = (λ i. gave (h i).refusal (h i).byte (withHome d (h i).home)) ∙ ap (λ (k : Machine). read_on k d m p) (sym e)
+  pub home_gave : {r : HomeRead} → d.machine ≡ Home → r ≡ homePorts.port_read d.home m p → gave r.refusal r.byte (with_home d r.home) ≡
+      device_read d m p
+  home_gave e h = (λ i. gave (h i).refusal (h i).byte (with_home d (h i).home)) ∙ ap (λ (k : Machine). read_on k d m p) (sym e)
 
 module _ (a : RenderArea) (d : Device) (vram : List ℕ) where
-  pub handheld-row :
-      {row row' : List ℕ} {k : Stepped} → d.machine ≡ Handheld → RowStepLeaves a vram d.vdp row k row' → ofHandheld d k row' ≡ deviceRowStep a d
+  pub handheld_row :
+      {row row' : List ℕ} {k : Stepped} → d.machine ≡ Handheld → RowStepLeaves a vram d.vdp row k row' → of_handheld d k row' ≡ device_row_step a d
       vram row
-  handheld-row {row} e h = (λ i. ofHandheld d (h.answer i) (h.bytes i)) ∙ ap (λ (m : Machine). rowStepOn m a d vram row) (sym e)
+  handheld_row {row} e h = (λ i. of_handheld d (h.answer i) (h.bytes i)) ∙ ap (λ (m : Machine). row_step_on m a d vram row) (sym e)
 
-  pub home-row :
-      {row row' : List ℕ} {k : HomeStepped} → d.machine ≡ Home → homeStep.RowStepLeaves vram d.home row k row' → ofHome d k row' ≡ deviceRowStep
+  pub home_row_lem :
+      {row row' : List ℕ} {k : HomeStepped} → d.machine ≡ Home → homeStep.RowStepLeaves vram d.home row k row' → of_home d k row' ≡ device_row_step
       a d vram row
-  home-row {row} e h = (λ i. ofHome d (h.answer i) (h.bytes i)) ∙ ap (λ (m : Machine). rowStepOn m a d vram row) (sym e)
+  home_row_lem {row} e h = (λ i. of_home d (h.answer i) (h.bytes i)) ∙ ap (λ (m : Machine). row_step_on m a d vram row) (sym e)
 
-  pub handheld-frame :
+  pub handheld_frame :
       {frame frame' : List ℕ} {k : Stepped} → d.machine ≡ Handheld → FrameStepLeaves a vram d.vdp frame k frame'
-      → ofHandheld d k frame' ≡ deviceFrameStep a d vram frame
-  handheld-frame {frame} e h = (λ i. ofHandheld d (h.answer i) (h.bytes i)) ∙ ap (λ (m : Machine). frameStepOn m a d vram frame) (sym e)
+      → of_handheld d k frame' ≡ device_frame_step a d vram frame
+  handheld_frame {frame} e h = (λ i. of_handheld d (h.answer i) (h.bytes i)) ∙ ap (λ (m : Machine). frame_step_on m a d vram frame) (sym e)
 
-  pub home-frame :
+  pub home_frame :
       {frame frame' : List ℕ} {k : HomeStepped} → d.machine ≡ Home → homeStep.FrameStepLeaves vram d.home frame k frame'
-      → ofHome d k frame' ≡ deviceFrameStep a d vram frame
-  home-frame {frame} e h = (λ i. ofHome d (h.answer i) (h.bytes i)) ∙ ap (λ (m : Machine). frameStepOn m a d vram frame) (sym e)
+      → of_home d k frame' ≡ device_frame_step a d vram frame
+  home_frame {frame} e h = (λ i. of_home d (h.answer i) (h.bytes i)) ∙ ap (λ (m : Machine). frame_step_on m a d vram frame) (sym e)
 
 -- a step into the row buffer, and one into the frame
-module _ (a : RenderArea) (w : World) {k : AfterStep} {t : Turned} (et : t ≡ stepTurned w.run k) where
-  pub row-stepped : k ≡ deviceRowStep a w.run.device w.vram w.row → TurnLeaves (rowTurn a w) t w.vram k.buffer w.frame
-  unfolding rowTurn
-  row-stepped h =
-      let e = et ∙ ap (stepTurned w.run) h in
+module _ (a : RenderArea) (w : World) {k : AfterStep} {t : Turned} (et : t ≡ step_turned w.run k) where
+  pub row_stepped : k ≡ device_row_step a w.run.device w.vram w.row → TurnLeaves (row_turn a w) t w.vram k.buffer w.frame
+  unfolding row_turn
+  row_stepped h =
+      let e = et ∙ ap (step_turned w.run) h in
       record { answer = ap (λ (x : Turned). x.answer) e; world = λ i. held (e i).run w.vram (h i).buffer w.frame }
 
-  pub frame-stepped : k ≡ deviceFrameStep a w.run.device w.vram w.frame → TurnLeaves (intoFrame a w) t w.vram w.row k.buffer
-  unfolding intoFrame
-  frame-stepped h =
-      let e = et ∙ ap (stepTurned w.run) h in
+  pub frame_stepped : k ≡ device_frame_step a w.run.device w.vram w.frame → TurnLeaves (into_frame a w) t w.vram w.row k.buffer
+  unfolding into_frame
+  frame_stepped h =
+      let e = et ∙ ap (step_turned w.run) h in
       record { answer = ap (λ (x : Turned). x.answer) e; world = λ i. held (e i).run w.vram w.row (h i).buffer }
 
 -- ---- a step whose layers the frame shows
 -- a step draws no row, or it is the accepted one, and the layers are told
-told-or-not :
+told_or_not :
     (ls : List Line) (a : RenderArea) (vram : List ℕ) (d : VdpState) (layers : List ℕ)
-    → ((stepWith ls a vram d).row ≡ NoRow)
-    ⊎ (((stepWith ls a vram d).row ≡ rowOn a (line_of (counterUp d))) ×
-    (layersAfter ls a vram d layers ≡ layersBy (rowOn a (line_of (counterUp d))) (screenOf a) (rowLayers a vram (counterUp d)) layers))
-unfolding stepWith layersAfter stepped points_of
-told-or-not [] a vram d layers = inr (refl, refl)
-told-or-not (l ∷ ls) a vram d layers = split l.holds (λ t. inl (rw t)) (λ t. rw t (told-or-not ls a vram d layers))
+    → ((step_with ls a vram d).row ≡ NoRow)
+    ⊎ (((step_with ls a vram d).row ≡ row_on a (line_of (counter_up d))) ×
+    (layers_after ls a vram d layers ≡ layers_by (row_on a (line_of (counter_up d))) (screen_of a) (row_layers a vram (counter_up d)) layers))
+unfolding step_with layers_after stepped points_of
+told_or_not [] a vram d layers = inr (refl, refl)
+told_or_not (l ∷ ls) a vram d layers = split l.holds (λ t. inl (rw t)) (λ t. rw t (told_or_not ls a vram d layers))
 
 -- an area as wide as the visible one has its rows
 same_rows : (a : RenderArea) → columns a ≡ 160 → rows a ≡ 144
@@ -126,137 +126,137 @@ same_rows EffectiveArea c = absurd (omega arith)
 same_rows TrueEdges c = refl
 
 module _ (a : RenderArea) (c : columns a ≡ 160) (vram : List ℕ) (d : VdpState) (frame layers : List ℕ) (n : length layers ≡ 160) where
-  shown-layers : (y : ℕ) → painted frame (160 * y) 160
-      (λ x. layerColour (at (layersBy (Drawn y) (screenOf a) (rowLayers a vram (counterUp d)) layers) x))
-      ≡ painted frame (160 * y) 160 (λ x. layerColour (rowLayers a vram (counterUp d) y x))
-  unfolding layersBy
-  shown-layers y =
+  shown_layers : (y : ℕ) → painted frame (160 * y) 160
+      (λ x. layer_colour (at (layers_by (Drawn y) (screen_of a) (row_layers a vram (counter_up d)) layers) x))
+      ≡ painted frame (160 * y) 160 (λ x. layer_colour (row_layers a vram (counter_up d) y x))
+  unfolding layers_by
+  shown_layers y =
       let h : 160 ≤ length layers = omega arith in
-      painted-cong frame (160 * y) 160 _ _ (λ x i. ap layerColour (rw c (layersIn-at layers 160 (rowLayers a vram (counterUp d) y) h x i)))
+      painted_cong frame (160 * y) 160 _ _ (λ x i. ap layer_colour (rw c (layers_in-at layers 160 (row_layers a vram (counter_up d) y) h x i)))
 
-  painted-by : (r : DrawnRow) → layersPainted r (λ y. at (layersBy r (screenOf a) (rowLayers a vram (counterUp d)) layers)) frame ≡ layersPainted r
-      (rowLayers a vram (counterUp d)) frame
-  painted-by NoRow = refl
-  painted-by (Drawn y) = shown-layers y
+  painted_by : (r : DrawnRow) → layers_painted r (λ y. at (layers_by r (screen_of a) (row_layers a vram (counter_up d)) layers)) frame ≡ layers_painted r
+      (row_layers a vram (counter_up d)) frame
+  painted_by NoRow = refl
+  painted_by (Drawn y) = shown_layers y
 
-  painted-is :
-      (ls : List Line) {r : DrawnRow} {layers' : List ℕ} → r ≡ (stepWith ls a vram d).row → layers' ≡ layersAfter ls a vram d layers
-      → layersPainted r (λ y. at layers') frame ≡ layersPainted r (rowLayers a vram (counterUp d)) frame
-  painted-is ls {r} er el =
-      elim (told-or-not ls a vram d layers) [
+  painted_is :
+      (ls : List Line) {r : DrawnRow} {layers' : List ℕ} → r ≡ (step_with ls a vram d).row → layers' ≡ layers_after ls a vram d layers
+      → layers_painted r (λ y. at layers') frame ≡ layers_painted r (row_layers a vram (counter_up d)) frame
+  painted_is ls {r} er el =
+      elim (told_or_not ls a vram d layers) [
         | inl z ↦ rw (er ∙ z)
-        | inr z ↦ rw (er ∙ z.0, el ∙ z.1) (painted-by (rowOn a (line_of (counterUp d))))
+        | inr z ↦ rw (er ∙ z.0, el ∙ z.1) (painted_by (row_on a (line_of (counter_up d))))
       ]
 
   -- the row that is drawn is one of the area's
-  pub row_told : (ls : List Line) {r : DrawnRow} → r ≡ (stepWith ls a vram d).row → RowIn (screenOf VisibleOnly) r
+  pub row_told : (ls : List Line) {r : DrawnRow} → r ≡ (step_with ls a vram d).row → RowIn (screen_of VisibleOnly) r
   row_told ls er =
-      elim (told-or-not ls a vram d layers) [
+      elim (told_or_not ls a vram d layers) [
         | inl z ↦ λ y q. absurd (let k : NoRow ≡ Drawn y = sym (er ∙ z) ∙ q in let o : ◌≡◌ {A = ℕ} 0 1 = cc in omega arith)
-        | inr z ↦ λ y q. omega (arith, row_in (screenOf a) (line_of (counterUp d)) (er ∙ z.0) y q, same_rows a c)
+        | inr z ↦ λ y q. omega (arith, row_in (screen_of a) (line_of (counter_up d)) (er ∙ z.0) y q, same_rows a c)
       ]
 
-pub layer-stepped :
+pub layer_stepped :
     (a : RenderArea) → columns a ≡ 160 → (w : World) (layers : List ℕ) {k : Stepped} {row layers' frame : List ℕ} {t : Turned} → length layers ≡ 160
     → w.run.device.machine ≡ Handheld
-    → RowLayersLeave (columns a) a w.vram w.run.device.vdp w.row layers k row layers' → frame ≡ layersPainted k.row (λ y. at layers')
+    → RowLayersLeave (columns a) a w.vram w.run.device.vdp w.row layers k row layers' → frame ≡ layers_painted k.row (λ y. at layers')
     w.frame
-    → t ≡ stepTurned w.run (ofHandheld w.run.device k row) → TurnLeaves (layersInto a w) t w.vram row frame
-unfolding layersInto
-layer-stepped a c w layers {k} {row} {layers'} {frame} {t} n e g ef et =
+    → t ≡ step_turned w.run (of_handheld w.run.device k row) → TurnLeaves (layers_into a w) t w.vram row frame
+unfolding layers_into
+layer_stepped a c w layers {k} {row} {layers'} {frame} {t} n e g ef et =
     let d = w.run.device in
     let room : columns a ≤ length layers = omega arith in
     let ls = row_lines a w.vram (length w.row) in
-    let al = alsoLayers (columns a) (length layers) ls in
+    let al = also_layers (columns a) (length layers) ls in
     let s = aside a w.vram d.vdp w.row layers room in
-    let q : k ≡ rowStep a w.vram (length w.row) d.vdp = g.answer ∙ s.0 in
-    let h = handheld-row a d w.vram {row = w.row} {row' = row} {k = k} e (record { answer = q; bytes = g.bytes ∙ s.1 }) in
-    let f : frame ≡ layersOn d.machine a d w.vram (length w.row) w.frame =
+    let q : k ≡ row_step_of a w.vram (length w.row) d.vdp = g.answer ∙ s.0 in
+    let h = handheld_row a d w.vram {row = w.row} {row' = row} {k = k} e (record { answer = q; bytes = g.bytes ∙ s.1 }) in
+    let f : frame ≡ layers_on d.machine a d w.vram (length w.row) w.frame =
     ef
-    ∙ painted-is a c w.vram d.vdp w.frame layers n al (ap (λ (x : Stepped). x.row) g.answer) g.owners
-    ∙ ap (λ (x : Stepped). layersPainted x.row (rowLayers a w.vram (counterUp d.vdp)) w.frame) q
-    ∙ ap (λ (m : Machine). layersOn m a d w.vram (length w.row) w.frame) (sym e) in
-    let q = et ∙ ap (stepTurned w.run) h in
+    ∙ painted_is a c w.vram d.vdp w.frame layers n al (ap (λ (x : Stepped). x.row) g.answer) g.owners
+    ∙ ap (λ (x : Stepped). layers_painted x.row (row_layers a w.vram (counter_up d.vdp)) w.frame) q
+    ∙ ap (λ (m : Machine). layers_on m a d w.vram (length w.row) w.frame) (sym e) in
+    let q = et ∙ ap (step_turned w.run) h in
     record { answer = ap (λ (x : Turned). x.answer) q; world = λ i. held (q i).run w.vram (h i).buffer (f i) }
 
 -- the home machine tells no layers
-pub no-layers :
-    (a : RenderArea) (w : World) {t : Turned} {vram row : List ℕ} → w.run.device.machine ≡ Home → TurnLeaves (rowTurn a w) t vram row w.frame
-    → TurnLeaves (layersInto a w) t vram row w.frame
-unfolding rowTurn layersInto
-no-layers a w e h =
+pub no_layers :
+    (a : RenderArea) (w : World) {t : Turned} {vram row : List ℕ} → w.run.device.machine ≡ Home → TurnLeaves (row_turn a w) t vram row w.frame
+    → TurnLeaves (layers_into a w) t vram row w.frame
+unfolding row_turn layers_into
+no_layers a w e h =
     let d = w.run.device in
-    let s = deviceRowStep a d w.vram w.row in
+    let s = device_row_step a d w.vram w.row in
     let into : Machine → Turn = λ m. record {
-      answer = stepAnswer s;
+      answer = step_answer s;
       world = held (on w.run 3 s.device) w.vram s.buffer
-          (layersOn m a d w.vram (length w.row) w.frame);
+          (layers_on m a d w.vram (length w.row) w.frame);
     } in
     same_turn (ap into (sym e)) h
 
 -- where the frame shows layers the area is as wide as the visible one, and the frame has room
-pub as_wide : (shown : Shown) (a : RenderArea) → Layers ≡ shownOf shown a → columns a ≡ columns VisibleOnly
+pub as_wide : (shown : Shown) (a : RenderArea) → Layers ≡ shown_of shown a → columns a ≡ columns VisibleOnly
 as_wide shown VisibleOnly e = refl
 as_wide shown EffectiveArea e = absurd (let o : ◌≡◌ {A = ℕ} 0 1 = cc in omega arith)
 as_wide shown TrueEdges e = refl
 
-pub as_long : (shown : Shown) (a : RenderArea) (n : ℕ) → Layers ≡ shownOf shown a → frame_for shown ≤ n → frameSize VisibleOnly ≤ n
+pub as_long : (shown : Shown) (a : RenderArea) (n : ℕ) → Layers ≡ shown_of shown a → frame_for shown ≤ n → frame_size VisibleOnly ≤ n
 as_long shown VisibleOnly n e h = rw (sym e) at h
 as_long shown EffectiveArea n e h = absurd (let o : ◌≡◌ {A = ℕ} 0 1 = cc in omega arith)
 as_long shown TrueEdges n e h = rw (sym e) at h
 
 -- steps go where the frame shows them, and those of which it shows nothing into the row buffer
-abbrev pub shownBy : Shown → RenderArea → World → Turn
-shownBy Nothing = rowTurn
-shownBy Colours = intoFrame
-shownBy Layers = layersInto
+abbrev pub shown_by : Shown → RenderArea → World → Turn
+shown_by Nothing = row_turn
+shown_by Colours = into_frame
+shown_by Layers = layers_into
 
-shown-for : (shown : Shown) (a : RenderArea) (w : World) → shownBy (shownOf shown a) a w ≡ turnFor shown a w
-unfolding frameTurn layerTurn
-shown-for Nothing VisibleOnly w = refl
-shown-for Nothing EffectiveArea w = refl
-shown-for Nothing TrueEdges w = refl
-shown-for Colours VisibleOnly w = refl
-shown-for Colours EffectiveArea w = refl
-shown-for Colours TrueEdges w = refl
-shown-for Layers VisibleOnly w = refl
-shown-for Layers EffectiveArea w = refl
-shown-for Layers TrueEdges w = refl
+shown_for : (shown : Shown) (a : RenderArea) (w : World) → shown_by (shown_of shown a) a w ≡ turn_for shown a w
+unfolding frame_turn layer_turn
+shown_for Nothing VisibleOnly w = refl
+shown_for Nothing EffectiveArea w = refl
+shown_for Nothing TrueEdges w = refl
+shown_for Colours VisibleOnly w = refl
+shown_for Colours EffectiveArea w = refl
+shown_for Colours TrueEdges w = refl
+shown_for Layers VisibleOnly w = refl
+shown_for Layers EffectiveArea w = refl
+shown_for Layers TrueEdges w = refl
 
-pub shown-stepped :
-    (shown : Shown) (a : RenderArea) (w : World) {by : Shown} {t : Turned} {vram row frame : List ℕ} → by ≡ shownOf shown a
-    → TurnLeaves (shownBy by a w) t vram row frame → TurnLeaves (turnFor shown a w) t vram row frame
-shown-stepped shown a w e h = same_turn (ap (λ (s : Shown). shownBy s a w) e ∙ shown-for shown a w) h
+pub shown_stepped :
+    (shown : Shown) (a : RenderArea) (w : World) {by : Shown} {t : Turned} {vram row frame : List ℕ} → by ≡ shown_of shown a
+    → TurnLeaves (shown_by by a w) t vram row frame → TurnLeaves (turn_for shown a w) t vram row frame
+shown_stepped shown a w e h = same_turn (ap (λ (s : Shown). shown_by s a w) e ∙ shown_for shown a w) h
 
 -- the record at the run's place, by its kind
-module _ (step : RenderArea → World → Turn) (s : List ℕ) (w : World) {x : Record} (e : x ≡ recordOn w.run.device.machine s w.run.at) where
-  is-turn : {y : Record} → x ≡ y → turnBy y step w ≡ turn_of step s w
+module _ (step : RenderArea → World → Turn) (s : List ℕ) (w : World) {x : Record} (e : x ≡ record_on w.run.device.machine s w.run.at) where
+  is_turn : {y : Record} → x ≡ y → turn_by y step w ≡ turn_of step s w
   unfolding turn_of
-  is-turn f = ap (λ (z : Record). turnBy z step w) (sym f ∙ e)
+  is_turn f = ap (λ (z : Record). turn_by z step w) (sym f ∙ e)
 
-  pub at-write :
-      {p v : ℕ} {t : Turned} {vram : List ℕ} → x ≡ Write p v → t ≡ writeTurned w.run (deviceWrite w.run.device w.vram p v)
-      → vram ≡ (deviceWrite w.run.device w.vram p v).vram → TurnLeaves (turn_of step s w) t vram w.row w.frame
-  unfolding turnBy
-  at-write f et em =
-      same_turn (is-turn f) (record { answer = ap (λ (y : Turned). y.answer) et; world = λ i. held (et i).run (em i) w.row w.frame })
+  pub at_write :
+      {p v : ℕ} {t : Turned} {vram : List ℕ} → x ≡ Write p v → t ≡ write_turned w.run (device_write w.run.device w.vram p v)
+      → vram ≡ (device_write w.run.device w.vram p v).vram → TurnLeaves (turn_of step s w) t vram w.row w.frame
+  unfolding turn_by
+  at_write f et em =
+      same_turn (is_turn f) (record { answer = ap (λ (y : Turned). y.answer) et; world = λ i. held (et i).run (em i) w.row w.frame })
 
   pub at_read :
-      {p : ℕ} {t : Turned} → x ≡ Read p → t ≡ readTurned w.run (deviceRead w.run.device w.vram p)
+      {p : ℕ} {t : Turned} → x ≡ Read p → t ≡ read_turned w.run (device_read w.run.device w.vram p)
       → TurnLeaves (turn_of step s w) t w.vram w.row w.frame
-  unfolding turnBy
-  at_read f et = same_turn (is-turn f) (record { answer = ap (λ (y : Turned). y.answer) et; world = λ i. held (et i).run w.vram w.row w.frame })
+  unfolding turn_by
+  at_read f et = same_turn (is_turn f) (record { answer = ap (λ (y : Turned). y.answer) et; world = λ i. held (et i).run w.vram w.row w.frame })
 
-  pub at-step :
+  pub at_step :
       {a : RenderArea} {t : Turned} {vram row frame : List ℕ} → x ≡ Step a → TurnLeaves (step a w) t vram row frame
       → TurnLeaves (turn_of step s w) t vram row frame
-  unfolding turnBy
-  at-step f h = same_turn (is-turn f) h
+  unfolding turn_by
+  at_step f h = same_turn (is_turn f) h
 
-  pub at-bad : x ≡ Bad → TurnLeaves (turn_of step s w) (record { answer = Says.Nothing; run = w.run }) w.vram w.row w.frame
-  unfolding turnBy
-  at-bad f = same_turn (is-turn f) (record { answer = refl; world = refl })
+  pub at_bad : x ≡ Bad → TurnLeaves (turn_of step s w) (record { answer = Says.Nothing; run = w.run }) w.vram w.row w.frame
+  unfolding turn_by
+  at_bad f = same_turn (is_turn f) (record { answer = refl; world = refl })
 
-  pub at-end : x ≡ End → TurnLeaves (turn_of step s w) (record { answer = Says.Nothing; run = w.run }) w.vram w.row w.frame
-  unfolding turnBy
-  at-end f = same_turn (is-turn f) (record { answer = refl; world = refl })
+  pub at_end_lem : x ≡ End → TurnLeaves (turn_of step s w) (record { answer = Says.Nothing; run = w.run }) w.vram w.row w.frame
+  unfolding turn_by
+  at_end_lem f = same_turn (is_turn f) (record { answer = refl; world = refl })

@@ -5,12 +5,12 @@ use Rattle.picture.specs.declared.RenderArea.{RenderArea}
 use Rattle.refusal.specs.declared.Refusal.{Refusal}
 use Rattle.vdp.specs.declared.VdpState.{VdpState}
 use Rattle.vdp.specs.Device.{fresh}
-use Rattle.vdp.specs.Ports.{portWrite, portRead}
+use Rattle.vdp.specs.Ports.{port_write, port_read}
 use Rattle.points.specs.declared.VdpInt.{VdpInt}
 use Rattle.points.specs.declared.DisplayRefresh.{DisplayRefresh}
 use Rattle.step.specs.declared.Stepped.{Stepped}
-use Rattle.step.specs.Step.{rowStep, frameStep}
-use Rattle.step.specs.Frame.{rowAfter, frameAfter}
+use Rattle.step.specs.Step.{row_step_of, frame_step_of}
+use Rattle.step.specs.Frame.{row_after, frame_after}
 use Rattle.home.specs.declared.HomeState.{HomeState}
 use Rattle.home.specs.declared.HomeStepped.{HomeStepped}
 use Rattle.home.specs.Home as homeState
@@ -28,11 +28,11 @@ abbrev pub home : HomeState → Device
 home h = record { machine = Home; vdp = fresh; home = h }
 
 -- the same device with another state of each
-abbrev pub withVdp : Device → VdpState → Device
-withVdp d x = record { machine = d.machine; vdp = x; home = d.home }
+abbrev pub with_vdp : Device → VdpState → Device
+with_vdp d x = record { machine = d.machine; vdp = x; home = d.home }
 
-abbrev pub withHome : Device → HomeState → Device
-withHome d x = record { machine = d.machine; vdp = d.vdp; home = x }
+abbrev pub with_home : Device → HomeState → Device
+with_home d x = record { machine = d.machine; vdp = d.vdp; home = x }
 
 -- ---- What a call answers and leaves, whichever machine it is made on: a port write, a port read, and a step into a buffer, a row's or a frame.
 pub record AfterWrite : Type 0 where
@@ -63,46 +63,46 @@ abbrev pub went : Refusal → ℕ → VdpInt → DisplayRefresh → Device → L
 went r counter i t d buffer = record { refusal = r; counter = counter; interrupt = i; report = t; device = d; buffer = buffer }
 
 -- a step of each machine, by its own answer
-abbrev pub ofHandheld : Device → Stepped → List ℕ → AfterStep
-ofHandheld d s = went s.refusal s.vdp.raster.v_counter s.interrupt s.report (withVdp d s.vdp)
+abbrev pub of_handheld : Device → Stepped → List ℕ → AfterStep
+of_handheld d s = went s.refusal s.vdp.raster.v_counter s.interrupt s.report (with_vdp d s.vdp)
 
-abbrev pub ofHome : Device → HomeStepped → List ℕ → AfterStep
-ofHome d s = went s.refusal s.home.raster.v_counter s.interrupt s.report (withHome d s.home)
+abbrev pub of_home : Device → HomeStepped → List ℕ → AfterStep
+of_home d s = went s.refusal s.home.raster.v_counter s.interrupt s.report (with_home d s.home)
 
 -- ---- the calls, by the machine: those of crates `vdp` and `step`, and those of crate `home`
-abbrev pub writeOn : Machine → Device → List ℕ → ℕ → ℕ → AfterWrite
-writeOn Handheld d m p v =
-    let a = portWrite d.vdp m p v in
-    wrote a.answer.refusal (withVdp d a.answer.vdp) a.vram
-writeOn Home d m p v =
-    let a = homePorts.portWrite d.home m p v in
-    wrote a.answer.refusal (withHome d a.answer.home) a.vram
+abbrev pub write_on : Machine → Device → List ℕ → ℕ → ℕ → AfterWrite
+write_on Handheld d m p v =
+    let a = port_write d.vdp m p v in
+    wrote a.answer.refusal (with_vdp d a.answer.vdp) a.vram
+write_on Home d m p v =
+    let a = homePorts.port_write d.home m p v in
+    wrote a.answer.refusal (with_home d a.answer.home) a.vram
 
 abbrev pub read_on : Machine → Device → List ℕ → ℕ → AfterRead
 read_on Handheld d m p =
-    let a = portRead d.vdp m p in
-    gave a.refusal a.byte (withVdp d a.vdp)
+    let a = port_read d.vdp m p in
+    gave a.refusal a.byte (with_vdp d a.vdp)
 read_on Home d m p =
-    let a = homePorts.portRead d.home m p in
-    gave a.refusal a.byte (withHome d a.home)
+    let a = homePorts.port_read d.home m p in
+    gave a.refusal a.byte (with_home d a.home)
 
-abbrev pub rowStepOn : Machine → RenderArea → Device → List ℕ → List ℕ → AfterStep
-rowStepOn Handheld a d m row = ofHandheld d (rowStep a m (length row) d.vdp) (rowAfter a m d.vdp row)
-rowStepOn Home a d m row = ofHome d (homeStep.rowStep m (length row) d.home) (homeStep.rowAfter m d.home row)
+abbrev pub row_step_on : Machine → RenderArea → Device → List ℕ → List ℕ → AfterStep
+row_step_on Handheld a d m row = of_handheld d (row_step_of a m (length row) d.vdp) (row_after a m d.vdp row)
+row_step_on Home a d m row = of_home d (homeStep.row_step_of m (length row) d.home) (homeStep.row_after m d.home row)
 
-abbrev pub frameStepOn : Machine → RenderArea → Device → List ℕ → List ℕ → AfterStep
-frameStepOn Handheld a d m frame = ofHandheld d (frameStep a m (length frame) d.vdp) (frameAfter a m d.vdp frame)
-frameStepOn Home a d m frame = ofHome d (homeStep.frameStep m (length frame) d.home) (homeStep.frameAfter m d.home frame)
+abbrev pub frame_step_on : Machine → RenderArea → Device → List ℕ → List ℕ → AfterStep
+frame_step_on Handheld a d m frame = of_handheld d (frame_step_of a m (length frame) d.vdp) (frame_after a m d.vdp frame)
+frame_step_on Home a d m frame = of_home d (homeStep.frame_step_of m (length frame) d.home) (homeStep.frame_after m d.home frame)
 
 -- of a device, with video memory m
-abbrev pub deviceWrite : Device → List ℕ → ℕ → ℕ → AfterWrite
-deviceWrite d = writeOn d.machine d
+abbrev pub device_write : Device → List ℕ → ℕ → ℕ → AfterWrite
+device_write d = write_on d.machine d
 
-abbrev pub deviceRead : Device → List ℕ → ℕ → AfterRead
-deviceRead d = read_on d.machine d
+abbrev pub device_read : Device → List ℕ → ℕ → AfterRead
+device_read d = read_on d.machine d
 
-abbrev pub deviceRowStep : RenderArea → Device → List ℕ → List ℕ → AfterStep
-deviceRowStep a d = rowStepOn d.machine a d
+abbrev pub device_row_step : RenderArea → Device → List ℕ → List ℕ → AfterStep
+device_row_step a d = row_step_on d.machine a d
 
-abbrev pub deviceFrameStep : RenderArea → Device → List ℕ → List ℕ → AfterStep
-deviceFrameStep a d = frameStepOn d.machine a d
+abbrev pub device_frame_step : RenderArea → Device → List ℕ → List ℕ → AfterStep
+device_frame_step a d = frame_step_on d.machine a d

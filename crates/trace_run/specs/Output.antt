@@ -5,39 +5,39 @@ use Rattle.laws.specs.Lists.{written}
 use Rattle.picture.specs.declared.RenderArea.{RenderArea}
 use Rattle.picture.specs.declared.Screen.{Screen}
 use Rattle.picture.specs.declared.Screen.TheVariants as On
-use Rattle.picture.specs.Screen.{frameSize}
+use Rattle.picture.specs.Screen.{frame_size}
 use Rattle.trace_record.specs.declared.Machine.{Machine}
 use Rattle.trace_record.specs.declared.Machine.TheVariants.{Handheld, Home}
 use Rattle.trace_run.specs.declared.Device.{Device}
-use Rattle.trace_text.specs.Text.{longLine}
-use Rattle.trace_text.specs.End.{lastLine, drawn, pictureRoom}
-use Rattle.trace_run.specs.Run.{World, Turn, rowTurn, lines, ran, start}
+use Rattle.trace_text.specs.Text.{long_line}
+use Rattle.trace_text.specs.End.{last_line, drawn, picture_room}
+use Rattle.trace_run.specs.Run.{World, Turn, row_turn, lines, ran, start}
 
 -- R7.8: the longest recording that is run
 abbrev pub longest : ℕ
 longest = 65535
 
-abbrev pub tooLong : List ℕ → Bool
-tooLong s = ltb longest (length s)
+abbrev pub too_long : List ℕ → Bool
+too_long s = ltb longest (length s)
 
 unfoldable pub text : List ℕ → World → List ℕ
 text s w =
-    let run = (ran rowTurn s w).run in
-    lines rowTurn (length s) s w ++ lastLine s run.at run.count
+    let run = (ran row_turn s w).run in
+    lines row_turn (length s) s w ++ last_line s run.at run.count
 
 -- WHAT `trace` PRINTS of the recording s, from the world w on
 unfoldable pub printed : List ℕ → World → List ℕ
-printed s w = cond (tooLong s) longLine (text s w)
+printed s w = cond (too_long s) long_line (text s w)
 
 -- R7.13, R20.9: the screen whose frame a machine's picture is made of
-abbrev pub screenFor : Machine → Screen
-screenFor Handheld = On.VisibleOnly
-screenFor Home = On.Home
+abbrev pub screen_for : Machine → Screen
+screen_for Handheld = On.VisibleOnly
+screen_for Home = On.Home
 
 -- WHAT `snapshot` AND `layers` WRITE of the recording s, from the world w on, with steps made as `step` makes them: the picture, or the one line of a bad or
 -- long recording
 unfoldable pub pictured : (RenderArea → World → Turn) → List ℕ → World → List ℕ
-pictured step s w = cond (tooLong s) longLine (drawn (screenFor w.run.device.machine) s (ran step s w).run.at (ran step s w).frame)
+pictured step s w = cond (too_long s) long_line (drawn (screen_for w.run.device.machine) s (ran step s w).run.at (ran step s w).frame)
 
 -- What a whole recording promises of its place at and of the buffers after it, where w is the world that it leaves.
 pub record RunLeaves (w : World) (at : ℕ) (vram row frame : List ℕ) : Type 0 where
@@ -60,19 +60,19 @@ left w n out = record { len = n; out = out; vram = w.vram; row = w.row; frame = 
 -- with room: these bytes, and what the recording does, which is nothing where it is too long; without: nothing at all
 unfoldable pub leaves : Bool → (RenderArea → World → Turn) → List ℕ → List ℕ → World → List ℕ → Left
 leaves room step bytes s w out =
-    cond room (left (cond (tooLong s) w (ran step s w)) (length bytes) (written out 0 bytes)) (left w 0 out)
+    cond room (left (cond (too_long s) w (ran step s w)) (length bytes) (written out 0 bytes)) (left w 0 out)
 
 -- room for five bytes of text for each byte of the longest recording, and the last line
-abbrev pub textRoom : ℕ
-textRoom = 327700
+abbrev pub text_room : ℕ
+text_room = 327700
 
 unfoldable pub traced : List ℕ → World → List ℕ → Left
-traced s w out = leaves (leb textRoom (length out)) rowTurn (printed s w) s w out
+traced s w out = leaves (leb text_room (length out)) row_turn (printed s w) s w out
 
 unfoldable pub snapped : (RenderArea → World → Turn) → List ℕ → World → List ℕ → Left
 snapped step s w out =
-    let screen = screenFor w.run.device.machine in
-    leaves (leb (pictureRoom screen) (length out) && eqb (length w.frame) (frameSize screen)) step (pictured step s w) s w out
+    let screen = screen_for w.run.device.machine in
+    leaves (leb (picture_room screen) (length out) && eqb (length w.frame) (frame_size screen)) step (pictured step s w) s w out
 
 -- What `trace`, from device d on, promises of its answer n and of the buffers after it, and what `snapshot` does, by what its frame shows.
 pub record TraceLeaves (d : Device) (s vram row out : List ℕ) (n : ℕ) (vram' row' out' : List ℕ) : Type 0 where

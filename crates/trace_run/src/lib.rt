@@ -2,11 +2,11 @@
 ghost use Rattle.std.specs.Prelude.{◌≡◌, List, [], ℕ, ◌-◌, ◌<◌, ◌≤◌, length};
 ghost use Rattle.laws.specs.Lists.{at};
 ghost use Rattle.picture.specs.declared.RenderArea.TheVariants.{VisibleOnly};
-ghost use Rattle.picture.specs.Area.{screenOf, columns, frameSize};
+ghost use Rattle.picture.specs.Area.{screen_of, columns, frame_size};
 ghost use Rattle.points.specs.Points.{RowIn};
-ghost use Rattle.trace_run.specs.Device.{handheld, home, withVdp, withHome, deviceWrite, deviceRead, ofHandheld, ofHome};
-ghost use Rattle.trace_run.specs.Run.{held, on, rowTurn, intoFrame, layerColour, layersPainted, layersInto, shownOf, frame_for, turnFor, turn_of, TurnLeaves};
-ghost use Rattle.trace_run.specs.Run.{turned, writeTurned, readTurned, stepTurned};
+ghost use Rattle.trace_run.specs.Device.{handheld, home, with_vdp, with_home, device_write, device_read, of_handheld, of_home};
+ghost use Rattle.trace_run.specs.Run.{held, on, row_turn, into_frame, layer_colour, layers_painted, layers_into, shown_of, frame_for, turn_for, turn_of, TurnLeaves};
+ghost use Rattle.trace_run.specs.Run.{turned, write_turned, read_turned, step_turned};
 
 pub mod output;
 
@@ -84,7 +84,7 @@ fn machine_of(run: Run) -> Machine
 // A call that is made, on each machine: its answer, and the run one record and some bytes on, with the machine's new state.
 fn handheld_turned(mut run: Run, bytes: usize, answer: Answer, vdp: VdpState) -> Turned
     requires { (run.at < 4294967296) × (run.count < 4294967296) × (bytes < 16) }
-    ensures { result ≡ turned answer (on run bytes (withVdp run.device vdp)) }
+    ensures { result ≡ turned answer (on run bytes (with_vdp run.device vdp)) }
 {
     let mut device = run.device;
     device.vdp = vdp;
@@ -99,7 +99,7 @@ fn handheld_turned(mut run: Run, bytes: usize, answer: Answer, vdp: VdpState) ->
 
 fn home_turned(mut run: Run, bytes: usize, answer: Answer, home: HomeState) -> Turned
     requires { (run.at < 4294967296) × (run.count < 4294967296) × (bytes < 16) }
-    ensures { result ≡ turned answer (on run bytes (withHome run.device home)) }
+    ensures { result ≡ turned answer (on run bytes (with_home run.device home)) }
 {
     let mut device = run.device;
     device.home = home;
@@ -125,8 +125,8 @@ fn none(run: Run) -> Turned
 // A port write.
 fn write_turn(run: Run, vram: &mut [u8], port: u8, value: u8) -> Turned
     requires { (run.at < 4294967296) × (run.count < 4294967296) }
-    ensures value { result ≡ writeTurned run (deviceWrite run.device vram.old port value) }
-    ensures vram_after { vram.new ≡ (deviceWrite run.device vram.old port value).vram }
+    ensures value { result ≡ write_turned run (device_write run.device vram.old port value) }
+    ensures vram_after { vram.new ≡ (device_write run.device vram.old port value).vram }
 {
     match machine_of(run) {
         Machine::Handheld => {
@@ -145,7 +145,7 @@ fn write_turn(run: Run, vram: &mut [u8], port: u8, value: u8) -> Turned
 // A port read.
 fn read_turn(run: Run, vram: &[u8], port: u8) -> Turned
     requires { (run.at < 4294967296) × (run.count < 4294967296) }
-    ensures { result ≡ readTurned run (deviceRead run.device vram.now port) }
+    ensures { result ≡ read_turned run (device_read run.device vram.now port) }
 {
     match machine_of(run) {
         Machine::Handheld => {
@@ -174,7 +174,7 @@ fn read_turn(run: Run, vram: &[u8], port: u8) -> Turned
 // A step of each machine, once it is made.
 fn handheld_stepped(run: Run, stepped: Stepped) -> Turned
     requires { (run.at < 4294967296) × (run.count < 4294967296) }
-    ensures { result ≡ stepTurned run (ofHandheld run.device stepped []) }
+    ensures { result ≡ step_turned run (of_handheld run.device stepped []) }
 {
     let refusal = stepped.refusal;
     let interrupt = stepped.interrupt;
@@ -190,7 +190,7 @@ fn handheld_stepped(run: Run, stepped: Stepped) -> Turned
 
 fn home_stepped(run: Run, stepped: HomeStepped) -> Turned
     requires { (run.at < 4294967296) × (run.count < 4294967296) }
-    ensures { result ≡ stepTurned run (ofHome run.device stepped []) }
+    ensures { result ≡ step_turned run (of_home run.device stepped []) }
 {
     let refusal = stepped.refusal;
     let interrupt = stepped.interrupt;
@@ -207,7 +207,7 @@ fn home_stepped(run: Run, stepped: HomeStepped) -> Turned
 // A step into the row buffer.
 fn row_step_turn(run: Run, vram: &[u8], row: &mut [u8], area: RenderArea) -> Turned
     requires { (run.at < 4294967296) × (run.count < 4294967296) }
-    ensures { (frame : List ℕ) → TurnLeaves (rowTurn area (held run vram.now row.old frame)) result vram.now row.new frame }
+    ensures { (frame : List ℕ) → TurnLeaves (row_turn area (held run vram.now row.old frame)) result vram.now row.new frame }
 {
     match machine_of(run) {
         Machine::Handheld => return handheld_stepped(
@@ -221,7 +221,7 @@ fn row_step_turn(run: Run, vram: &[u8], row: &mut [u8], area: RenderArea) -> Tur
 // A step into the frame.
 fn frame_step_turn(run: Run, vram: &[u8], frame: &mut [u8], area: RenderArea) -> Turned
     requires { (run.at < 4294967296) × (run.count < 4294967296) }
-    ensures { (row : List ℕ) → TurnLeaves (intoFrame area (held run vram.now row frame.old)) result vram.now row frame.new }
+    ensures { (row : List ℕ) → TurnLeaves (into_frame area (held run vram.now row frame.old)) result vram.now row frame.new }
 {
     match machine_of(run) {
         Machine::Handheld => return handheld_stepped(
@@ -241,7 +241,7 @@ fn sprite_of(layer: u8) -> u8
 
 // The colour of a layer.
 fn layer_colour(layer: u8) -> u32
-    ensures { result ≡ layerColour layer }
+    ensures { result ≡ layer_colour layer }
 {
     if layer == 0 {
         return 0xFF202020;
@@ -255,8 +255,8 @@ fn layer_colour(layer: u8) -> u32
 
 // The layers of a row as colours, into its place in the frame.
 fn paint_layers(frame: &mut [u8], drawn: DrawnRow, layers: &[u8; GG_VISIBLE_PIXEL_WIDTH])
-    requires { (frameSize VisibleOnly ≤ length frame.old) × RowIn (screenOf VisibleOnly) drawn }
-    ensures { frame.new ≡ layersPainted drawn (λ y. at layers.now) frame.old }
+    requires { (frame_size VisibleOnly ≤ length frame.old) × RowIn (screen_of VisibleOnly) drawn }
+    ensures { frame.new ≡ layers_painted drawn (λ y. at layers.now) frame.old }
 {
     let DrawnRow::Drawn(y) = drawn else {
         return;
@@ -271,8 +271,8 @@ fn paint_layers(frame: &mut [u8], drawn: DrawnRow, layers: &[u8; GG_VISIBLE_PIXE
 
 // A step of an area of the visible size, whose layers the frame shows; the home machine tells none.
 fn layer_turn(run: Run, vram: &[u8], row: &mut [u8], frame: &mut [u8], area: RenderArea) -> Turned
-    requires { (run.at < 4294967296) × (run.count < 4294967296) × (frameSize VisibleOnly ≤ length frame.old) × (columns area ≡ columns VisibleOnly) }
-    ensures { TurnLeaves (layersInto area (held run vram.now row.old frame.old)) result vram.now row.new frame.new }
+    requires { (run.at < 4294967296) × (run.count < 4294967296) × (frame_size VisibleOnly ≤ length frame.old) × (columns area ≡ columns VisibleOnly) }
+    ensures { TurnLeaves (layers_into area (held run vram.now row.old frame.old)) result vram.now row.new frame.new }
 {
     match machine_of(run) {
         Machine::Handheld => {
@@ -288,7 +288,7 @@ fn layer_turn(run: Run, vram: &[u8], row: &mut [u8], frame: &mut [u8], area: Ren
 
 // What the frame shows of a step of this area: nothing where the area has not the visible size.
 fn shown_of(shown: Shown, area: RenderArea) -> Shown
-    ensures { result ≡ shownOf shown area }
+    ensures { result ≡ shown_of shown area }
 {
     match area {
         RenderArea::VisibleOnly => shown,
@@ -307,7 +307,7 @@ fn step_turn(
     area: RenderArea,
 ) -> Turned
     requires { (run.at < 4294967296) × (run.count < 4294967296) × (frame_for shown ≤ length frame.old) }
-    ensures { TurnLeaves (turnFor shown area (held run vram.now row.old frame.old)) result vram.now row.new frame.new }
+    ensures { TurnLeaves (turn_for shown area (held run vram.now row.old frame.old)) result vram.now row.new frame.new }
 {
     match shown_of(shown, area) {
         Shown::Nothing => return row_step_turn(run, vram, row, area),
@@ -326,7 +326,7 @@ pub fn turn(
     frame: &mut [u8],
 ) -> Turned
     requires { (run.at < 4294967296) × (run.count < 4294967296) × (frame_for shown ≤ length frame.old) }
-    ensures { TurnLeaves (turn_of (turnFor shown) input.now (held run vram.old row.old frame.old)) result vram.new row.new frame.new }
+    ensures { TurnLeaves (turn_of (turn_for shown) input.now (held run vram.old row.old frame.old)) result vram.new row.new frame.new }
 {
     match record_on(machine_of(run), input, run.at) {
         Record::Write(port, value) => return write_turn(run, vram, port, value),

@@ -1,10 +1,10 @@
 // A whole recording: the text that it prints, and the pictures that it draws.
 ghost use Rattle.std.specs.Prelude.{◌≡◌, ◌+◌, ◌*◌, ◌≤◌, ◌&&◌, leb, eqb, length, take};
 ghost use Rattle.laws.specs.Lists.{written};
-ghost use Rattle.picture.specs.Screen.{frameSize};
-ghost use Rattle.trace_text.specs.End.{pictureRoom};
-ghost use Rattle.trace_run.specs.Output.{longest, screenFor, RunLeaves, TraceLeaves, PictureLeaves};
-ghost use Rattle.trace_run.specs.Run.{frame_for, turnFor, start, ran};
+ghost use Rattle.picture.specs.Screen.{frame_size};
+ghost use Rattle.trace_text.specs.End.{picture_room};
+ghost use Rattle.trace_run.specs.Output.{longest, screen_for, RunLeaves, TraceLeaves, PictureLeaves};
+ghost use Rattle.trace_run.specs.Run.{frame_for, turn_for, start, ran};
 
 use crate::{Device, Run, Shown, turn};
 use picture::Screen;
@@ -47,7 +47,7 @@ pub fn trace(device: Device, input: &[u8], vram: &mut [u8], row: &mut [u8], out:
 
 // The screen whose frame a machine's picture is made of.
 fn screen_for(machine: Machine) -> Screen
-    ensures { result ≡ screenFor machine }
+    ensures { result ≡ screen_for machine }
 {
     match machine {
         Machine::Handheld => Screen::VisibleOnly,
@@ -57,7 +57,7 @@ fn screen_for(machine: Machine) -> Screen
 
 // Whether a frame of so many bytes is one of this screen, and so many are room for its picture.
 fn has_room(screen: Screen, frame: usize, out: usize) -> bool
-    ensures { result ≡ (leb (pictureRoom screen) out && eqb frame (frameSize screen)) }
+    ensures { result ≡ (leb (picture_room screen) out && eqb frame (frame_size screen)) }
 {
     let count = trace_text::end::pixel_count(screen);
     if out < 15 + 3 * count {
@@ -76,7 +76,7 @@ fn run_all(
     frame: &mut [u8],
 ) -> usize
     requires { (length input.now ≤ longest) × (frame_for shown ≤ length frame.old) }
-    ensures { RunLeaves (ran (turnFor shown) input.now (start device vram.old row.old frame.old)) result vram.new row.new frame.new }
+    ensures { RunLeaves (ran (turn_for shown) input.now (start device vram.old row.old frame.old)) result vram.new row.new frame.new }
 {
     let mut run = Run {
         device: device,
@@ -103,7 +103,7 @@ pub fn snapshot(
     frame: &mut [u8],
     out: &mut [u8],
 ) -> usize
-    ensures picture_leaves { PictureLeaves (turnFor shown) device input.now vram.old row.old frame.old out.old result vram.new row.new frame.new out.new }
+    ensures picture_leaves { PictureLeaves (turn_for shown) device input.now vram.old row.old frame.old out.old result vram.new row.new frame.new out.new }
     ensures upper_bound { (result ≤ length out.new) × (result ≡ length (take result out.new)) }
 {
     let machine = device.machine;

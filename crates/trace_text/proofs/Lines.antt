@@ -8,29 +8,29 @@ use borrow.Author.Tests.{lt-ltb}
 use lib.Dec.{ltb, lit≤}
 use lib.ListN.{length, take, drop, length-append}
 use Rattle.laws.specs.Lists.{written}
-use Rattle.laws.proofs.Lists.{written_on, written-nil}
+use Rattle.laws.proofs.Lists.{written_on, written_nil}
 use Rattle.laws.proofs.Tests.{either}
 use Rattle.points.specs.declared.VdpInt.{VdpInt}
 use Rattle.points.specs.declared.DisplayRefresh.{DisplayRefresh}
-use Rattle.points.specs.Points.{interruptNumber, reportNumber}
+use Rattle.points.specs.Points.{interrupt_number, report_number}
 use Rattle.trace_text.specs.declared.Answer.{Answer}
 use Rattle.trace_text.specs.declared.Answer.TheVariants.{Stepped, Nothing}
-use Rattle.trace_text.specs.Text.{digitOf, decimal, hexDigit, told, line_of}
+use Rattle.trace_text.specs.Text.{digit_of, decimal, hex_digit, told, line_of}
 
 -- a number of one digit
-pub one : (n : ℕ) → n < 10 → decimal n ≡ digitOf n ∷ []
+pub one : (n : ℕ) → n < 10 → decimal n ≡ digit_of n ∷ []
 unfolding decimal
 one n h = rw (lt-ltb n 10 h)
 
 -- the same, as the code writes it
-as-digit : {x n : ℕ} → x ≡ n → x < 10 → (48 + x) ∷ [] ≡ decimal n
-as-digit {x} {n} e h =
-    let d : 48 + x ≡ digitOf n = omega arith in
+as_digit : {x n : ℕ} → x ≡ n → x < 10 → (48 + x) ∷ [] ≡ decimal n
+as_digit {x} {n} e h =
+    let d : 48 + x ≡ digit_of n = omega arith in
     ap (λ (k : ℕ). k ∷ []) d ∙ sym (one n (omega arith))
 
 -- a number is as many of its five last digits as it has
 abbrev pub five : ℕ → List ℕ
-five n = digitOf (n / 10000) ∷ digitOf (n / 1000) ∷ digitOf (n / 100) ∷ digitOf (n / 10) ∷ digitOf n ∷ []
+five n = digit_of (n / 10000) ∷ digit_of (n / 1000) ∷ digit_of (n / 100) ∷ digit_of (n / 10) ∷ digit_of n ∷ []
 
 pub printed : (n k : ℕ) → length (decimal n) + k ≡ 5 → take (5 - k) (drop k (five n)) ≡ decimal n
 unfolding decimal
@@ -43,9 +43,9 @@ printed n k =
     either P (ltb n 1000) (λ _ h. let e : k ≡ 2 = omega arith in rw e)
     (λ _. either P (ltb n 10000) (λ _ h. let e : k ≡ 1 = omega arith in rw e) (λ _ h. let e : k ≡ 0 = omega arith in rw e))))
 
-pub decimal-short : (n : ℕ) → length (decimal n) ≤ 5
+pub decimal_short : (n : ℕ) → length (decimal n) ≤ 5
 unfolding decimal
-decimal-short n =
+decimal_short n =
     let P : List ℕ → Type 0 = λ l. length l ≤ 5 in
     either P (ltb n 10) (λ _. lit≤ tt)
     (λ _. either P (ltb n 100) (λ _. lit≤ tt)
@@ -58,23 +58,23 @@ pub put_as :
 put_as o at e h = (h.0 ∙ ap (λ (l : List ℕ). at + length l) e, h.1 ∙ ap (written o at) e)
 
 -- the line of an answer, by its cases: what was written is that line
-pub line-done :
+pub line_done :
     (o : List ℕ) (at : ℕ) {a b : Answer} {x o' : List ℕ} {r : ℕ} → a ≡ b → x ≡ line_of b → (r ≡ at + length x) × (o' ≡ written o at x)
     → (r ≡ at + length (line_of a)) × (o' ≡ written o at (line_of a))
-line-done o at e f h = put_as o at (f ∙ ap line_of (sym e)) h
+line_done o at e f h = put_as o at (f ∙ ap line_of (sym e)) h
 
 pub no_line : (o : List ℕ) (at : ℕ) {a : Answer} → a ≡ Nothing → (at ≡ at + length (line_of a)) × (o ≡ written o at (line_of a))
 unfolding line_of
-no_line o at e = line-done o at {x = []} e refl (omega arith, sym (written-nil o at))
+no_line o at e = line_done o at {x = []} e refl (omega arith, sym (written_nil o at))
 
 pub step_line :
-    (f k : ℕ) (i : VdpInt) (d : DisplayRefresh) {h l x y : ℕ} → h ≡ hexDigit (k / 16) → l ≡ hexDigit (k % 16)
-    → (x ≡ interruptNumber i) × (x < 2) → (y ≡ reportNumber d) × (y < 3)
+    (f k : ℕ) (i : VdpInt) (d : DisplayRefresh) {h l x y : ℕ} → h ≡ hex_digit (k / 16) → l ≡ hex_digit (k % 16)
+    → (x ≡ interrupt_number i) × (x < 2) → (y ≡ report_number d) × (y < 3)
     → told 0x73 f (0x20 ∷ h ∷ l ∷ 0x20 ∷ (48 + x) ∷ 0x20 ∷ (48 + y) ∷ 0x0A ∷ []) ≡ line_of (Stepped f k i d)
 unfolding line_of
 step_line f k i d eh el p q =
-    let ei = as-digit p.0 (omega (arith, p.1)) in
-    let ed = as-digit q.0 (omega (arith, q.1)) in
+    let ei = as_digit p.0 (omega (arith, p.1)) in
+    let ed = as_digit q.0 (omega (arith, q.1)) in
     λ j. told 0x73 f (0x20 ∷ eh j ∷ el j ∷ 0x20 ∷ (ei j ++ (0x20 ∷ (ed j ++ (0x0A ∷ [])))))
 
 -- a text from the start of o on, and one more piece of it
@@ -88,11 +88,11 @@ grow o l m {n} {n'} {o'} {o''} room en eo p =
     )
 
 -- three texts, side by side
-pub three-writes :
+pub three_writes :
     (o : List ℕ) (at : ℕ) (x y z : List ℕ) {o1 o2 o3 : List ℕ} {a1 a2 r : ℕ} → at + length x + length y + length z ≤ length o
     → o1 ≡ written o at x → a1 ≡ at + length x → o2 ≡ written o1 a1 y → a2 ≡ a1 + length y → o3 ≡ written o2 a2 z → r ≡ a2 + length z
     → (r ≡ at + length (x ++ (y ++ z))) × (o3 ≡ written o at (x ++ (y ++ z)))
-three-writes o at x y z {o1} {o2} {o3} {a1} {a2} {r} h e1 f1 e2 f2 e3 f3 =
+three_writes o at x y z {o1} {o2} {o3} {a1} {a2} {r} h e1 f1 e2 f2 e3 f3 =
     let p : o2 ≡ written o at (x ++ y) = e2 ∙ ap (λ (t : List ℕ). written t a1 y) e1 ∙ written_on o at x y f1 (omega arith) in
     let k : length (x ++ y) ≡ length x + length y = length-append x y in
     let g : a2 ≡ at + length (x ++ y) = omega arith in

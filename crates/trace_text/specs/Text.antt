@@ -1,29 +1,29 @@
 -- R7.10, R7.11: numbers as text, and the lines that a trace prints.
 -- Assumes nothing.
 use Rattle.std.specs.Prelude.{cond, List, [], ◌∷◌, ◌++◌, ℕ, ◌+◌, ◌/◌, ◌%◌, ltb}
-use Rattle.points.specs.Points.{interruptNumber, reportNumber}
+use Rattle.points.specs.Points.{interrupt_number, report_number}
 use Rattle.trace_text.specs.declared.Answer.{Answer}
 use Rattle.trace_text.specs.declared.Answer.TheVariants.{Wrote, Gave, Stepped, Nothing}
 
 -- ---- R7.10, numbers: in decimal, and in two hexadecimal capitals
 -- the last digit of n
-abbrev pub digitOf : ℕ → ℕ
-digitOf n = 48 + n % 10
+abbrev pub digit_of : ℕ → ℕ
+digit_of n = 48 + n % 10
 
 -- n in decimal; no number of a trace has more than five digits
 unfoldable pub decimal : ℕ → List ℕ
 decimal n =
-    cond (ltb n 10) (digitOf n ∷ [])
-    (cond (ltb n 100) (digitOf (n / 10) ∷ digitOf n ∷ [])
-    (cond (ltb n 1000) (digitOf (n / 100) ∷ digitOf (n / 10) ∷ digitOf n ∷ [])
-    (cond (ltb n 10000) (digitOf (n / 1000) ∷ digitOf (n / 100) ∷ digitOf (n / 10) ∷ digitOf n ∷ [])
-    (digitOf (n / 10000) ∷ digitOf (n / 1000) ∷ digitOf (n / 100) ∷ digitOf (n / 10) ∷ digitOf n ∷ []))))
+    cond (ltb n 10) (digit_of n ∷ [])
+    (cond (ltb n 100) (digit_of (n / 10) ∷ digit_of n ∷ [])
+    (cond (ltb n 1000) (digit_of (n / 100) ∷ digit_of (n / 10) ∷ digit_of n ∷ [])
+    (cond (ltb n 10000) (digit_of (n / 1000) ∷ digit_of (n / 100) ∷ digit_of (n / 10) ∷ digit_of n ∷ [])
+    (digit_of (n / 10000) ∷ digit_of (n / 1000) ∷ digit_of (n / 100) ∷ digit_of (n / 10) ∷ digit_of n ∷ []))))
 
-abbrev pub hexDigit : ℕ → ℕ
-hexDigit d = cond (ltb d 10) (48 + d) (55 + d)
+abbrev pub hex_digit : ℕ → ℕ
+hex_digit d = cond (ltb d 10) (48 + d) (55 + d)
 
 abbrev pub hex : ℕ → List ℕ
-hex b = hexDigit (b / 16) ∷ hexDigit (b % 16) ∷ []
+hex b = hex_digit (b / 16) ∷ hex_digit (b % 16) ∷ []
 
 -- ---- a line: its words with a space between, and the end of the line
 abbrev pub line : List (List ℕ) → List ℕ
@@ -55,18 +55,18 @@ unfoldable pub line_of : Answer → List ℕ
 line_of (Wrote refusal) = line (w ∷ decimal refusal ∷ [])
 line_of (Gave refusal byte) = line (r ∷ decimal refusal ∷ hex byte ∷ [])
 line_of (Stepped refusal counter interrupt report) =
-    line (s ∷ decimal refusal ∷ hex counter ∷ decimal (interruptNumber interrupt) ∷ decimal (reportNumber report) ∷ [])
+    line (s ∷ decimal refusal ∷ hex counter ∷ decimal (interrupt_number interrupt) ∷ decimal (report_number report) ∷ [])
 line_of Nothing = []
 
 -- R7.11, R7.8: the lines of the end, of a bad record and of a long recording
-unfoldable pub endLine : ℕ → List ℕ
-endLine count = line (end ∷ decimal count ∷ [])
+unfoldable pub end_line : ℕ → List ℕ
+end_line count = line (end ∷ decimal count ∷ [])
 
-unfoldable pub badLine : ℕ → List ℕ
-badLine offset = line (bad ∷ decimal offset ∷ [])
+unfoldable pub bad_line : ℕ → List ℕ
+bad_line offset = line (bad ∷ decimal offset ∷ [])
 
-unfoldable pub longLine : List ℕ
-longLine = line (long ∷ [])
+unfoldable pub long_line : List ℕ
+long_line = line (long ∷ [])
 
 -- a line of one number, by the bytes that stand before it
 abbrev pub numbered : List ℕ → ℕ → List ℕ

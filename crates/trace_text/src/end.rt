@@ -1,7 +1,7 @@
 // How a recording ends: the last line of its text, and its picture as a file.
 ghost use Rattle.std.specs.Prelude.{◌≡◌, ◌+◌, ◌*◌, ◌≤◌, length};
 ghost use Rattle.laws.specs.Lists.{written};
-ghost use Rattle.trace_text.specs.End.{pixelCount, pictureRoom, lastLine, header, ppm, drawn};
+ghost use Rattle.trace_text.specs.End.{pixel_count, picture_room, last_line, header, ppm, drawn};
 
 use crate::put_numbered;
 use picture::Screen;
@@ -10,8 +10,8 @@ use trace_record::put_all;
 // The last line of a trace that stopped at an offset of its input: the count of records, or where the recording is bad.
 pub fn put_last(out: &mut [u8], at: usize, input: &[u8], stopped: usize, count: usize) -> usize
     requires { at + 10 ≤ length out.old }
-    ensures value { result ≡ at + length (lastLine input.now stopped count) }
-    ensures out_after { out.new ≡ written out.old at (lastLine input.now stopped count) }
+    ensures value { result ≡ at + length (last_line input.now stopped count) }
+    ensures out_after { out.new ≡ written out.old at (last_line input.now stopped count) }
 {
     if input.len() <= stopped {
         return put_numbered(out, at, b"end ", count);
@@ -21,7 +21,7 @@ pub fn put_last(out: &mut [u8], at: usize, input: &[u8], stopped: usize, count: 
 
 // The pixels of a screen, of which its frame has four bytes each and its picture three.
 pub fn pixel_count(screen: Screen) -> usize
-    ensures { (result ≡ pixelCount screen) × (result ≤ 57344) }
+    ensures { (result ≡ pixel_count screen) × (result ≤ 57344) }
 {
     match screen {
         Screen::VisibleOnly => 23040,
@@ -45,7 +45,7 @@ fn header_of(screen: Screen) -> [u8; 15]
 
 // The picture of a frame: red, green and blue of each pixel, behind the header.
 fn put_ppm(out: &mut [u8], screen: Screen, frame: &[u8]) -> usize
-    requires { (pictureRoom screen ≤ length out.old) × (4 * pixelCount screen ≤ length frame.now) }
+    requires { (picture_room screen ≤ length out.old) × (4 * pixel_count screen ≤ length frame.now) }
     ensures value { result ≡ length (ppm screen frame.now) }
     ensures out_after { out.new ≡ written out.old 0 (ppm screen frame.now) }
 {
@@ -70,7 +70,7 @@ pub fn put_picture(
     stopped: usize,
     frame: &[u8],
 ) -> usize
-    requires { (pictureRoom screen ≤ length out.old) × (4 * pixelCount screen ≤ length frame.now) }
+    requires { (picture_room screen ≤ length out.old) × (4 * pixel_count screen ≤ length frame.now) }
     ensures value { result ≡ length (drawn screen input.now stopped frame.now) }
     ensures out_after { out.new ≡ written out.old 0 (drawn screen input.now stopped frame.now) }
 {

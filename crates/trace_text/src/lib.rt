@@ -1,7 +1,7 @@
 // Numbers and lines as text (R7.10, R7.11).
 ghost use Rattle.std.specs.Prelude.{◌≡◌, [], ◌∷◌, ◌+◌, ◌/◌, ◌≤◌, ◌<◌, length};
 ghost use Rattle.laws.specs.Lists.{written};
-ghost use Rattle.trace_text.specs.Text.{digitOf, decimal, hexDigit, numbered, told, line_of};
+ghost use Rattle.trace_text.specs.Text.{digit_of, decimal, hex_digit, numbered, told, line_of};
 
 pub mod end;
 
@@ -20,21 +20,21 @@ pub enum Answer {
 // A digit, in capitals.
 fn hex_digit(d: u8) -> u8
     requires { d < 16 }
-    ensures { result ≡ hexDigit d }
+    ensures { result ≡ hex_digit d }
 {
     if d < 10 { 48 + d } else { 55 + d }
 }
 
 // The last digit of a number.
 fn digit(n: usize) -> u8
-    ensures { result ≡ digitOf n }
+    ensures { result ≡ digit_of n }
 {
     48 + (n % 10) as u8
 }
 
 // The last five digits of a number.
 fn five_digits(n: usize) -> [u8; 5]
-    ensures { result ≡ digitOf (n / 10000) ∷ digitOf (n / 1000) ∷ digitOf (n / 100) ∷ digitOf (n / 10) ∷ digitOf n ∷ [] }
+    ensures { result ≡ digit_of (n / 10000) ∷ digit_of (n / 1000) ∷ digit_of (n / 100) ∷ digit_of (n / 10) ∷ digit_of n ∷ [] }
 {
     [
         digit(n / 10000),

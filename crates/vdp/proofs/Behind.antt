@@ -12,48 +12,48 @@ use Rattle.front.specs.declared.Latch.TheVariants.{Empty, Held}
 use Rattle.vdp.specs.declared.Written.{Written}
 use Rattle.vdp.specs.declared.ReadBack.{ReadBack}
 use Rattle.refusal.specs.declared.Refusal.TheVariants.{Accepted}
-use Rattle.vdp.specs.Device.{frontOf, withFront, unlatched}
-use Rattle.vdp.specs.Refusals.{deviceLeft}
-use Rattle.front.specs.Ports.{frontWrite}
-use Rattle.vdp.specs.Ports.{oddPalette, paletteWrite, After, portWrite, portRead}
+use Rattle.vdp.specs.Device.{front_of, with_front, unlatched}
+use Rattle.vdp.specs.Refusals.{device_left}
+use Rattle.front.specs.Ports.{front_write}
+use Rattle.vdp.specs.Ports.{odd_palette, palette_write, After, port_write, port_read}
 use Rattle.front.proofs.Kept.{write_kept}
-use Rattle.front.proofs.Behind.{accepted, front-write-behind, front-read-behind}
+use Rattle.front.proofs.Behind.{accepted, front_write_behind, front_read_behind}
 
 -- ---- of the device
 module _ (s : VdpState) where
   abbrev LeftW : Written → Type 0
-  LeftW a = a.refusal ≢ Accepted → a.vdp ≡ deviceLeft a.refusal s
+  LeftW a = a.refusal ≢ Accepted → a.vdp ≡ device_left a.refusal s
 
   pub record LeftA (m : List ℕ) (a : After) : Type 0 where
     pub device : LeftW a.answer
     pub memory : a.answer.refusal ≢ Accepted → a.vram ≡ m
 
   pub record LeftR (a : ReadBack) : Type 0 where
-    pub device : a.refusal ≢ Accepted → a.vdp ≡ deviceLeft a.refusal s
+    pub device : a.refusal ≢ Accepted → a.vdp ≡ device_left a.refusal s
     pub zero : a.refusal ≢ Accepted → a.byte ≡ 0
 
-  odd : (l : Latch) (v : ℕ) → LeftW (oddPalette l (unlatched s) v)
+  odd : (l : Latch) (v : ℕ) → LeftW (odd_palette l (unlatched s) v)
   odd Empty v = λ _. refl
   odd (Held b) v = accepted
 
-  palette : (v : ℕ) → LeftW (paletteWrite (unlatched s) v)
+  palette : (v : ℕ) → LeftW (palette_write (unlatched s) v)
   palette v = either LeftW (eqb (s.addr % 2) 0) (λ _. accepted) (λ _. odd s.cram_byte1 v)
 
-  pub write-behind : (m : List ℕ) (p v : ℕ) → LeftA m (portWrite s m p v)
-  unfolding portWrite
-  write-behind m p v =
-      let f = frontOf s in
-      let a = frontWrite 64 f m p v in
+  pub write_behind : (m : List ℕ) (p v : ℕ) → LeftA m (port_write s m p v)
+  unfolding port_write
+  write_behind m p v =
+      let f = front_of s in
+      let a = front_write 64 f m p v in
       let k = write_kept 64 f m p v in
-      let b = front-write-behind f 64 m p v in
+      let b = front_write_behind f 64 m p v in
       record {
-        device = either LeftW a.answer.palette (λ t. rw (k.palette t).answer (palette v)) (λ _ n. ap (withFront s) (b.front n));
+        device = either LeftW a.answer.palette (λ t. rw (k.palette t).answer (palette v)) (λ _ n. ap (with_front s) (b.front n));
         memory = either (λ (w : Written). w.refusal ≢ Accepted → a.vram ≡ m) a.answer.palette (λ t _. (k.palette t).memory)
             (λ _ n. b.memory n);
       }
 
-  pub read_behind : (m : List ℕ) (p : ℕ) → LeftR (portRead s m p)
-  unfolding portRead
+  pub read_behind : (m : List ℕ) (p : ℕ) → LeftR (port_read s m p)
+  unfolding port_read
   read_behind m p =
-      let b = front-read-behind (frontOf s) m p s.raster.v_counter in
-      record { device = λ n. ap (withFront s) (b.front n); zero = b.zero }
+      let b = front_read_behind (front_of s) m p s.raster.v_counter in
+      record { device = λ n. ap (with_front s) (b.front n); zero = b.zero }

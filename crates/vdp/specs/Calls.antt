@@ -1,11 +1,11 @@
 -- Runs of port calls: what they answer, and what they leave.
 -- Assumes nothing.
 use Rattle.std.specs.Prelude.{ℕ, List, [], ◌∷◌, replicate}
-use Rattle.laws.specs.Sizes.{vramSize}
+use Rattle.laws.specs.Sizes.{vram_size}
 use Rattle.vdp.specs.declared.VdpState.{VdpState}
 use Rattle.vdp.specs.Device.{fresh}
-use Rattle.refusal.specs.Refusals.{refusalNumber}
-use Rattle.vdp.specs.Ports.{portWrite, portRead}
+use Rattle.refusal.specs.Refusals.{refusal_number}
+use Rattle.vdp.specs.Ports.{port_write, port_read}
 
 -- A call of a port: a write of a byte, or a read.
 pub data Call : Type 0 where
@@ -24,19 +24,19 @@ pub record World : Type 0 where
 
 unfoldable pub after : World → Call → World
 after k (write p v) =
-    let a = portWrite k.device k.vram p v in
+    let a = port_write k.device k.vram p v in
     record { device = a.answer.vdp; vram = a.vram }
-after k (read p) = record { device = (portRead k.device k.vram p).vdp; vram = k.vram }
+after k (read p) = record { device = (port_read k.device k.vram p).vdp; vram = k.vram }
 
 unfoldable pub answer : World → Call → Answer
-answer k (write p v) = w (refusalNumber (portWrite k.device k.vram p v).answer.refusal)
+answer k (write p v) = w (refusal_number (port_write k.device k.vram p v).answer.refusal)
 answer k (read p) =
-    let b = portRead k.device k.vram p in
-    r (refusalNumber b.refusal) b.byte
+    let b = port_read k.device k.vram p in
+    r (refusal_number b.refusal) b.byte
 
-unfoldable pub afterAll : World → List Call → World
-afterAll k [] = k
-afterAll k (c ∷ cs) = afterAll (after k c) cs
+unfoldable pub after_all : World → List Call → World
+after_all k [] = k
+after_all k (c ∷ cs) = after_all (after k c) cs
 
 unfoldable pub answers : World → List Call → List Answer
 answers k [] = []
@@ -44,4 +44,4 @@ answers k (c ∷ cs) = answer k c ∷ answers (after k c) cs
 
 -- A fresh device with zeroed memory.
 unfoldable pub start : World
-start = record { device = fresh; vram = replicate vramSize 0 }
+start = record { device = fresh; vram = replicate vram_size 0 }

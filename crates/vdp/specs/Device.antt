@@ -4,14 +4,14 @@ use Rattle.std.specs.Prelude.{ℕ, List, Bool, true, false, replicate}
 use Rattle.raster.specs.declared.Raster.{Raster}
 use Rattle.raster.specs.declared.LineTable.{LineTable}
 use Rattle.raster.specs.declared.LineTable.TheVariants.{Steps262}
-use Rattle.raster.specs.Raster.{freshRaster}
-use Rattle.laws.specs.Sizes.{cramSize}
+use Rattle.raster.specs.Raster.{fresh_raster}
+use Rattle.laws.specs.Sizes.{cram_size}
 use Rattle.front.specs.declared.Front.{Front}
 use Rattle.vdp.specs.declared.VdpState.{VdpState}
 use Rattle.front.specs.declared.WriteDest.{WriteDest}
 use Rattle.front.specs.declared.Latch.{Latch}
 use Rattle.front.specs.declared.Latch.TheVariants.{Empty}
-use Rattle.front.specs.Front.{freshFront, front, emptied}
+use Rattle.front.specs.Front.{fresh_front, front, emptied}
 
 -- R3.1: the record of these fields, in the order of the Rust's `VdpState`
 abbrev pub device : ℕ → List ℕ → Raster → ℕ → ℕ → WriteDest → List ℕ → Latch → Latch → Bool → List ℕ → VdpState
@@ -33,47 +33,47 @@ device status reg raster addr buffer dest cram command half dirty cache =
 -- R3.2: as it is made, with table t
 abbrev pub made : LineTable → VdpState
 made t =
-    device freshFront.status freshFront.reg (freshRaster t) freshFront.addr freshFront.vram_buffer freshFront.dest
-    (replicate cramSize 0) freshFront.cmd_byte1 Empty true (replicate 32 0)
+    device fresh_front.status fresh_front.reg (fresh_raster t) fresh_front.addr fresh_front.vram_buffer fresh_front.dest
+    (replicate cram_size 0) fresh_front.cmd_byte1 Empty true (replicate 32 0)
 
 -- R4.8: with no table named, that of the chart
 abbrev pub fresh : VdpState
 fresh = made Steps262
 
 -- ---- the part of it that the ports work on, and the same device with another
-abbrev pub frontOf : VdpState → Front
-frontOf d = front d.status d.reg d.addr d.vram_buffer d.dest d.cmd_byte1
+abbrev pub front_of : VdpState → Front
+front_of d = front d.status d.reg d.addr d.vram_buffer d.dest d.cmd_byte1
 
-abbrev pub withFront : VdpState → Front → VdpState
-withFront d f =
+abbrev pub with_front : VdpState → Front → VdpState
+with_front d f =
     device f.status f.reg d.raster f.addr f.vram_buffer f.dest
     d.cram f.cmd_byte1 d.cram_byte1 d.cram_dirty d.color_cache
 
 -- R2.2: with its command latch empty
 abbrev pub unlatched : VdpState → VdpState
-unlatched d = withFront d (emptied (frontOf d))
+unlatched d = with_front d (emptied (front_of d))
 
 -- ---- the same device with another palette latch, and so on
-abbrev pub withPaletteByte : VdpState → Latch → VdpState
-withPaletteByte d l =
+abbrev pub with_palette_byte : VdpState → Latch → VdpState
+with_palette_byte d l =
     device d.status d.reg d.raster d.addr d.vram_buffer d.dest d.cram d.cmd_byte1 l d.cram_dirty d.color_cache
 
 abbrev pub with_addr : VdpState → ℕ → VdpState
 with_addr d a =
     device d.status d.reg d.raster a d.vram_buffer d.dest d.cram d.cmd_byte1 d.cram_byte1 d.cram_dirty d.color_cache
 
-abbrev pub withStatus : VdpState → ℕ → VdpState
-withStatus d s =
+abbrev pub with_status : VdpState → ℕ → VdpState
+with_status d s =
     device s d.reg d.raster d.addr d.vram_buffer d.dest d.cram d.cmd_byte1 d.cram_byte1 d.cram_dirty d.color_cache
 
-abbrev pub withRaster : VdpState → Raster → VdpState
-withRaster d x =
+abbrev pub with_raster : VdpState → Raster → VdpState
+with_raster d x =
     device d.status d.reg x d.addr d.vram_buffer d.dest d.cram d.cmd_byte1 d.cram_byte1 d.cram_dirty d.color_cache
 
 -- the palette, and whether the cache is behind it; the cache, and that it is not
-abbrev pub withPalette : VdpState → List ℕ → Bool → VdpState
-withPalette d p behind =
+abbrev pub with_palette : VdpState → List ℕ → Bool → VdpState
+with_palette d p behind =
     device d.status d.reg d.raster d.addr d.vram_buffer d.dest p d.cmd_byte1 d.cram_byte1 behind d.color_cache
 
-abbrev pub withCache : VdpState → List ℕ → VdpState
-withCache d c = device d.status d.reg d.raster d.addr d.vram_buffer d.dest d.cram d.cmd_byte1 d.cram_byte1 false c
+abbrev pub with_cache : VdpState → List ℕ → VdpState
+with_cache d c = device d.status d.reg d.raster d.addr d.vram_buffer d.dest d.cram d.cmd_byte1 d.cram_byte1 false c

@@ -2,7 +2,7 @@
 -- Assumes nothing.
 use Rattle.std.specs.Prelude.{ℕ, ◌+◌, ◌-◌, ◌%◌, ◌≡◌, List, cond, ◌||◌, set, eqb}
 use Rattle.laws.specs.Lists.{at}
-use Rattle.laws.specs.Sizes.{cramSize}
+use Rattle.laws.specs.Sizes.{cram_size}
 use Rattle.front.specs.declared.FrontWritten.{FrontWritten}
 use Rattle.vdp.specs.declared.VdpState.{VdpState}
 use Rattle.vdp.specs.declared.Written.{Written}
@@ -11,8 +11,8 @@ use Rattle.front.specs.declared.Latch.{Latch}
 use Rattle.front.specs.declared.Latch.TheVariants.{Empty, Held}
 use Rattle.refusal.specs.declared.Refusal.{Refusal}
 use Rattle.refusal.specs.declared.Refusal.TheVariants.{Accepted, NoPaletteByte}
-use Rattle.vdp.specs.Device.{frontOf, withFront, withPaletteByte, with_addr, withPalette}
-use Rattle.front.specs.Ports.{frontWrite, frontRead}
+use Rattle.vdp.specs.Device.{front_of, with_front, with_palette_byte, with_addr, with_palette}
+use Rattle.front.specs.Ports.{front_write, front_read}
 use Rattle.front.specs.Front.{changed}
 
 -- ---- the device: R3.7, a byte for its palette. The address lies in it, and the command latch is empty
@@ -20,21 +20,21 @@ abbrev pub answered : Refusal → VdpState → Written
 answered r d = record { refusal = r; vdp = d }
 
 -- even: the byte waits, and no colour changes
-abbrev pub evenPalette : VdpState → ℕ → Written
-evenPalette s v = answered Accepted (with_addr (withPaletteByte s (Held v)) ((s.addr + 1) % cramSize))
+abbrev pub even_palette : VdpState → ℕ → Written
+even_palette s v = answered Accepted (with_addr (with_palette_byte s (Held v)) ((s.addr + 1) % cram_size))
 
 -- odd: both bytes are stored, dirty where one is another than before; the byte waits on
 abbrev pub stored : VdpState → ℕ → ℕ → ℕ → VdpState
 stored s a low high =
-    withPalette s (set (set s.cram (a - 1) low) a high)
+    with_palette s (set (set s.cram (a - 1) low) a high)
     (s.cram_dirty || changed (at s.cram (a - 1)) low || changed (at s.cram a) high)
 
-abbrev pub oddPalette : Latch → VdpState → ℕ → Written
-oddPalette Empty s v = answered NoPaletteByte s
-oddPalette (Held low) s v = answered Accepted (with_addr (stored s s.addr low (v % 16)) ((s.addr + 1) % cramSize))
+abbrev pub odd_palette : Latch → VdpState → ℕ → Written
+odd_palette Empty s v = answered NoPaletteByte s
+odd_palette (Held low) s v = answered Accepted (with_addr (stored s s.addr low (v % 16)) ((s.addr + 1) % cram_size))
 
-abbrev pub paletteWrite : VdpState → ℕ → Written
-paletteWrite s v = cond (eqb (s.addr % 2) 0) (evenPalette s v) (oddPalette s.cram_byte1 s v)
+abbrev pub palette_write : VdpState → ℕ → Written
+palette_write s v = cond (eqb (s.addr % 2) 0) (even_palette s v) (odd_palette s.cram_byte1 s v)
 
 -- ---- the port calls
 -- What a write leaves: its answer, with the device in it, and video memory.
@@ -45,19 +45,19 @@ pub record After : Type 0 where
 -- the front's answer, on the device that has it
 abbrev pub written_by : VdpState → ℕ → FrontWritten → Written
 written_by s v a =
-    cond a.palette (paletteWrite (withFront s a.front) v) (answered a.refusal (withFront s a.front))
+    cond a.palette (palette_write (with_front s a.front) v) (answered a.refusal (with_front s a.front))
 
-unfoldable pub portWrite : VdpState → List ℕ → ℕ → ℕ → After
-portWrite s m p v =
-    let a = frontWrite cramSize (frontOf s) m p v in
+unfoldable pub port_write : VdpState → List ℕ → ℕ → ℕ → After
+port_write s m p v =
+    let a = front_write cram_size (front_of s) m p v in
     record { answer = written_by s v a.answer; vram = a.vram }
 
-unfoldable pub portRead : VdpState → List ℕ → ℕ → ReadBack
-portRead s m p =
-    let a = frontRead (frontOf s) m p s.raster.v_counter in
-    record { refusal = a.refusal; byte = a.byte; vdp = withFront s a.front }
+unfoldable pub port_read : VdpState → List ℕ → ℕ → ReadBack
+port_read s m p =
+    let a = front_read (front_of s) m p s.raster.v_counter in
+    record { refusal = a.refusal; byte = a.byte; vdp = with_front s a.front }
 
 -- What a port write promises: its answer r, and what video memory holds after it, m'.
 pub record WriteLeaves (s : VdpState) (m : List ℕ) (p v : ℕ) (r : Written) (m' : List ℕ) : Type 0 where
-  pub answer : r ≡ (portWrite s m p v).answer
-  pub memory : m' ≡ (portWrite s m p v).vram
+  pub answer : r ≡ (port_write s m p v).answer
+  pub memory : m' ≡ (port_write s m p v).vram

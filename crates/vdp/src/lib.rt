@@ -1,8 +1,8 @@
 // The handheld: its record (R3.1), and its port calls, the front's but for the palette. Video memory is lent by the caller.
 ghost use Rattle.std.specs.Prelude.{◌≡◌, ◌+◌, ◌-◌, ◌%◌, ◌<◌};
-ghost use Rattle.laws.specs.Sizes.{cramSize};
-ghost use Rattle.vdp.specs.Device.{made, fresh, frontOf, withFront, withPaletteByte};
-ghost use Rattle.vdp.specs.Ports.{paletteWrite, WriteLeaves, portRead};
+ghost use Rattle.laws.specs.Sizes.{cram_size};
+ghost use Rattle.vdp.specs.Device.{made, fresh, front_of, with_front, with_palette_byte};
+ghost use Rattle.vdp.specs.Ports.{palette_write, WriteLeaves, port_read};
 
 use front::{Front, Latch, WriteDest};
 use raster::{LineTable, Raster};
@@ -75,7 +75,7 @@ impl VdpState {
 
     // The part of it that the ports work on.
     fn front(self) -> Front
-        ensures { result ≡ frontOf self }
+        ensures { result ≡ front_of self }
     {
         let reg = self.reg;
         let dest = self.dest;
@@ -92,7 +92,7 @@ impl VdpState {
 
     // The same device with another front.
     fn with_front(self, front: Front) -> Self
-        ensures { result ≡ withFront self front }
+        ensures { result ≡ with_front self front }
     {
         let reg = front.reg;
         let raster = self.raster;
@@ -118,7 +118,7 @@ impl VdpState {
 
     // The same device with another palette latch.
     fn with_palette_byte(self, latch: Latch) -> Self
-        ensures { result ≡ withPaletteByte self latch }
+        ensures { result ≡ with_palette_byte self latch }
     {
         let reg = self.reg;
         let raster = self.raster;
@@ -143,8 +143,8 @@ impl VdpState {
 
     // A byte for the palette (R3.7): the first of two is latched, the second stores both, and the first stays latched.
     fn write_palette(self, val: u8) -> Written
-        requires { self.addr < cramSize }
-        ensures { result ≡ paletteWrite self val }
+        requires { self.addr < cram_size }
+        ensures { result ≡ palette_write self val }
     {
         let addr = self.addr;
         if addr % 2 == 0 {
@@ -198,7 +198,7 @@ impl VdpState {
 
     // A port read, all of it the front's but for the line counter (R3.10).
     pub fn input(self, vram: &[u8], addr: u16) -> ReadBack
-        ensures { result ≡ portRead self vram.now addr }
+        ensures { result ≡ port_read self vram.now addr }
     {
         let raster = self.raster;
         let front = self.front();

@@ -3,31 +3,31 @@
 -- Assumes nothing.
 use Rattle.std.specs.Prelude.{Bool, cond, ℕ, ◌+◌, ◌*◌, ◌%◌}
 use Rattle.refusal.specs.declared.Refusal.{Refusal}
-use Rattle.refusal.specs.Refusals.{refusalNumber}
+use Rattle.refusal.specs.Refusals.{refusal_number}
 use Rattle.points.specs.declared.VdpInt.{VdpInt}
 use Rattle.points.specs.declared.DisplayRefresh.{DisplayRefresh}
 use Rattle.points.specs.declared.DrawnRow.{DrawnRow}
 use Rattle.points.specs.declared.DrawnRow.TheVariants.{NoRow, Drawn}
 use Rattle.points.specs.declared.Points.{Points}
-use Rattle.points.specs.Points.{interruptNumber, reportNumber}
+use Rattle.points.specs.Points.{interrupt_number, report_number}
 
-abbrev pub rowBits : DrawnRow → ℕ
-rowBits NoRow = 0
-rowBits (Drawn y) = 65536 * y + 16777216
+abbrev pub row_bits : DrawnRow → ℕ
+row_bits NoRow = 0
+row_bits (Drawn y) = 65536 * y + 16777216
 
-unfoldable pub answerWord : Refusal → VdpInt → DisplayRefresh → DrawnRow → ℕ
-answerWord r i p row = refusalNumber r + 256 * interruptNumber i + 512 * reportNumber p + rowBits row
+unfoldable pub answer_word : Refusal → VdpInt → DisplayRefresh → DrawnRow → ℕ
+answer_word r i p row = refusal_number r + 256 * interrupt_number i + 512 * report_number p + row_bits row
 
-abbrev pub pointsWord : Points → ℕ
-pointsWord p = answerWord p.refusal p.interrupt p.report p.row
+abbrev pub points_word : Points → ℕ
+points_word p = answer_word p.refusal p.interrupt p.report p.row
 
-abbrev pub byteWord : Refusal → ℕ → ℕ
-byteWord r byte = refusalNumber r + 256 * byte
+abbrev pub byte_word : Refusal → ℕ → ℕ
+byte_word r byte = refusal_number r + 256 * byte
 
 -- R16.6, of one pixel: bit 24 where there is one, and its four bytes in bits 32 to 63, red lowest
-abbrev pub pixelBits : Bool → ℕ → ℕ
-pixelBits there colour = cond there 16777216 0 + 4294967296 * colour
+abbrev pub pixel_bits : Bool → ℕ → ℕ
+pixel_bits there colour = cond there 16777216 0 + 4294967296 * colour
 
 -- the refusal is the word's low byte
-abbrev pub refusalIn : ℕ → ℕ
-refusalIn word = word % 256
+abbrev pub refusal_in : ℕ → ℕ
+refusal_in word = word % 256

@@ -1,49 +1,49 @@
 // The answer word of the C face (R7.7): which bits say what.
 ghost use Rattle.std.specs.Prelude.{◌≡◌, ◌+◌, ◌≤◌, ◌<◌, cond};
-ghost use Rattle.refusal.specs.Refusals.{refusalNumber, first};
-ghost use Rattle.points.specs.Points.{interruptNumber, reportNumber};
-ghost use Rattle.word.specs.Word.{rowBits, pointsWord, pixelBits};
-ghost use Rattle.word.specs.Called.{askedLines};
+ghost use Rattle.refusal.specs.Refusals.{refusal_number, first};
+ghost use Rattle.points.specs.Points.{interrupt_number, report_number};
+ghost use Rattle.word.specs.Word.{row_bits, points_word, pixel_bits};
+ghost use Rattle.word.specs.Called.{asked_lines};
 
 use points::{DisplayRefresh, DrawnRow, Points, VdpInt};
 use refusal::Refusal;
 
 // The parts of an answer, as parts of a word: refusal, interrupt, report, and the row with the drawn bit.
 pub fn number(r: Refusal) -> u32
-    ensures { (result ≡ refusalNumber r) × (result < 256) }
+    ensures { (result ≡ refusal_number r) × (result < 256) }
 {
     refusal::refusal_number(r) as u32
 }
 
 // A line of a table of refusals: its number where it holds, and else what the rest of the table comes to.
 fn line(holds: bool, refusal: Refusal, rest: u32) -> u32
-    ensures { result ≡ cond holds (refusalNumber refusal) rest }
+    ensures { result ≡ cond holds (refusal_number refusal) rest }
 {
     if holds { number(refusal) } else { rest }
 }
 
 // The number by which a call that asks for an area is refused before its own tests; 0 where it is not.
 pub fn asked(well_formed: bool, area: u8) -> u32
-    ensures { result ≡ refusalNumber (first (askedLines well_formed area)) }
+    ensures { result ≡ refusal_number (first (asked_lines well_formed area)) }
 {
     let later = line(picture::LAST_AREA < area, Refusal::UnknownArea, 0);
     line(!well_formed, Refusal::BlockMalformed, later)
 }
 
 fn interrupt_number(i: VdpInt) -> u32
-    ensures { (result ≡ interruptNumber i) × (result < 2) }
+    ensures { (result ≡ interrupt_number i) × (result < 2) }
 {
     points::interrupt_number(i) as u32
 }
 
 fn report_number(r: DisplayRefresh) -> u32
-    ensures { (result ≡ reportNumber r) × (result < 3) }
+    ensures { (result ≡ report_number r) × (result < 3) }
 {
     points::report_number(r) as u32
 }
 
 fn row_bits(r: DrawnRow) -> u32
-    ensures { (result ≡ rowBits r) × (result < 33554432) }
+    ensures { (result ≡ row_bits r) × (result < 33554432) }
 {
     match r {
         DrawnRow::NoRow => 0,
@@ -53,7 +53,7 @@ fn row_bits(r: DrawnRow) -> u32
 
 // The word of a step, by its points.
 pub fn word_of(points: Points) -> u32
-    ensures { result ≡ pointsWord points }
+    ensures { result ≡ points_word points }
 {
     let refusal = points.refusal;
     let interrupt = points.interrupt;
@@ -74,7 +74,7 @@ fn long(word: u32) -> u64
 
 // A pixel's part of its word: that it is there, and its colour.
 fn pixel_bits(there: bool, colour: u32) -> u64
-    ensures value { result ≡ pixelBits there colour }
+    ensures value { result ≡ pixel_bits there colour }
     ensures upper_bound { result ≤ 18446744069431361536 }
 {
     let bytes = 4294967296 * long(colour);
@@ -83,7 +83,7 @@ fn pixel_bits(there: bool, colour: u32) -> u64
 
 // The word of one pixel (R16.6).
 pub fn pixel_word(refusal: Refusal, there: bool, colour: u32) -> u64
-    ensures { result ≡ refusalNumber refusal + pixelBits there colour }
+    ensures { result ≡ refusal_number refusal + pixel_bits there colour }
 {
     long(number(refusal)) + pixel_bits(there, colour)
 }

@@ -1,12 +1,12 @@
 -- `background::lay` meets its contract: the mask with the marks of a row of tiles.
 use Rattle.std.proofs.Common.{◌≡◌, ◌-◌, ◌≤◌, get_or, ◌∙◌, arith, w8, Fits, rules}
 use Rattle.laws.specs.Lists.{at}
-use Rattle.background.proofs.Marks.{laidTo, lay-none, lay_step, lay-all}
+use Rattle.background.proofs.Marks.{laid_to, lay_none, lay_step, lay_all}
 use Rattle.background.proofs.lay.Statement.{statement}
 use Rattle.background.proofs.lay.Tie as tie
 
 abbrev invariant-loop : tie.invariant-loop
-invariant-loop shift prio₀ marks i₀ prio i = (i ≤ 32) × (prio.bits ≡ laidTo marks shift prio₀.bits i)
+invariant-loop shift prio₀ marks i₀ prio i = (i ≤ 32) × (prio.bits ≡ laid_to marks shift prio₀.bits i)
 
 abbrev decreases-loop : tie.decreases-loop
 decreases-loop shift prio₀ marks i₀ prio i = 32 - i
@@ -15,7 +15,7 @@ loop-holds : tie.Need-loop-init invariant-loop decreases-loop
 loop-holds c =
     let a = c.args in (
       omega arith,
-      lay-none a.t2 a.shift a.t1.bits (search rules) (λ k. let f : Fits w8 (get_or a.t1.bits k 0) = search rules in f.fits),
+      lay_none a.t2 a.shift a.t1.bits (search rules) (λ k. let f : Fits w8 (get_or a.t1.bits k 0) = search rules in f.fits),
     )
 
 add-lower : tie.Need-overflow-add-lower invariant-loop decreases-loop
@@ -63,7 +63,7 @@ returns c =
     let at-loop = c.before in
     let a = at-loop.before.args in
     let e : at-loop.loop.i ≡ 32 = omega arith in
-    at-loop.loop.invariant.1 ∙ lay-all a.t2 a.shift a.t1.bits e
+    at-loop.loop.invariant.1 ∙ lay_all a.t2 a.shift a.t1.bits e
 
 pub lay-spec : {M : Type 1} → statement M
 lay-spec =

@@ -1,6 +1,6 @@
 -- `background::line_at` meets its contract: where line y of the tile with these entry bytes stands.
 use Rattle.std.proofs.Common.{arith, rules}
-use Rattle.picture.specs.Tile.{tileLine}
+use Rattle.picture.specs.Tile.{tile_line}
 use Rattle.background.proofs.line_at.Statement.{statement}
 use Rattle.background.proofs.line_at.Tie as tie
 
@@ -29,7 +29,7 @@ add-result : tie.Need-overflow-add-result
 add-result c = search rules
 
 returns : tie.Need-returns
-unfolding tileLine
+unfolding tile_line
 returns c =
     let at-weight = c.before.before in
     let at-is-set = at-weight.before in

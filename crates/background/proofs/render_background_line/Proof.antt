@@ -3,21 +3,21 @@ use Rattle.std.proofs.Common.{◌≡◌, ℕ, ◌+◌, ◌-◌, ◌*◌, ◌/◌
 use lib.ListN.{length-replicate}
 use Rattle.laws.specs.Lists.{at}
 use Rattle.laws.specs.Paint.{painted}
-use Rattle.laws.proofs.Paint.{painted-on}
-use Rattle.bitmap.specs.Mask.{bytesOf}
-use Rattle.background.specs.Background.{shade, backColour, backFront, prioTo}
-use Rattle.background.proofs.Laws.{tile-marks, whole-first, from_start, from-cleared, first_ends, last-asks, whole-asks}
-use Rattle.background.proofs.Laws.{not_first, inside, whole-marks, next-starts, own-mark, other-mark, mark-step, up_to, painted-rest}
-use Rattle.background.proofs.Marks.{laidIn, laid_none, laid_next, at-zeros}
+use Rattle.laws.proofs.Paint.{painted_on}
+use Rattle.bitmap.specs.Mask.{bytes_of}
+use Rattle.background.specs.Background.{shade, back_colour, back_front, prio_to}
+use Rattle.background.proofs.Laws.{tile_marks, whole-first, from_start, from-cleared, first_ends, last_asks, whole_asks}
+use Rattle.background.proofs.Laws.{not_first, inside, whole-marks, next_starts, own_mark, other_mark, mark_step, up_to, painted_rest}
+use Rattle.background.proofs.Marks.{laid_in, laid_none, laid_next, at_zeros}
 use Rattle.background.proofs.render_background_line.Statement.{statement}
 use Rattle.background.proofs.render_background_line.Tie as tie
 
 abbrev invariant-loop : tie.invariant-loop
 invariant-loop row₀ vram colours names sx y width cut first prio table marks₀ x₀ row marks x =
     (x ≤ width)
-    × ((base : List ℕ) → row₀ ≡ painted base 0 x₀ (shade colours (backColour vram names sx y)) → row ≡ painted base 0 x
-    (shade colours (backColour vram names sx y)))
-    × (prio.bits ≡ bytesOf (prioTo vram names sx y cut x₀) → laidIn marks (first % 8) prio.bits ≡ bytesOf (prioTo vram names sx y cut x))
+    × ((base : List ℕ) → row₀ ≡ painted base 0 x₀ (shade colours (back_colour vram names sx y)) → row ≡ painted base 0 x
+    (shade colours (back_colour vram names sx y)))
+    × (prio.bits ≡ bytes_of (prio_to vram names sx y cut x₀) → laid_in marks (first % 8) prio.bits ≡ bytes_of (prio_to vram names sx y cut x))
     × (length row ≡ length row₀)
     × (x < width → (8 ≤ sx % 8 + x) × ((sx + x) % 8 ≡ 0))
     × (length marks ≡ 33)
@@ -61,12 +61,12 @@ loop-holds c =
     let f = first_ends a.sx a.width at-smaller.smaller.ensures in (
       f.0,
       λ base e. e,
-      λ e. laid_none (prioTo a.vram.now a.names a.sx a.y a.cut m) (m % 8) e,
+      λ e. laid_none (prio_to a.vram.now a.names a.sx a.y a.cut m) (m % 8) e,
       refl,
       f.1,
       length-replicate {A = ℕ} 33 0,
       refl,
-      λ k h. at-zeros k,
+      λ k h. at_zeros k,
     )
 
 add-loop : tie.Need-overflow-add-loop invariant-loop decreases-loop
@@ -81,7 +81,7 @@ render-whole-tile-requires c κs =
     let p = at-start.requires.1 in
     let v = at-loop.loop.invariant in
     let h : a.width * 4 ≤ length at-loop.loop.row = rw (v.3, at-loop.before.before.before.row.given) p.1 in
-    (at-start.requires.0, whole-asks a.sx a.width a.cut at-loop.loop.x p.2 p.0 v.4 at_test.loop-test.true _ h)
+    (at-start.requires.0, whole_asks a.sx a.width a.cut at-loop.loop.x p.2 p.0 v.4 at_test.loop-test.true _ h)
 
 add-marks : tie.Need-overflow-add-marks invariant-loop decreases-loop
 add-marks c = search rules
@@ -112,22 +112,22 @@ loop-again c =
     let t = at_test.loop-test.true in (
       t,
       λ base e.
-          painted-on _ _ _ _ (v.1 base e)
+          painted_on _ _ _ _ (v.1 base e)
           (rw at-bytes-of.bytes_of.ensures.1 at at-render-whole-tile.render-whole-tile.ensures.0),
       λ e.
-          tile-marks a.vram.now a.names a.sx a.y a.cut x 8 (lit≤ tt)
+          tile_marks a.vram.now a.names a.sx a.y a.cut x 8 (lit≤ tt)
           (whole-marks a.sx a.width a.cut x p.2 p.0 v.4 t)
-          (λ j. backFront a.vram.now a.names a.sx a.y (x + j)) true (λ j h. refl) (v.2 e)
+          (λ j. back_front a.vram.now a.names a.sx a.y (x + j)) true (λ j h. refl) (v.2 e)
           at-render-whole-tile.render-whole-tile.ensures.1
           (rw (ne_eqb x 0 (not_first a.sx a.width a.cut x p.2 p.0 v.4 t))
           (laid_next at-loop.loop.marks at-render-tile.render-tile.result.bits (at-smaller.smaller.result % 8) x bits v.6
           (inside a.sx a.width a.cut x p.2 p.0 v.4 t)
-          at-render-whole-tile.render-whole-tile.type-inv v.5 (v.7 (x / 8 + 1) (own-mark x)))),
+          at-render-whole-tile.render-whole-tile.type-inv v.5 (v.7 (x / 8 + 1) (own_mark x)))),
       c.before.row2.given ∙ v.3,
-      next-starts a.sx a.width a.cut x p.2 p.0 v.4 t,
+      next_starts a.sx a.width a.cut x p.2 p.0 v.4 t,
       simp length-set v.5,
-      mark-step x at-smaller.smaller.result v.6,
-      λ k h. let o = other-mark x k h in get_or-set_other at-loop.loop.marks (x / 8 + 1) k bits 0 o.0 ∙ v.7 k o.1,
+      mark_step x at-smaller.smaller.result v.6,
+      λ k h. let o = other_mark x k h in get_or-set_other at-loop.loop.marks (x / 8 + 1) k bits 0 o.0 ∙ v.7 k o.1,
     )
 
 lay-requires : tie.Need-lay-requires invariant-loop decreases-loop
@@ -147,7 +147,7 @@ render-tile-requires-2 c κs =
     let v = at-loop.loop.invariant in
     let h : a.width * 4 ≤ length at-loop.loop.row = rw (v.3, at-loop.before.before.before.row.given) p.1 in (
       at-start.requires.0,
-      last-asks a.sx a.width a.cut at-loop.loop.x p.2 p.0 v.4 _ at-if1.if1.true at_after.loop-test.false h,
+      last_asks a.sx a.width a.cut at-loop.loop.x p.2 p.0 v.4 _ at-if1.if1.true at_after.loop-test.false h,
     )
 
 same_length : tie.Need-same-length invariant-loop decreases-loop
@@ -164,15 +164,15 @@ returns c =
     let at-start = at_new.before.before.before in
     let a = at-start.args in
     let m = at-smaller.smaller.result in
-    let r1 = from_start a.row.now m (shade a.colours.now (backColour a.vram.now a.names a.sx a.y))
+    let r1 = from_start a.row.now m (shade a.colours.now (back_colour a.vram.now a.names a.sx a.y))
     at-render-tile.render-tile.ensures.0 in
     let p1 = from-cleared a.vram.now a.names a.sx a.y a.cut m at-render-tile.render-tile.ensures.1 at_new.new.ensures in
     let v = at-loop.loop.invariant in
     let x = at-loop.loop.x in (
-      painted-rest a.row.now x a.width (shade a.colours.now (backColour a.vram.now a.names a.sx a.y)) v.0
+      painted_rest a.row.now x a.width (shade a.colours.now (back_colour a.vram.now a.names a.sx a.y)) v.0
           (v.1 a.row.now r1) at-render-tile2.render-tile2.ensures.0,
       at-render-tile2.render-tile2.ensures.1 (at-lay.lay.ensures ∙ v.2 p1)
-          ∙ ap (λ (k : ℕ). bytesOf (prioTo a.vram.now a.names a.sx a.y a.cut k)) (up_to x a.width v.0),
+          ∙ ap (λ (k : ℕ). bytes_of (prio_to a.vram.now a.names a.sx a.y a.cut k)) (up_to x a.width v.0),
     )
 
 same-length-2 : tie.Need-same-length-2 invariant-loop decreases-loop
@@ -188,15 +188,15 @@ returns-2 c =
     let at-start = at_new.before.before.before in
     let a = at-start.args in
     let m = at-smaller.smaller.result in
-    let r1 = from_start a.row.now m (shade a.colours.now (backColour a.vram.now a.names a.sx a.y))
+    let r1 = from_start a.row.now m (shade a.colours.now (back_colour a.vram.now a.names a.sx a.y))
     at-render-tile.render-tile.ensures.0 in
     let p1 = from-cleared a.vram.now a.names a.sx a.y a.cut m at-render-tile.render-tile.ensures.1 at_new.new.ensures in
     let v = at-loop.loop.invariant in
     let x = at-loop.loop.x in
     let e : x ≡ a.width = le_antisymm v.0 c.if1.false in (
       v.1 a.row.now r1
-          ∙ ap (λ (k : ℕ). painted a.row.now 0 k (shade a.colours.now (backColour a.vram.now a.names a.sx a.y))) e,
-      at-lay.lay.ensures ∙ v.2 p1 ∙ ap (λ (k : ℕ). bytesOf (prioTo a.vram.now a.names a.sx a.y a.cut k)) e,
+          ∙ ap (λ (k : ℕ). painted a.row.now 0 k (shade a.colours.now (back_colour a.vram.now a.names a.sx a.y))) e,
+      at-lay.lay.ensures ∙ v.2 p1 ∙ ap (λ (k : ℕ). bytes_of (prio_to a.vram.now a.names a.sx a.y a.cut k)) e,
     )
 
 pub render-background-line-spec : {M : Type 1} → statement M

@@ -1,8 +1,8 @@
 -- `background::render_tile` meets its contract: n pixels from x on, which all lie in one tile.
 use Rattle.std.proofs.Common.{◌+◌, ◌%◌, ◌<◌, ◌∙◌, arith, rules}
-use Rattle.laws.proofs.Paint.{painted-cong}
-use Rattle.tile.specs.Line.{lineSolid}
-use Rattle.background.proofs.Laws.{back-shade, back-in-front, tile-marks}
+use Rattle.laws.proofs.Paint.{painted_cong}
+use Rattle.tile.specs.Line.{line_solid}
+use Rattle.background.proofs.Laws.{back_shade, back_in_front, tile_marks}
 use Rattle.background.proofs.render_tile.Statement.{statement}
 use Rattle.background.proofs.render_tile.Tie as tie
 
@@ -71,17 +71,17 @@ returns c =
     let fl = at-is-set.is_set.ensures in
     let ad = at-line-at.line_at.ensures.0 in (
       at-character-line.character-line.ensures.0
-          ∙ painted-cong _ _ _ _ _ (λ i h.
+          ∙ painted_cong _ _ _ _ _ (λ i h.
           let l : (a.sx + a.x) % 8 + i < 8 = omega (arith, p.1.0.0) in
-          back-shade a.vram.now a.names a.sx a.y a.x i l a.colours.now fl at-is-set2.is-set2.ensures
+          back_shade a.vram.now a.names a.sx a.y a.x i l a.colours.now fl at-is-set2.is-set2.ensures
           at-weight.weight.ensures.0 ad),
       λ e.
-          tile-marks a.vram.now a.names a.sx a.y a.cut a.x a.n p.1.1.0 p.1.1.2
-          (lineSolid a.vram.now at-line-at.line_at.result at-is-set.is_set.result ((a.sx + a.x) % 256 % 8))
+          tile_marks a.vram.now a.names a.sx a.y a.cut a.x a.n p.1.1.0 p.1.1.2
+          (line_solid a.vram.now at-line-at.line_at.result at-is-set.is_set.result ((a.sx + a.x) % 256 % 8))
           at-is-set3.is-set3.result
           (λ j h.
           let l : (a.sx + a.x) % 8 + j < 8 = omega (arith, p.1.0.0) in
-          back-in-front a.vram.now a.names a.sx a.y a.x j l fl at-is-set3.is-set3.ensures ad)
+          back_in_front a.vram.now a.names a.sx a.y a.x j l fl at-is-set3.is-set3.ensures ad)
           e at-character-line.character-line.ensures.1 (rw c.before.place_of.ensures at c.with-marks.ensures),
     )
 

@@ -1,9 +1,9 @@
 -- `background::render_whole_tile` meets its contract: the eight pixels from x on, which are a whole tile.
 use Rattle.std.proofs.Common.{◌≡◌, ◌+◌, ◌*◌, ◌/◌, ◌%◌, ◌<◌, eqb, sym, ◌∙◌, arith, rules}
-use Rattle.laws.proofs.Bits.{number-ext}
-use Rattle.laws.proofs.Paint.{painted-cong}
-use Rattle.tile.specs.Line.{coloursIn, lineSolid}
-use Rattle.background.proofs.Laws.{entry-bit, entry-palette, entry-line, back-shade, back-in-front, where-front}
+use Rattle.laws.proofs.Bits.{number_ext}
+use Rattle.laws.proofs.Paint.{painted_cong}
+use Rattle.tile.specs.Line.{colours_in, line_solid}
+use Rattle.background.proofs.Laws.{entry_bit, entry_palette, entry_line, back_shade, back_in_front, where_front}
 use Rattle.background.proofs.render_whole_tile.Statement.{statement}
 use Rattle.background.proofs.render_whole_tile.Tie as tie
 
@@ -77,20 +77,20 @@ returns c =
     let z : (a.sx + a.x) % 256 % 8 ≡ 0 = omega (arith, p.1.0) in
     let w = at_wide.wide.ensures in
     let w2 = at-wide2.wide2.ensures in
-    let fl = entry-bit w.1 w.0 w2.0 1 in
-    let fr = entry-bit w.1 w.0 w2.0 4 in
-    let ad = entry-line w.1 w.0 w2.0 a.y at-line-in.line-in.ensures.0 in (
+    let fl = entry_bit w.1 w.0 w2.0 1 in
+    let fr = entry_bit w.1 w.0 w2.0 4 in
+    let ad = entry_line w.1 w.0 w2.0 a.y at-line-in.line-in.ensures.0 in (
       at-character-whole.character-whole.ensures.0
-          ∙ painted-cong _ _ _ _ _ (λ i h.
+          ∙ painted_cong _ _ _ _ _ (λ i h.
           let l : (a.sx + a.x) % 8 + i < 8 = omega (arith, p.1.0) in
-          rw z at (back-shade a.vram.now a.names a.sx a.y a.x i l (coloursIn a.table.now) fl (entry-bit w.1 w.0 w2.0 3)
-          (entry-palette w.1 w.0 w2.0) ad)),
+          rw z at (back_shade a.vram.now a.names a.sx a.y a.x i l (colours_in a.table.now) fl (entry_bit w.1 w.0 w2.0 3)
+          (entry_palette w.1 w.0 w2.0) ad)),
       c.where-on.ensures
           ∙ rw at-character-whole.character-whole.ensures.1
-          (where-front (eqb (entry / 4096 % 2) 1) (lineSolid a.vram.now (32 * (entry % 512) + at-line-in.line-in.result) (eqb (entry / 512 % 2) 1) 0))
-          ∙ number-ext 8 _ _ (λ i h.
+          (where_front (eqb (entry / 4096 % 2) 1) (line_solid a.vram.now (32 * (entry % 512) + at-line-in.line-in.result) (eqb (entry / 512 % 2) 1) 0))
+          ∙ number_ext 8 _ _ (λ i h.
           let l : (a.sx + a.x) % 8 + i < 8 = omega (arith, p.1.0) in
-          sym (rw z at (back-in-front a.vram.now a.names a.sx a.y a.x i l fl fr ad))),
+          sym (rw z at (back_in_front a.vram.now a.names a.sx a.y a.x i l fl fr ad))),
     )
 
 pub render-whole-tile-spec : {M : Type 1} → statement M

@@ -3,8 +3,8 @@ use borrow.Author.Rules.{rules}
 use native.Mathlib.Omega.{arith}
 use mathlib.Core.Path.{sym, ◌∙◌}
 use borrow.Author.Tests.{not-true, not-false}
-use Rattle.block.specs.Block.{freshIn}
-use Rattle.block.proofs.Made.{low, fresh-old, fresh-new}
+use Rattle.block.specs.Block.{fresh_in}
+use Rattle.block.proofs.Made.{low, fresh_old, fresh_new}
 use Rattle.block.proofs.fresh.Statement.{statement}
 use Rattle.block.proofs.fresh.Tie as tie
 
@@ -12,7 +12,7 @@ has-room-requires : tie.Need-has-room-requires
 has-room-requires c κs = search rules
 
 returns : tie.Need-returns
-unfolding freshIn
+unfolding fresh_in
 returns c = simp (sym c.before.has_room.ensures ∙ not-true _ c.if1.true)
 
 mark-of-requires : tie.Need-mark-of-requires
@@ -44,8 +44,8 @@ returns-2 c =
     let at-if1 = at-mark-of.before.before in
     let at-has-room = at-if1.before in
     let at-start = at-has-room.before.before in
-    fresh-new at-start.args.table at-start.args.block.now (sym at-has-room.has_room.ensures ∙ not-false _ at-if1.if1.false)
-    at-stamp.stamp.ensures at-mark-of.mark_of.ensures c.before.if2.true c.table-number.ensures
+    fresh_new at-start.args.table at-start.args.block.now (sym at-has-room.has_room.ensures ∙ not-false _ at-if1.if1.false)
+    at-stamp.stamp.ensures at-mark-of.mark_of.ensures c.before.if2.true c.table_number.ensures
 
 same-length-2 : tie.Need-same-length-2
 same-length-2 c = search rules
@@ -57,7 +57,7 @@ returns-3 c =
     let at-if1 = at-mark-of.before.before in
     let at-has-room = at-if1.before in
     let at-start = at-has-room.before.before in
-    fresh-old at-start.args.table at-start.args.block.now (sym at-has-room.has_room.ensures ∙ not-false _ at-if1.if1.false)
+    fresh_old at-start.args.table at-start.args.block.now (sym at-has-room.has_room.ensures ∙ not-false _ at-if1.if1.false)
     at-stamp.stamp.ensures at-mark-of.mark_of.ensures c.if2.false
 
 pub fresh-spec : {M : Type 1} → statement M

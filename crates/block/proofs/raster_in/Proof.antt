@@ -17,7 +17,7 @@ returns : tie.Need-returns
 unfolding state_of
 returns c =
     let at-table-byte = c.before.before in
-    rw (c.raster-in.ensures, c.before.table-from.ensures, at-table-byte.table-byte.ensures)
+    rw (c.raster-in.ensures, c.before.table-from.ensures, at-table-byte.table_byte.ensures)
 
 pub raster-in-spec : {M : Type 1} → statement M
 raster-in-spec =

@@ -5,7 +5,7 @@ use mathlib.Core.Path.{◌≡◌, refl, sym, ◌∙◌}
 use Prim.Native.Nat.{ℕ, ◌-◌, ◌<◌, ◌≤◌}
 use lib.ListN.{length, replicate, length-replicate, get_or-replicate, length-set}
 use lib.Seq.{paste, paste-zero}
-use Rattle.laws.proofs.Lists.{fill_step, filled-whole}
+use Rattle.laws.proofs.Lists.{fill_step, filled_whole}
 use Rattle.block_parts.proofs.clear.Statement.{statement}
 use Rattle.block_parts.proofs.clear.Tie as tie
 
@@ -48,7 +48,7 @@ returns c =
     let at-start = c.before.before in
     let b = at-start.args.block.now in
     let e : c.before.loop.i ≡ length b = omega arith in
-    c.before.loop.invariant.1 ∙ filled-whole b (replicate (length b) 0) (length b) refl (length-replicate {A = ℕ} (length b) 0) e
+    c.before.loop.invariant.1 ∙ filled_whole b (replicate (length b) 0) (length b) refl (length-replicate {A = ℕ} (length b) 0) e
 
 pub clear_spec : {M : Type 1} → statement M
 clear_spec =

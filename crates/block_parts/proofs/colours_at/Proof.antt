@@ -5,13 +5,13 @@ use mathlib.Core.Path.{◌≡◌, ◌∙◌}
 use native.Mathlib.Omega.{arith}
 use lib.ListN.{length, length-set, replicate}
 use lib.Seq.{paste}
-use Rattle.block_parts.specs.Parts.{coloursFrom}
-use Rattle.block_parts.proofs.Copies.{colours-step, colours-all}
+use Rattle.block_parts.specs.Parts.{colours_from}
+use Rattle.block_parts.proofs.Copies.{colours_step, colours_all}
 use Rattle.block_parts.proofs.colours_at.Statement.{statement}
 use Rattle.block_parts.proofs.colours_at.Tie as tie
 
 abbrev invariant-loop : tie.invariant-loop
-invariant-loop src place out₀ i₀ out i = (i ≤ 32) × (out ≡ paste (replicate 32 0) 0 (coloursFrom place src) i) × (length out ≡ 32)
+invariant-loop src place out₀ i₀ out i = (i ≤ 32) × (out ≡ paste (replicate 32 0) 0 (colours_from place src) i) × (length out ≡ 32)
 
 abbrev decreases-loop : tie.decreases-loop
 decreases-loop src place out₀ i₀ out i = 32 - i
@@ -46,7 +46,7 @@ loop-again c =
     let at-start = at-loop.before.before in
     let l = at-loop.loop in
     let a = at-start.args in
-    (omega arith, colours-step a.place a.src.now l.i (omega arith) c.colour-at.ensures l.invariant.1, simp length-set l.invariant.2)
+    (omega arith, colours_step a.place a.src.now l.i (omega arith) c.colour-at.ensures l.invariant.1, simp length-set l.invariant.2)
 
 returns : tie.Need-returns invariant-loop decreases-loop
 returns c =
@@ -54,7 +54,7 @@ returns c =
     let l = c.before.loop in
     let a = at-start.args in
     let e : l.i ≡ 32 = omega arith in
-    l.invariant.1 ∙ colours-all a.place a.src.now l.i e
+    l.invariant.1 ∙ colours_all a.place a.src.now l.i e
 
 pub colours-at-spec : {M : Type 1} → statement M
 colours-at-spec =

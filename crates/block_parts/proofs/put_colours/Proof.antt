@@ -5,13 +5,13 @@ use mathlib.Core.Path.{◌≡◌, refl, ap, ◌∙◌}
 use native.Mathlib.Omega.{arith}
 use lib.ListN.{length, length-set}
 use lib.Seq.{paste, paste-zero}
-use Rattle.block_parts.specs.Parts.{colourBytes}
-use Rattle.block_parts.proofs.Copies.{colour-step}
+use Rattle.block_parts.specs.Parts.{colour_bytes}
+use Rattle.block_parts.proofs.Copies.{colour_step}
 use Rattle.block_parts.proofs.put_colours.Statement.{statement}
 use Rattle.block_parts.proofs.put_colours.Tie as tie
 
 abbrev invariant-loop : tie.invariant-loop
-invariant-loop dst₀ place colours i₀ dst i = (i ≤ 32) × (dst ≡ paste dst₀ place (colourBytes colours) (4 * i)) × (length dst ≡ length dst₀)
+invariant-loop dst₀ place colours i₀ dst i = (i ≤ 32) × (dst ≡ paste dst₀ place (colour_bytes colours) (4 * i)) × (length dst ≡ length dst₀)
 
 abbrev decreases-loop : tie.decreases-loop
 decreases-loop dst₀ place colours i₀ dst i = 32 - i
@@ -19,7 +19,7 @@ decreases-loop dst₀ place colours i₀ dst i = 32 - i
 loop-holds : tie.Need-loop-init invariant-loop decreases-loop
 loop-holds c =
     let a = c.args in
-    (omega arith, paste-zero a.dst.now a.place (colourBytes a.colours.now), refl)
+    (omega arith, paste-zero a.dst.now a.place (colour_bytes a.colours.now), refl)
 
 mul-c : tie.Need-overflow-mul-c invariant-loop decreases-loop
 mul-c c = search rules
@@ -78,7 +78,7 @@ loop-again c =
     let at-start = at-loop.before in
     let l = at-loop.loop in
     let a = at-start.args in
-    (omega arith, colour-step a.place a.dst.now a.colours.now l.i (omega arith) (omega arith) l.invariant.1, simp length-set l.invariant.2)
+    (omega arith, colour_step a.place a.dst.now a.colours.now l.i (omega arith) (omega arith) l.invariant.1, simp length-set l.invariant.2)
 
 same_length : tie.Need-same-length invariant-loop decreases-loop
 same_length c = search rules
@@ -89,7 +89,7 @@ returns c =
     let l = c.before.loop in
     let a = at-start.args in
     let e : 4 * l.i ≡ 128 = omega arith in
-    l.invariant.1 ∙ ap (paste a.dst.now a.place (colourBytes a.colours.now)) e
+    l.invariant.1 ∙ ap (paste a.dst.now a.place (colour_bytes a.colours.now)) e
 
 pub put-colours-spec : {M : Type 1} → statement M
 put-colours-spec =

@@ -2,7 +2,7 @@
 use borrow.Author.Rules.{rules}
 use native.Mathlib.Omega.{arith}
 use Rattle.block_ports.proofs.Front.{formed}
-use Rattle.block_ports.proofs.Calls.{read-in-place}
+use Rattle.block_ports.proofs.Calls.{read_in_place}
 use Rattle.block_ports.proofs.input.Statement.{statement}
 use Rattle.block_ports.proofs.input.Tie as tie
 
@@ -20,7 +20,7 @@ returns c =
     let at_read = c.before.before in
     let at-slice-known = at_read.before.before.before in
     let at-start = at-slice-known.before in
-    read-in-place at-start.args.block.now at-start.requires (λ i. omega (arith, at-slice-known.slice-known.given i)) at-start.args.vram.now
+    read_in_place at-start.args.block.now at-start.requires (λ i. omega (arith, at-slice-known.slice-known.given i)) at-start.args.vram.now
     at-start.args.port at_read.read.ensures
 
 pub input-spec : {M : Type 1} → statement M

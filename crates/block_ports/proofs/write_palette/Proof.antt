@@ -1,7 +1,7 @@
 -- `block_ports::write_palette` meets its contract: a byte for the palette: the first of two is latched, the second stores both.
 use borrow.Author.Rules.{rules}
 use native.Mathlib.Omega.{arith}
-use Rattle.block_ports.proofs.Palette.{even-in-place, none-in-place, odd-in-place}
+use Rattle.block_ports.proofs.Palette.{even_in_place, none_in_place, odd_in_place}
 use Rattle.block_ports.proofs.write_palette.Statement.{statement}
 use Rattle.block_ports.proofs.write_palette.Tie as tie
 
@@ -27,7 +27,7 @@ returns c =
     let at-if1 = at-store-latch.before.before in
     let at-address-in = at-if1.before in
     let at-start = at-address-in.before.before.before in
-    λ n s g e. even-in-place n s g at-start.args.val e at-address-in.address-in.ensures at-if1.if1.true
+    λ n s g e. even_in_place n s g at-start.args.val e at-address-in.address-in.ensures at-if1.if1.true
     at-store-latch.store-latch.ensures at-store-address.store-address.ensures
 
 latch-in-requires : tie.Need-latch-in-requires
@@ -48,7 +48,7 @@ returns-2 c =
     let at-if1 = at-latch-in.before.before in
     let at-address-in = at-if1.before in
     let at-start = at-address-in.before.before.before in
-    λ n s g e. none-in-place n s g at-start.args.val e at-address-in.address-in.ensures at-if1.if1.false at-latch-in.latch-in.ensures
+    λ n s g e. none_in_place n s g at-start.args.val e at-address-in.address-in.ensures at-if1.if1.false at-latch-in.latch-in.ensures
     c.enum_told.given.1
 
 cast-here : tie.Need-overflow-cast-here
@@ -79,7 +79,7 @@ returns-3 c =
     let at-if1 = at-latch-in.before.before in
     let at-address-in = at-if1.before in
     let at-start = at-address-in.before.before.before in
-    λ n s g e. odd-in-place n s g at-start.args.val e at-address-in.address-in.ensures at-if1.if1.false at-latch-in.latch-in.ensures _
+    λ n s g e. odd_in_place n s g at-start.args.val e at-address-in.address-in.ensures at-if1.if1.false at-latch-in.latch-in.ensures _
     at-latch.latch.given.1 (omega (arith, at-start.requires.1, at-address-in.address-in.ensures)) at-store-colour.store-colour.ensures
     at-store-colour2.store-colour2.ensures at-store-address2.store-address2.ensures
 

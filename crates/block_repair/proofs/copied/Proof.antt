@@ -6,7 +6,7 @@ use mathlib.Core.Path.{◌≡◌, refl}
 use lib.ListN.{length, length-set, replicate}
 use lib.Seq.{paste}
 use Rattle.laws.proofs.Lists.{fill_step}
-use Rattle.block_repair.proofs.Laws.{copied-whole}
+use Rattle.block_repair.proofs.Laws.{copied_whole}
 use Rattle.block_repair.proofs.copied.Statement.{statement}
 use Rattle.block_repair.proofs.copied.Tie as tie
 
@@ -44,7 +44,7 @@ loop-again c =
 returns : tie.Need-returns invariant-loop decreases-loop
 returns c =
     let at-start = c.before.before in
-    copied-whole at-start.args.block.now c.before.loop.i (omega (arith, c.before.loop.invariant.0, c.loop-test.false))
+    copied_whole at-start.args.block.now c.before.loop.i (omega (arith, c.before.loop.invariant.0, c.loop-test.false))
     c.before.loop.invariant.1
 
 pub copied-spec : {M : Type 1} → statement M

@@ -4,7 +4,7 @@ use borrow.Author.Tests.{ne_eqb}
 use Prim.Native.Nat.{ℕ, ◌/◌, ◌%◌}
 use mathlib.Core.Path.{sym, ap, ◌∙◌}
 use Rattle.laws.specs.Lists.{at}
-use Rattle.block_repair.specs.Repair.{held, mendedAt}
+use Rattle.block_repair.specs.Repair.{held, mended_at}
 use Rattle.block_repair.proofs.mended_byte.Statement.{statement}
 use Rattle.block_repair.proofs.mended_byte.Tie as tie
 
@@ -84,90 +84,90 @@ shared-slice-read-result : tie.Need-shared-slice-read-result
 shared-slice-read-result c = search rules
 
 returns : tie.Need-returns
-unfolding mendedAt
+unfolding mended_at
 returns c =
     let at-start = c.before.before in
-    sym (ap (mendedAt at-start.args.old.now) c.match.keys1)
+    sym (ap (mended_at at-start.args.old.now) c.match.keys1)
 
 returns-2 : tie.Need-returns-2
-unfolding mendedAt
+unfolding mended_at
 returns-2 c =
     let at-start = c.before.before.before in
-    c.mark_of.ensures ∙ sym (ap (mendedAt at-start.args.old.now) c.before.match.keys2)
+    c.mark_of.ensures ∙ sym (ap (mended_at at-start.args.old.now) c.before.match.keys2)
 
 returns-3 : tie.Need-returns-3
-unfolding mendedAt
+unfolding mended_at
 returns-3 c =
     let at-match = c.before.before in
     let at-start = at-match.before.before in
-    c.in-range.ensures ∙ sym (ap (mendedAt at-start.args.old.now) at-match.match.keys3)
+    c.in-range.ensures ∙ sym (ap (mended_at at-start.args.old.now) at-match.match.keys3)
 
 returns-4 : tie.Need-returns-4
-unfolding mendedAt
+unfolding mended_at
 returns-4 c =
     let at-start = c.before.before.before in
-    ap (λ (x : ℕ). x % 256) c.address-of.ensures ∙ sym (ap (mendedAt at-start.args.old.now) c.before.match.keys4)
+    ap (λ (x : ℕ). x % 256) c.address-of.ensures ∙ sym (ap (mended_at at-start.args.old.now) c.before.match.keys4)
 
 returns-5 : tie.Need-returns-5
-unfolding mendedAt
+unfolding mended_at
 returns-5 c =
     let at-start = c.before.before.before in
-    ap (λ (x : ℕ). x / 256) c.address-of2.ensures ∙ sym (ap (mendedAt at-start.args.old.now) c.before.match.keys5)
+    ap (λ (x : ℕ). x / 256) c.address-of2.ensures ∙ sym (ap (mended_at at-start.args.old.now) c.before.match.keys5)
 
 returns-6 : tie.Need-returns-6
-unfolding mendedAt
+unfolding mended_at
 returns-6 c =
     let at-match = c.before.before in
     let at-start = at-match.before.before in
-    c.in-range2.ensures ∙ sym (ap (mendedAt at-start.args.old.now) at-match.match.keys6)
+    c.in-range2.ensures ∙ sym (ap (mended_at at-start.args.old.now) at-match.match.keys6)
 
 returns-7 : tie.Need-returns-7
-unfolding mendedAt
+unfolding mended_at
 returns-7 c =
     let at-match = c.before.before in
     let at-start = at-match.before.before in
-    c.in-range3.ensures ∙ sym (ap (mendedAt at-start.args.old.now) at-match.match.keys7)
+    c.in-range3.ensures ∙ sym (ap (mended_at at-start.args.old.now) at-match.match.keys7)
 
 returns-8 : tie.Need-returns-8
-unfolding mendedAt
+unfolding mended_at
 returns-8 c =
     let at-in-range4 = c.before.before in
     let at-match = at-in-range4.before.before in
     let at-start = at-match.before.before in
     c.latched.ensures ∙ ap (λ (x : ℕ). held x (at at-start.args.old.now 22)) at-in-range4.in-range4.ensures ∙ sym
-    (ap (mendedAt at-start.args.old.now) at-match.match.keys8)
+    (ap (mended_at at-start.args.old.now) at-match.match.keys8)
 
 returns-9 : tie.Need-returns-9
-unfolding mendedAt
+unfolding mended_at
 returns-9 c =
     let at-match = c.before.before in
     let at-start = at-match.before.before in
-    c.in-range5.ensures ∙ sym (ap (mendedAt at-start.args.old.now) at-match.match.keys9)
+    c.in-range5.ensures ∙ sym (ap (mended_at at-start.args.old.now) at-match.match.keys9)
 
 returns-10 : tie.Need-returns-10
-unfolding mendedAt
+unfolding mended_at
 returns-10 c =
     let at-in-range6 = c.before.before in
     let at-match = at-in-range6.before.before in
     let at-start = at-match.before.before in
     c.latched2.ensures ∙ ap (λ (x : ℕ). held x (at at-start.args.old.now 24)) at-in-range6.in-range6.ensures ∙ sym
-    (ap (mendedAt at-start.args.old.now) at-match.match.keys10)
+    (ap (mended_at at-start.args.old.now) at-match.match.keys10)
 
 returns-11 : tie.Need-returns-11
-unfolding mendedAt
+unfolding mended_at
 returns-11 c =
     let at-start = c.before.before.before in
-    c.dirty-of.ensures ∙ sym (ap (mendedAt at-start.args.old.now) c.before.match.keys11)
+    c.dirty-of.ensures ∙ sym (ap (mended_at at-start.args.old.now) c.before.match.keys11)
 
 returns-12 : tie.Need-returns-12
-unfolding mendedAt
+unfolding mended_at
 returns-12 c =
     let at-match = c.before.before in
     let at-start = at-match.before.before in
-    c.in-range7.ensures ∙ sym (ap (mendedAt at-start.args.old.now) at-match.match.keys12)
+    c.in-range7.ensures ∙ sym (ap (mended_at at-start.args.old.now) at-match.match.keys12)
 
 returns-13 : tie.Need-returns-13
-unfolding mendedAt
+unfolding mended_at
 returns-13 c =
     simp (
       ne_eqb _ _ c.before.match.rest.0.0.0.0.0.0.0.0.0.0.0.1,

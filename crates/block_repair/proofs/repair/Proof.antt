@@ -8,17 +8,17 @@ use mathlib.Core.List.{List}
 use lib.ListN.{length, length-set}
 use lib.Seq.{paste, paste-zero}
 use Rattle.laws.specs.Lists.{at, written}
-use Rattle.laws.proofs.Lists.{written-nil, length-written}
-use Rattle.block.proofs.Whole.{in_size, too_short, too_long}
-use Rattle.block_repair.specs.Repair.{mendedAt, mended, differing}
-use Rattle.block_repair.proofs.Laws.{count_low, block_more, block-whole, turned, copy_at, ten, seventeen, done}
+use Rattle.laws.proofs.Lists.{written_nil, length-written}
+use Rattle.block.proofs.Whole.{in_size, too_short, too_long_lem}
+use Rattle.block_repair.specs.Repair.{mended_at, mended, differing}
+use Rattle.block_repair.proofs.Laws.{count_low, block_more, block_whole, turned, copy_at, ten, seventeen, done}
 use Rattle.block_repair.proofs.repair.Statement.{statement}
 use Rattle.block_repair.proofs.repair.Tie as tie
 
 abbrev invariant-loop : tie.invariant-loop
 invariant-loop block₀ list₀ n whole count₀ k₀ block list count k =
-    (k ≤ n) × (n ≡ length block₀) × (block ≡ paste block₀ 0 (mended block₀) k) × (count ≡ length (differing k (at block₀) (mendedAt block₀))) ×
-    (list ≡ written list₀ 0 (differing k (at block₀) (mendedAt block₀))) × (length block ≡ length block₀) × (length list ≡ length list₀)
+    (k ≤ n) × (n ≡ length block₀) × (block ≡ paste block₀ 0 (mended block₀) k) × (count ≡ length (differing k (at block₀) (mended_at block₀))) ×
+    (list ≡ written list₀ 0 (differing k (at block₀) (mended_at block₀))) × (length block ≡ length block₀) × (length list ≡ length list₀)
 
 abbrev decreases-loop : tie.decreases-loop
 decreases-loop block₀ list₀ n whole count₀ k₀ block list count k = n - k
@@ -34,7 +34,7 @@ returns c =
 returns-2 : tie.Need-returns-2 invariant-loop decreases-loop
 returns-2 c =
     let at-start = c.before.before.before.before in (
-      ten at-start.args.block.now at-start.args.list.now (too_long (length at-start.args.block.now) c.if2.true) refl refl,
+      ten at-start.args.block.now at-start.args.list.now (too_long_lem (length at-start.args.block.now) c.if2.true) refl refl,
       omega
           arith,
     )
@@ -62,7 +62,7 @@ loop-holds c =
       paste-zero at-start.args.block.now 0 (mended at-start.args.block.now),
       refl,
       sym
-          (written-nil at-start.args.list.now 0),
+          (written_nil at-start.args.list.now 0),
       refl,
       refl,
     )
@@ -149,12 +149,12 @@ loop-again c =
     (omega (arith, at-if2.if2.false, at-if3.if3.false)) (omega (arith, at-loop.loop.invariant.1)) at-loop.loop.invariant.3 at-loop.loop.invariant.4
     (copy_at at-start.args.block.now at-copied.copied.result (length at-start.args.block.now) at-loop.loop.k
     at-copied.copied.ensures (omega (arith, at-loop.loop.invariant.1)))
-    (c.before.mended-byte.ensures ∙ ap (λ (x : List ℕ). mendedAt x at-loop.loop.k) at-copied.copied.ensures)
+    (c.before.mended_byte.ensures ∙ ap (λ (x : List ℕ). mended_at x at-loop.loop.k) at-copied.copied.ensures)
     (⊎_elim (λ a. inl (a.0.taken, a.1, a.2)) (λ a. inr (a.0.left, a.1, a.2)) c.if4.branch) in (
       omega arith,
       at-loop.loop.invariant.1,
       block_more at-start.args.block.now at-start.args.list.now at-loop.loop.k
-          (omega (arith, at-loop.loop.invariant.1)) (c.before.mended-byte.ensures ∙ ap (λ (x : List ℕ). mendedAt x at-loop.loop.k)
+          (omega (arith, at-loop.loop.invariant.1)) (c.before.mended_byte.ensures ∙ ap (λ (x : List ℕ). mended_at x at-loop.loop.k)
           at-copied.copied.ensures) at-loop.loop.invariant.2,
       t.1,
       t.0,
@@ -187,10 +187,10 @@ returns-4 c =
       done at-start.args.block.now at-start.args.list.now
           (in_size (length at-start.args.block.now) (omega (arith, at-if1.if1.false)) (omega (arith, at-if2.if2.false)))
           (omega (arith, at-if3.if3.false)) refl (c.before.loop.invariant.3 ∙ ap
-          (λ (x : ℕ). length (differing x (at at-start.args.block.now) (mendedAt at-start.args.block.now))) e)
-          (block-whole at-start.args.block.now at-start.args.list.now c.before.loop.k e c.before.loop.invariant.2)
+          (λ (x : ℕ). length (differing x (at at-start.args.block.now) (mended_at at-start.args.block.now))) e)
+          (block_whole at-start.args.block.now at-start.args.list.now c.before.loop.k e c.before.loop.invariant.2)
           (c.before.loop.invariant.4 ∙ ap (λ (x : ℕ). written at-start.args.list.now 0
-          (differing x (at at-start.args.block.now) (mendedAt at-start.args.block.now))) e),
+          (differing x (at at-start.args.block.now) (mended_at at-start.args.block.now))) e),
       omega (
         arith,
         c.before.loop.invariant.3,

@@ -5,13 +5,13 @@ use Prim.Native.Nat.{◌≤◌, ◌-◌}
 use mathlib.Core.Path.{◌≡◌, refl, ap, ◌∙◌}
 use mathlib.Core.Bool.{false}
 use Rattle.laws.specs.Bits.{any}
-use Rattle.colour.specs.Colour.{coloursOf}
-use Rattle.block_repair.proofs.Laws.{unlikeAt, unlike, alike, like-more}
+use Rattle.colour.specs.Colour.{colours_of}
+use Rattle.block_repair.proofs.Laws.{unlike_at, unlike, alike, like_more}
 use Rattle.block_repair.proofs.same_colours.Statement.{statement}
 use Rattle.block_repair.proofs.same_colours.Tie as tie
 
 abbrev invariant-loop : tie.invariant-loop
-invariant-loop old cache made i₀ i = (i ≤ 32) × (any i (unlikeAt cache made) ≡ false)
+invariant-loop old cache made i₀ i = (i ≤ 32) × (any i (unlike_at cache made) ≡ false)
 
 abbrev decreases-loop : tie.decreases-loop
 decreases-loop old cache made i₀ i = 32 - i
@@ -49,7 +49,7 @@ returns c =
     let at-cache-in = at-palette-in.before in
     let at-start = at-cache-in.before.before in
     unlike at-start.args.old.now at-cache-in.cache-in.ensures
-    (at-palette-recompute.palette-recompute.ensures ∙ ap coloursOf at-palette-in.palette-in.ensures) at-loop.loop.i (omega arith)
+    (at-palette-recompute.palette-recompute.ensures ∙ ap colours_of at-palette-in.palette-in.ensures) at-loop.loop.i (omega arith)
     c.if1.true
 
 add-i : tie.Need-overflow-add-i invariant-loop decreases-loop
@@ -64,7 +64,7 @@ loop-again c =
     let at-palette-recompute = at-loop.before in
     let at-cache-in = at-palette-recompute.before.before in (
       omega arith,
-      like-more at-cache-in.cache-in.result at-palette-recompute.palette-recompute.result at-loop.loop.i
+      like_more at-cache-in.cache-in.result at-palette-recompute.palette-recompute.result at-loop.loop.i
           at-loop.loop.invariant.1 c.if1.false,
     )
 
@@ -75,7 +75,7 @@ returns-2 c =
     let at-cache-in = at-palette-in.before in
     let at-start = at-cache-in.before.before in
     alike at-start.args.old.now at-cache-in.cache-in.ensures
-    (at-palette-recompute.palette-recompute.ensures ∙ ap coloursOf at-palette-in.palette-in.ensures) c.before.loop.i
+    (at-palette-recompute.palette-recompute.ensures ∙ ap colours_of at-palette-in.palette-in.ensures) c.before.loop.i
     (omega (arith, c.loop-test.false)) c.before.loop.invariant.0 c.before.loop.invariant.1
 
 pub same-colours-spec : {M : Type 1} → statement M

@@ -6,20 +6,20 @@ use native.Mathlib.Omega.{arith}
 use lib.ListN.{length, replicate}
 use lib.Seq.{paste, paste-zero}
 use Rattle.laws.proofs.Lists.{filled}
-use Rattle.colour.specs.Home.{homeColoursOf}
-use Rattle.colour.proofs.Laws.{length-home-colours, home-colours-step}
+use Rattle.colour.specs.Home.{home_colours_of}
+use Rattle.colour.proofs.Laws.{length-home_colours, home_colours_step}
 use Rattle.colour.proofs.home_palette_recompute.Statement.{statement}
 use Rattle.colour.proofs.home_palette_recompute.Tie as tie
 
 abbrev invariant-loop : tie.invariant-loop
 invariant-loop cram color-cache₀ color₀ color-cache color =
-    (color ≤ 32) × (color-cache ≡ paste (replicate 32 0) 0 (homeColoursOf cram) color) × (length color-cache ≡ 32)
+    (color ≤ 32) × (color-cache ≡ paste (replicate 32 0) 0 (home_colours_of cram) color) × (length color-cache ≡ 32)
 
 abbrev decreases-loop : tie.decreases-loop
 decreases-loop cram color-cache₀ color₀ color-cache color = 32 - color
 
 loop-holds : tie.Need-loop-init invariant-loop decreases-loop
-loop-holds c = (omega arith, paste-zero (replicate 32 0) 0 (homeColoursOf c.args.t1), search rules)
+loop-holds c = (omega arith, paste-zero (replicate 32 0) 0 (home_colours_of c.args.t1), search rules)
 
 array-read-home-rgb : tie.Need-array-read-home-rgb invariant-loop decreases-loop
 array-read-home-rgb c = search rules
@@ -42,10 +42,10 @@ loop-less c = search rules
 loop-again : tie.Need-loop-preserved invariant-loop decreases-loop
 loop-again c =
     let at-loop = c.before.before in
-    (omega arith, home-colours-step _ _ (omega arith) c.home-rgb.ensures at-loop.loop.invariant.1, search rules)
+    (omega arith, home_colours_step _ _ (omega arith) c.home-rgb.ensures at-loop.loop.invariant.1, search rules)
 
 returns : tie.Need-returns invariant-loop decreases-loop
-returns c = let e : c.before.loop.color ≡ 32 = omega arith in c.before.loop.invariant.1 ∙ filled 32 _ (length-home-colours _) e
+returns c = let e : c.before.loop.color ≡ 32 = omega arith in c.before.loop.invariant.1 ∙ filled 32 _ (length-home_colours _) e
 
 pub home-palette-recompute-spec : {M : Type 1} → statement M
 home-palette-recompute-spec =

@@ -1,6 +1,6 @@
 -- `colour::home_rgb` meets its contract: the colour of a byte of the home machine's palette, red in its lowest byte.
 use borrow.Author.Rules.{rules}
-use Rattle.colour.specs.Home.{homeColour}
+use Rattle.colour.specs.Home.{home_colour}
 use Rattle.colour.proofs.home_rgb.Statement.{statement}
 use Rattle.colour.proofs.home_rgb.Tie as tie
 
@@ -41,7 +41,7 @@ add-result-3 : tie.Need-overflow-add-result-3
 add-result-3 c = search rules
 
 returns : tie.Need-returns
-unfolding homeColour
+unfolding home_colour
 returns c =
     let at-part2 = c.before.before in
     let at-spread-two2 = at-part2.before in

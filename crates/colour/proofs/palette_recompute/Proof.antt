@@ -6,20 +6,20 @@ use native.Mathlib.Omega.{arith}
 use lib.ListN.{length, replicate}
 use lib.Seq.{paste, paste-zero}
 use Rattle.laws.proofs.Lists.{filled}
-use Rattle.colour.specs.Colour.{coloursOf}
-use Rattle.colour.proofs.Laws.{length-colours, colours-step}
+use Rattle.colour.specs.Colour.{colours_of}
+use Rattle.colour.proofs.Laws.{length_colours, colours_step}
 use Rattle.colour.proofs.palette_recompute.Statement.{statement}
 use Rattle.colour.proofs.palette_recompute.Tie as tie
 
 abbrev invariant-loop : tie.invariant-loop
 invariant-loop cram color-cache₀ color₀ color-cache color =
-    (color ≤ 32) × (color-cache ≡ paste (replicate 32 0) 0 (coloursOf cram) color) × (length color-cache ≡ 32)
+    (color ≤ 32) × (color-cache ≡ paste (replicate 32 0) 0 (colours_of cram) color) × (length color-cache ≡ 32)
 
 abbrev decreases-loop : tie.decreases-loop
 decreases-loop cram color-cache₀ color₀ color-cache color = 32 - color
 
 loop-holds : tie.Need-loop-init invariant-loop decreases-loop
-loop-holds c = (omega arith, paste-zero (replicate 32 0) 0 (coloursOf c.args.t1), search rules)
+loop-holds c = (omega arith, paste-zero (replicate 32 0) 0 (colours_of c.args.t1), search rules)
 
 mul-rgb : tie.Need-overflow-mul-rgb invariant-loop decreases-loop
 mul-rgb c = search rules
@@ -54,10 +54,10 @@ loop-less c = search rules
 loop-again : tie.Need-loop-preserved invariant-loop decreases-loop
 loop-again c =
     let at-loop = c.before.before in
-    (omega arith, colours-step _ _ (omega arith) c.rgb.ensures at-loop.loop.invariant.1, search rules)
+    (omega arith, colours_step _ _ (omega arith) c.rgb.ensures at-loop.loop.invariant.1, search rules)
 
 returns : tie.Need-returns invariant-loop decreases-loop
-returns c = let e : c.before.loop.color ≡ 32 = omega arith in c.before.loop.invariant.1 ∙ filled 32 _ (length-colours _) e
+returns c = let e : c.before.loop.color ≡ 32 = omega arith in c.before.loop.invariant.1 ∙ filled 32 _ (length_colours _) e
 
 pub palette-recompute-spec : {M : Type 1} → statement M
 palette-recompute-spec =

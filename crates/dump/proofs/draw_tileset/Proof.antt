@@ -5,7 +5,7 @@ use Prim.Native.Nat.{◌*◌, ◌-◌, ◌≤◌}
 use native.Mathlib.Omega.{arith}
 use lib.ListN.{length}
 use Rattle.dump.specs.Lines.{Dumping}
-use Rattle.dump.proofs.Lines.{dumping-starts, dumping-ends}
+use Rattle.dump.proofs.Lines.{dumping_starts, dumping_ends}
 use Rattle.dump.proofs.draw_tileset.Statement.{statement}
 use Rattle.dump.proofs.draw_tileset.Tie as tie
 
@@ -29,7 +29,7 @@ is-set-requires-2 : tie.Need-is-set-requires-2 invariant-loop decreases-loop
 is-set-requires-2 c κs = search rules
 
 loop-holds : tie.Need-loop-init invariant-loop decreases-loop
-loop-holds c = (omega arith, refl, dumping-starts _ _ _ _ _)
+loop-holds c = (omega arith, refl, dumping_starts _ _ _ _ _)
 
 dump-tile-requires : tie.Need-dump-tile-requires invariant-loop decreases-loop
 dump-tile-requires c κs = search rules
@@ -57,7 +57,7 @@ returns c =
     let a = at-start.args in
     let e : c.before.loop.chr ≡ 512 = omega arith in
     let l : length c.before.loop.pixels ≡ 131072 = omega arith in
-    dumping-ends a.vram.now a.t4 a.colours.now a.pixels.now l e at-is-set.is_set.ensures at-is-set2.is-set2.ensures
+    dumping_ends a.vram.now a.t4 a.colours.now a.pixels.now l e at-is-set.is_set.ensures at-is-set2.is-set2.ensures
     c.before.loop.invariant.2
 
 pub draw-tileset-spec : {M : Type 1} → statement M

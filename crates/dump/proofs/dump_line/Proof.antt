@@ -5,7 +5,7 @@ use mathlib.Core.List.{List}
 use Prim.Native.Nat.{ℕ}
 use native.Mathlib.Omega.{arith}
 use Rattle.laws.specs.Lists.{at}
-use Rattle.dump.proofs.Lines.{background-byte, sprite-byte}
+use Rattle.dump.proofs.Lines.{background_byte, sprite_byte}
 use Rattle.dump.proofs.dump_line.Statement.{statement}
 use Rattle.dump.proofs.dump_line.Tie as tie
 
@@ -26,7 +26,7 @@ returns c =
     λ k.
     let a = at-start.args in
     rw at-if1.if1.true
-    (ap (λ (l : List ℕ). at l k) at-sprite-columns.sprite-columns.ensures.0 ∙ sprite-byte a.pixels.now a.vram.now a.colours.now
+    (ap (λ (l : List ℕ). at l k) at-sprite-columns.sprite-columns.ensures.0 ∙ sprite_byte a.pixels.now a.vram.now a.colours.now
     a.addr a.x k (omega arith) (omega arith))
 
 same-length-2 : tie.Need-same-length-2
@@ -40,7 +40,7 @@ returns-2 c =
     λ k.
     let a = at-start.args in
     rw at-if1.if1.false
-    (ap (λ (l : List ℕ). at l k) at-character-line.character-line.ensures.0 ∙ background-byte a.pixels.now a.vram.now a.colours.now
+    (ap (λ (l : List ℕ). at l k) at-character-line.character-line.ensures.0 ∙ background_byte a.pixels.now a.vram.now a.colours.now
     a.addr a.x k (omega arith))
 
 pub dump-line-spec : {M : Type 1} → statement M

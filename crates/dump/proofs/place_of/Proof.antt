@@ -1,7 +1,7 @@
 -- `dump::place_of` meets its contract: the sheet's pixel at which tile chr starts.
 use borrow.Author.Rules.{rules}
 use native.Mathlib.Omega.{arith}
-use Rattle.dump.specs.Dump.{tileColumn, tileRow}
+use Rattle.dump.specs.Dump.{tile_column, tile_row}
 use Rattle.dump.proofs.place_of.Statement.{statement}
 use Rattle.dump.proofs.place_of.Tie as tie
 
@@ -30,11 +30,11 @@ add-result-3 : tie.Need-overflow-add-result-3
 add-result-3 c = search rules
 
 returns : tie.Need-returns
-unfolding tileColumn tileRow
+unfolding tile_column tile_row
 returns c = (rw c.if1.true, omega arith)
 
 returns-2 : tie.Need-returns-2
-unfolding tileColumn tileRow
+unfolding tile_column tile_row
 returns-2 c = (rw c.if1.false, omega arith)
 
 pub place-of-spec : {M : Type 1} → statement M

@@ -5,7 +5,7 @@ use Prim.Native.Nat.{ℕ}
 use native.Mathlib.Omega.{arith}
 use borrow.Author.Tests.{eq-eqb, ne_eqb}
 use Rattle.block.specs.Block.{state_of}
-use Rattle.colour.specs.Colour.{coloursOf}
+use Rattle.colour.specs.Colour.{colours_of}
 use Rattle.face.proofs.colours_of.Statement.{statement}
 use Rattle.face.proofs.colours_of.Tie as tie
 
@@ -31,7 +31,7 @@ returns-2 : tie.Need-returns-2
 unfolding state_of
 returns-2 c =
     let at-if1 = c.before.before in
-    λ y e. rw (eq-eqb _ _ at-if1.if1.true) (c.palette-recompute.ensures ∙ ap coloursOf c.before.palette-in.ensures)
+    λ y e. rw (eq-eqb _ _ at-if1.if1.true) (c.palette-recompute.ensures ∙ ap colours_of c.before.palette-in.ensures)
 
 cache-in-requires : tie.Need-cache-in-requires
 cache-in-requires c κs = search rules

@@ -1,6 +1,6 @@
 -- `face::vdp_input` meets its contract: a port read.
 use borrow.Author.Rules.{rules}
-use Rattle.face.proofs.Laws.{whole, input-refused, input-done}
+use Rattle.face.proofs.Laws.{whole, input_refused, input_done}
 use Rattle.face.proofs.vdp_input.Statement.{statement}
 use Rattle.face.proofs.vdp_input.Tie as tie
 
@@ -13,7 +13,7 @@ same_length c = search rules
 returns : tie.Need-returns
 returns c =
     let at-start = c.before.before.before.before.before in
-    input-refused at-start.args.state.now c.before.asked.ensures c.if1.true at-start.args.vram.now at-start.args.port
+    input_refused at-start.args.state.now c.before.asked.ensures c.if1.true at-start.args.vram.now at-start.args.port
 
 input-requires : tie.Need-input-requires
 input-requires c κs =
@@ -41,7 +41,7 @@ returns-2 c =
     let at-if1 = at-input.before.before in
     let at-asked = at-if1.before in
     let at-start = at-asked.before.before.before.before in
-    input-done at-start.args.state.now at-asked.asked.ensures at-if1.if1.false at-start.args.vram.now at-start.args.port
+    input_done at-start.args.state.now at-asked.asked.ensures at-if1.if1.false at-start.args.vram.now at-start.args.port
     at-input.input.ensures c.before.number.ensures.0
 
 pub vdp-input-spec : {M : Type 1} → statement M

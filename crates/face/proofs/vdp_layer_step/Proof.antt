@@ -3,9 +3,9 @@ use borrow.Author.Rules.{rules}
 use lib.ListN.{length}
 use native.Mathlib.Omega.{arith}
 use Rattle.picture.specs.Screen.{columns}
-use Rattle.points.specs.Points.{frameLines}
-use Rattle.row.proofs.Steps.{frame-layers-fit}
-use Rattle.face.proofs.Laws.{room, colours-room, points-room, layer-refused, layer-frame-kept}
+use Rattle.points.specs.Points.{frame_lines}
+use Rattle.row.proofs.Steps.{frame-layers_fit}
+use Rattle.face.proofs.Laws.{room, colours_room, points_room, layer_refused, layer_frame_kept}
 use Rattle.face.proofs.vdp_layer_step.Statement.{statement}
 use Rattle.face.proofs.vdp_layer_step.Tie as tie
 
@@ -18,7 +18,7 @@ same_length c = search rules
 returns : tie.Need-returns
 returns c =
     let at-start = c.before.before.before.before.before.before.before in
-    layer-refused at-start.args.state.now at-start.args.vram.now at-start.args.frame.now at-start.args.area c.before.asked.ensures
+    layer_refused at-start.args.state.now at-start.args.vram.now at-start.args.frame.now at-start.args.area c.before.asked.ensures
     c.if1.true _ _ at-start.args.layers.now
 
 screen-from-requires : tie.Need-screen-from-requires
@@ -58,9 +58,9 @@ draw-in-requires c κs =
     let at-registers = at-raster-in.before in
     let at-screen-from = at-registers.before in
     let at-start = at-screen-from.before.before.before.before.before.before.before.before in
-    frame-layers-fit at-screen-from.screen-from.result at-registers.registers.result at-raster-in.raster-in.result at-start.args.vram.now
+    frame-layers_fit at-screen-from.screen-from.result at-registers.registers.result at-raster-in.raster-in.result at-start.args.vram.now
     (length at-start.args.frame.now) (columns at-screen-from.screen-from.result) (length at-start.args.layers.now)
-    (at-layer-due.layer-due.ensures.1 (frameLines at-screen-from.screen-from.result at-start.args.vram.now
+    (at-layer-due.layer-due.ensures.1 (frame_lines at-screen-from.screen-from.result at-start.args.vram.now
     (length at-start.args.frame.now)) at-registers.registers.result at-frame-due.frame-due.ensures)
 
 store-colours-requires : tie.Need-store-colours-requires
@@ -68,7 +68,7 @@ store-colours-requires c κs =
     let at-if1 = c.before.before.before.before.before.before.before.before.before.before.before.before.before.before.before in
     let at-asked = at-if1.before in
     let at-start = at-asked.before.before.before.before.before.before in
-    colours-room at-start.args.state.now at-start.args.area at-asked.asked.ensures at-if1.if1.false
+    colours_room at-start.args.state.now at-start.args.area at-asked.asked.ensures at-if1.if1.false
 
 left-requires : tie.Need-left-requires
 left-requires c κs =
@@ -76,7 +76,7 @@ left-requires c κs =
     let at-if1 = at-store-colours.before.before.before.before.before.before.before.before.before.before.before.before.before.before.before.before in
     let at-asked = at-if1.before in
     let at-start = at-asked.before.before.before.before.before.before in
-    points-room at-start.args.state.now at-start.args.area at-asked.asked.ensures at-if1.if1.left at-store-colours.store-colours.new.0
+    points_room at-start.args.state.now at-start.args.area at-asked.asked.ensures at-if1.if1.left at-store-colours.store-colours.new.0
     at-store-colours.store-colours.auto.0
 
 same-length-2 : tie.Need-same-length-2
@@ -103,12 +103,12 @@ returns-2 c =
     let at-asked = at-if1.before in
     let at-slice-known = at-asked.before.before.before.before.before in
     let at-start = at-slice-known.before in
-    layer-frame-kept at-start.args.state.now at-start.args.vram.now at-start.args.frame.now at-start.args.area at-asked.asked.ensures
+    layer_frame_kept at-start.args.state.now at-start.args.vram.now at-start.args.frame.now at-start.args.area at-asked.asked.ensures
     at-if1.if1.false (λ i. omega (arith, at-slice-known.slice-known.given i)) at-layer-due.layer-due.result at-screen-from.screen-from.ensures
     at-registers.registers.ensures at-raster-in.raster-in.ensures at-colours-of.colours-of.ensures at-draw-in.draw-in.ensures.0
     at-store-colours.store-colours.ensures at_left.left.ensures.0 at_left.left.ensures.1 at-start.args.layers.now
     at-draw-in.draw-in.ensures.1.1 (at-layer-due.layer-due.ensures.1
-    (frameLines at-screen-from.screen-from.result at-start.args.vram.now (length at-start.args.frame.now)) at-registers.registers.result
+    (frame_lines at-screen-from.screen-from.result at-start.args.vram.now (length at-start.args.frame.now)) at-registers.registers.result
     at-frame-due.frame-due.ensures) at-draw-in.draw-in.ensures.1.0
 
 pub vdp-layer-step-spec : {M : Type 1} → statement M

@@ -15,7 +15,7 @@ same_length c = search rules
 returns : tie.Need-returns
 returns c =
     let at-vdp-new-table = c.before.before in
-    rw at-vdp-new-table.before.unnamed-table.ensures at at-vdp-new-table.vdp-new-table.ensures
+    rw at-vdp-new-table.before.unnamed-table.ensures at at-vdp-new-table.vdp_new_table.ensures
 
 pub vdp-new-spec : {M : Type 1} → statement M
 vdp-new-spec = tie.close (tie.spec unnamed-table-requires vdp-new-table-requires same_length returns)

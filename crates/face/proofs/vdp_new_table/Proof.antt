@@ -1,7 +1,7 @@
 -- `face::vdp_new_table` meets its contract: a fresh device of this table into the block, in the version that the block's length tells.
 use borrow.Author.Rules.{rules}
 use borrow.Author.Tests.{not-true, not-false}
-use Rattle.face.proofs.Laws.{new-ten, new-done}
+use Rattle.face.proofs.Laws.{new_ten, new_done}
 use Rattle.face.proofs.vdp_new_table.Statement.{statement}
 use Rattle.face.proofs.vdp_new_table.Tie as tie
 
@@ -23,7 +23,7 @@ returns c =
     let at-has-room = at_both.before in
     let at-table-from = at-has-room.before in
     let at-start = at-table-from.before.before in
-    new-ten at-start.args.state.now at-start.args.table at-table-from.table-from.ensures at-has-room.has_room.ensures at_both.both.ensures
+    new_ten at-start.args.state.now at-start.args.table at-table-from.table-from.ensures at-has-room.has_room.ensures at_both.both.ensures
     (not-true _ c.before.if1.true) c.number.ensures.0
 
 fresh-requires : tie.Need-fresh-requires
@@ -40,7 +40,7 @@ returns-2 c =
     let at-has-room = at_both.before in
     let at-table-from = at-has-room.before in
     let at-start = at-table-from.before.before in
-    new-done at-start.args.state.now at-start.args.table at-table-from.table-from.ensures at-has-room.has_room.ensures at_both.both.ensures
+    new_done at-start.args.state.now at-start.args.table at-table-from.table-from.ensures at-has-room.has_room.ensures at_both.both.ensures
     (not-false _ at-if1.if1.false) at-fresh.fresh.ensures
 
 pub vdp-new-table-spec : {M : Type 1} → statement M

@@ -1,6 +1,6 @@
 -- `face::vdp_out` meets its contract: a port write.
 use borrow.Author.Rules.{rules}
-use Rattle.face.proofs.Laws.{whole, out-refused, out-done}
+use Rattle.face.proofs.Laws.{whole, out_refused, out_done}
 use Rattle.face.proofs.vdp_out.Statement.{statement}
 use Rattle.face.proofs.vdp_out.Tie as tie
 
@@ -13,7 +13,7 @@ same_length c = search rules
 returns : tie.Need-returns
 returns c =
     let at-start = c.before.before.before.before.before in
-    out-refused at-start.args.state.now c.before.asked.ensures c.if1.true at-start.args.vram.now at-start.args.port
+    out_refused at-start.args.state.now c.before.asked.ensures c.if1.true at-start.args.vram.now at-start.args.port
     at-start.args.value
 
 out-requires : tie.Need-out-requires
@@ -37,7 +37,7 @@ returns-2 c =
     let at-if1 = at_out.before.before.before in
     let at-asked = at-if1.before in
     let at-start = at-asked.before.before.before.before in
-    out-done at-start.args.state.now at-asked.asked.ensures at-if1.if1.false at-start.args.vram.now at-start.args.port
+    out_done at-start.args.state.now at-asked.asked.ensures at-if1.if1.false at-start.args.vram.now at-start.args.port
     at-start.args.value at_out.out.ensures c.number.ensures.0
 
 pub vdp-out-spec : {M : Type 1} → statement M

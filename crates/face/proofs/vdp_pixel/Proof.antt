@@ -1,7 +1,7 @@
 -- `face::vdp_pixel` meets its contract: one pixel of the row as it would be drawn now; the block is only read.
 use borrow.Author.Rules.{rules}
 use Rattle.face.proofs.Laws.{room}
-use Rattle.face.proofs.Pixels.{pixel-asked, pixel-done}
+use Rattle.face.proofs.Pixels.{pixel_asked, pixel_done}
 use Rattle.face.proofs.vdp_pixel.Statement.{statement}
 use Rattle.face.proofs.vdp_pixel.Tie as tie
 
@@ -14,7 +14,7 @@ cast-result c = search rules
 returns : tie.Need-returns
 returns c =
     let at-start = c.before.before.before.before in
-    pixel-asked at-start.args.state.now at-start.args.vram.now at-start.args.area at-start.args.row at-start.args.column
+    pixel_asked at-start.args.state.now at-start.args.vram.now at-start.args.area at-start.args.row at-start.args.column
     c.before.asked.ensures c.if1.true
 
 raster-in-requires : tie.Need-raster-in-requires
@@ -54,7 +54,7 @@ returns-2 c =
     let at-if1 = at-raster-in.before in
     let at-asked = at-if1.before in
     let at-start = at-asked.before.before.before in
-    pixel-done at-start.args.state.now at-start.args.vram.now at-start.args.area at-start.args.row at-start.args.column
+    pixel_done at-start.args.state.now at-start.args.vram.now at-start.args.area at-start.args.row at-start.args.column
     at-asked.asked.ensures at-if1.if1.false at-screen-from.screen-from.ensures
     at-registers.registers.ensures at-raster-in.raster-in.ensures at-spot-at.spot-at.ensures.0 c.before.shown.ensures c.pixel-word.ensures
 

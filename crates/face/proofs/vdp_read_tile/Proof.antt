@@ -1,6 +1,6 @@
 -- `face::vdp_read_tile` meets its contract: the 64 codes of a tile.
 use borrow.Author.Rules.{rules}
-use Rattle.face.proofs.Tiles.{read-tile}
+use Rattle.face.proofs.Tiles.{read_tile}
 use Rattle.face.proofs.vdp_read_tile.Statement.{statement}
 use Rattle.face.proofs.vdp_read_tile.Tie as tie
 
@@ -17,7 +17,7 @@ returns : tie.Need-returns
 returns c =
     let at-read-tile = c.before.before.before in
     let at-start = at-read-tile.before.before.before.before in
-    read-tile at-start.args.vram.now at-start.args.tile at-start.args.codes.now at-read-tile.read-tile.ensures
+    read_tile at-start.args.vram.now at-start.args.tile at-start.args.codes.now at-read-tile.read_tile.ensures
     c.number.ensures.0
 
 pub vdp-read-tile-spec : {M : Type 1} → statement M

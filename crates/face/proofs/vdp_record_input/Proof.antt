@@ -1,7 +1,7 @@
 -- `face::vdp_record_input` meets its contract: the record of a port read.
 use borrow.Author.Rules.{rules}
 use Rattle.trace_record.specs.declared.Record.TheVariants.{Read}
-use Rattle.face.proofs.Records.{record-kept}
+use Rattle.face.proofs.Records.{record_kept}
 use Rattle.face.proofs.vdp_record_input.Statement.{statement}
 use Rattle.face.proofs.vdp_record_input.Tie as tie
 
@@ -19,7 +19,7 @@ returns c =
     let at-put-record = c.before.before.before in
     let at-start = at-put-record.before.before.before in
     let a = at-start.args in
-    record-kept a.recording.now a.used (Read a.port) at-put-record.put_record.ensures.0 c.recorded-word.ensures
+    record_kept a.recording.now a.used (Read a.port) at-put-record.put_record.ensures.0 c.recorded-word.ensures
 
 pub vdp-record-input-spec : {M : Type 1} → statement M
 vdp-record-input-spec =

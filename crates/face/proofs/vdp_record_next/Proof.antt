@@ -2,8 +2,8 @@
 use borrow.Author.Rules.{rules}
 use mathlib.Core.Path.{refl, ap, ◌∙◌}
 use Prim.Native.Nat.{ℕ}
-use Rattle.face.specs.Record.{bytesWord, recordWord}
-use Rattle.face.proofs.Records.{next-is}
+use Rattle.face.specs.Record.{bytes_word, record_word}
+use Rattle.face.proofs.Records.{next_is}
 use Rattle.face.proofs.vdp_record_next.Statement.{statement}
 use Rattle.face.proofs.vdp_record_next.Tie as tie
 
@@ -38,48 +38,48 @@ enum-told-2 : tie.Need-enum-told-2
 enum-told-2 c = search rules
 
 returns : tie.Need-returns
-unfolding recordWord
+unfolding record_word
 returns c =
     let at-port = c.before.before in
     let at-record-at = at-port.before.before in
     let at-start = at-record-at.before.before in
     let a = at-start.args in
-    next-is a.recording.now a.at at-record-at.record-at.ensures at-port.port.given.1 c.bytes_word.ensures
+    next_is a.recording.now a.at at-record-at.record-at.ensures at-port.port.given.1 c.bytes_word.ensures
 
 returns-2 : tie.Need-returns-2
-unfolding recordWord
+unfolding record_word
 returns-2 c =
     let at-port2 = c.before.before in
     let at-record-at = at-port2.before.before in
     let at-start = at-record-at.before.before in
     let a = at-start.args in
-    next-is a.recording.now a.at at-record-at.record-at.ensures at-port2.port2.given.1 c.bytes-word2.ensures
+    next_is a.recording.now a.at at-record-at.record-at.ensures at-port2.port2.given.1 c.bytes-word2.ensures
 
 returns-3 : tie.Need-returns-3
-unfolding recordWord
+unfolding record_word
 returns-3 c =
     let at-area = c.before.before.before in
     let at-record-at = at-area.before.before in
     let at-start = at-record-at.before.before in
     let a = at-start.args in
-    next-is a.recording.now a.at at-record-at.record-at.ensures at-area.area.given.1
-    (c.bytes-word3.ensures ∙ ap (λ (n : ℕ). bytesWord 3 n 0 3) c.before.area-number.ensures)
+    next_is a.recording.now a.at at-record-at.record-at.ensures at-area.area.given.1
+    (c.bytes-word3.ensures ∙ ap (λ (n : ℕ). bytes_word 3 n 0 3) c.before.area-number.ensures)
 
 returns-4 : tie.Need-returns-4
-unfolding recordWord
+unfolding record_word
 returns-4 c =
     let at-record-at = c.before.before in
     let at-start = at-record-at.before.before in
     let a = at-start.args in
-    next-is a.recording.now a.at at-record-at.record-at.ensures c.enum_told.given.1 refl
+    next_is a.recording.now a.at at-record-at.record-at.ensures c.enum_told.given.1 refl
 
 returns-5 : tie.Need-returns-5
-unfolding recordWord
+unfolding record_word
 returns-5 c =
     let at-record-at = c.before.before in
     let at-start = at-record-at.before.before in
     let a = at-start.args in
-    next-is a.recording.now a.at at-record-at.record-at.ensures c.enum-told2.given.1 refl
+    next_is a.recording.now a.at at-record-at.record-at.ensures c.enum-told2.given.1 refl
 
 pub vdp-record-next-spec : {M : Type 1} → statement M
 vdp-record-next-spec =

@@ -1,7 +1,7 @@
 -- `face::vdp_record_step` meets its contract: the record of a step.
 use borrow.Author.Rules.{rules}
 use Rattle.trace_record.specs.declared.Record.TheVariants.{Step}
-use Rattle.face.proofs.Records.{record-kept, step_kept, step-unknown}
+use Rattle.face.proofs.Records.{record_kept, step_kept, step_unknown}
 use Rattle.face.proofs.vdp_record_step.Statement.{statement}
 use Rattle.face.proofs.vdp_record_step.Tie as tie
 
@@ -12,7 +12,7 @@ returns : tie.Need-returns
 returns c =
     let at-start = c.before.before.before in
     let a = at-start.args in
-    step-unknown a.recording.now a.used a.area c.before.if1.true c.number.ensures.0
+    step_unknown a.recording.now a.used a.area c.before.if1.true c.number.ensures.0
 
 area-from-requires : tie.Need-area-from-requires
 area-from-requires c κs = search rules
@@ -35,7 +35,7 @@ returns-2 c =
     let a = at-start.args in
     let r = at-area-from.area-from in
     step_kept a.recording.now a.used a.area at-if1.if1.false r.ensures
-    (record-kept a.recording.now a.used (Step r.result) at-put-record.put_record.ensures.0 c.recorded-word.ensures)
+    (record_kept a.recording.now a.used (Step r.result) at-put-record.put_record.ensures.0 c.recorded-word.ensures)
 
 pub vdp-record-step-spec : {M : Type 1} → statement M
 vdp-record-step-spec =

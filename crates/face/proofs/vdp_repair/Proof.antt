@@ -1,6 +1,6 @@
 -- `face::vdp_repair` meets its contract: a damaged block mended, and the changed offsets at the start of the list.
 use borrow.Author.Rules.{rules}
-use Rattle.face.proofs.Repairs.{repair-kept}
+use Rattle.face.proofs.Repairs.{repair_kept}
 use Rattle.face.proofs.vdp_repair.Statement.{statement}
 use Rattle.face.proofs.vdp_repair.Tie as tie
 
@@ -29,7 +29,7 @@ returns : tie.Need-returns
 returns c =
     let at-repair = c.before.before.before.before.before.before in
     let at-start = at-repair.before.before.before.before.before in
-    repair-kept at-start.args.state.now at-start.args.list.now at-repair.repair.ensures.0 c.before.number.ensures.0
+    repair_kept at-start.args.state.now at-start.args.list.now at-repair.repair.ensures.0 c.before.number.ensures.0
 
 pub vdp-repair-spec : {M : Type 1} → statement M
 vdp-repair-spec =

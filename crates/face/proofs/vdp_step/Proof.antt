@@ -2,8 +2,8 @@
 use borrow.Author.Rules.{rules}
 use lib.ListN.{length}
 use native.Mathlib.Omega.{arith}
-use Rattle.row.proofs.Steps.{frame-due-fits}
-use Rattle.face.proofs.Laws.{room, colours-room, points-room, step-refused, step_kept}
+use Rattle.row.proofs.Steps.{frame_due_fits}
+use Rattle.face.proofs.Laws.{room, colours_room, points_room, step_refused, step_kept}
 use Rattle.face.proofs.vdp_step.Statement.{statement}
 use Rattle.face.proofs.vdp_step.Tie as tie
 
@@ -16,7 +16,7 @@ same_length c = search rules
 returns : tie.Need-returns
 returns c =
     let at-start = c.before.before.before.before.before.before in
-    step-refused at-start.args.state.now at-start.args.vram.now at-start.args.frame.now at-start.args.area c.before.asked.ensures
+    step_refused at-start.args.state.now at-start.args.vram.now at-start.args.frame.now at-start.args.area c.before.asked.ensures
     c.if1.true
 
 screen-from-requires : tie.Need-screen-from-requires
@@ -55,7 +55,7 @@ draw-in-requires c κs =
     let at-registers = at-raster-in.before in
     let at-screen-from = at-registers.before in
     let at-start = at-screen-from.before.before.before.before.before.before.before in
-    frame-due-fits at-screen-from.screen-from.result at-registers.registers.result at-raster-in.raster-in.result at-start.args.vram.now
+    frame_due_fits at-screen-from.screen-from.result at-registers.registers.result at-raster-in.raster-in.result at-start.args.vram.now
     (length at-start.args.frame.now) at-frame-due.frame-due.ensures
 
 store-colours-requires : tie.Need-store-colours-requires
@@ -63,7 +63,7 @@ store-colours-requires c κs =
     let at-if1 = c.before.before.before.before.before.before.before.before.before.before.before.before.before in
     let at-asked = at-if1.before in
     let at-start = at-asked.before.before.before.before.before in
-    colours-room at-start.args.state.now at-start.args.area at-asked.asked.ensures at-if1.if1.false
+    colours_room at-start.args.state.now at-start.args.area at-asked.asked.ensures at-if1.if1.false
 
 left-requires : tie.Need-left-requires
 left-requires c κs =
@@ -71,7 +71,7 @@ left-requires c κs =
     let at-if1 = at-store-colours.before.before.before.before.before.before.before.before.before.before.before.before.before.before in
     let at-asked = at-if1.before in
     let at-start = at-asked.before.before.before.before.before in
-    points-room at-start.args.state.now at-start.args.area at-asked.asked.ensures at-if1.if1.false at-store-colours.store-colours.new.0
+    points_room at-start.args.state.now at-start.args.area at-asked.asked.ensures at-if1.if1.false at-store-colours.store-colours.new.0
     at-store-colours.store-colours.auto.0
 
 same-length-2 : tie.Need-same-length-2

@@ -1,7 +1,7 @@
 -- `home::frame_step` meets its contract: a step on a whole frame.
 use borrow.Author.Rules.{rules}
 use mathlib.Core.Path.{refl}
-use Rattle.home.proofs.Steps.{reading-of, frame-joined}
+use Rattle.home.proofs.Steps.{reading_of_lem, frame-joined}
 use Rattle.home.proofs.frame_step.Statement.{statement}
 use Rattle.home.proofs.frame_step.Tie as tie
 
@@ -23,7 +23,7 @@ returns c =
     let at-colours-of = at-frame-points.before.before.before in
     let at-start = at-colours-of.before.before.before.before.before.before in
     frame-joined at-start.args.vram.now at-start.args.home
-    (reading-of at-start.args.home refl refl refl at-colours-of.colours-of.ensures) c.join.ensures at-start.args.frame.now
+    (reading_of_lem at-start.args.home refl refl refl at-colours-of.colours-of.ensures) c.join.ensures at-start.args.frame.now
     at-frame-points.frame-points.ensures
 
 pub frame-step-spec : {M : Type 1} → statement M

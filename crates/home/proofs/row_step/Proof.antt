@@ -1,7 +1,7 @@
 -- `home::row_step` meets its contract: a step, whose row goes to the first bytes of the row buffer.
 use borrow.Author.Rules.{rules}
 use mathlib.Core.Path.{refl}
-use Rattle.home.proofs.Steps.{reading-of, row-joined}
+use Rattle.home.proofs.Steps.{reading_of_lem, row_joined}
 use Rattle.home.proofs.row_step.Statement.{statement}
 use Rattle.home.proofs.row_step.Tie as tie
 
@@ -22,8 +22,8 @@ returns c =
     let at-row-points = c.before.before.before in
     let at-colours-of = at-row-points.before.before.before in
     let at-start = at-colours-of.before.before.before.before.before.before in
-    row-joined at-start.args.vram.now at-start.args.home
-    (reading-of at-start.args.home refl refl refl at-colours-of.colours-of.ensures) c.join.ensures at-start.args.row.now
+    row_joined at-start.args.vram.now at-start.args.home
+    (reading_of_lem at-start.args.home refl refl refl at-colours-of.colours-of.ensures) c.join.ensures at-start.args.row.now
     at-row-points.row-points.ensures
 
 pub row-step-spec : {M : Type 1} → statement M

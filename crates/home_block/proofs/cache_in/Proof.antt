@@ -9,7 +9,7 @@ colours-at-requires c κs = search rules
 
 returns : tie.Need-returns
 unfolding state_of
-returns c = c.colours-at.ensures
+returns c = c.colours_at_lem.ensures
 
 pub cache-in-spec : {M : Type 1} → statement M
 cache-in-spec = tie.close (tie.spec colours-at-requires returns)

@@ -1,7 +1,7 @@
 -- `home_block::cached_colour` meets its contract: one of the cached colours.
 use borrow.Author.Rules.{rules}
 use mathlib.Core.Path.{sym, ◌∙◌}
-use Rattle.block_parts.proofs.Copies.{one-of}
+use Rattle.block_parts.proofs.Copies.{one_of_lem}
 use Rattle.home_block.specs.HomeBlock.{state_of}
 use Rattle.home_block.proofs.cached_colour.Statement.{statement}
 use Rattle.home_block.proofs.cached_colour.Tie as tie
@@ -19,7 +19,7 @@ returns : tie.Need-returns
 unfolding state_of
 returns c =
     let at-start = c.before.before in
-    c.colour-at.ensures ∙ sym (one-of 58 at-start.args.block.now at-start.args.n at-start.requires.1)
+    c.colour-at.ensures ∙ sym (one_of_lem 58 at-start.args.block.now at-start.args.n at-start.requires.1)
 
 pub cached-colour-spec : {M : Type 1} → statement M
 cached-colour-spec = tie.close (tie.spec mul-colour-at add-colour-at colour-at-requires returns)

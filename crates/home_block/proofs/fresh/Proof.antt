@@ -1,6 +1,6 @@
 -- `home_block::fresh` meets its contract: a fresh device of this table into a block.
 use borrow.Author.Rules.{rules}
-use Rattle.home_block.proofs.Whole.{fresh-block}
+use Rattle.home_block.proofs.Whole.{fresh_block}
 use Rattle.home_block.proofs.fresh.Statement.{statement}
 use Rattle.home_block.proofs.fresh.Tie as tie
 
@@ -20,7 +20,7 @@ returns : tie.Need-returns
 returns c =
     let at-stamp = c.before.before.before in
     let at-start = at-stamp.before.before.before in
-    fresh-block at-start.args.table at-start.args.block.now at-start.requires at-stamp.stamp.ensures c.table-number.ensures
+    fresh_block at-start.args.table at-start.args.block.now at-start.requires at-stamp.stamp.ensures c.table_number.ensures
 
 pub fresh-spec : {M : Type 1} → statement M
 fresh-spec =

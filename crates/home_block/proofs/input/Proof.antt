@@ -1,7 +1,7 @@
 -- `home_block::input` meets its contract: a port read, all of it the front's.
 use borrow.Author.Rules.{rules}
 use native.Mathlib.Omega.{arith}
-use Rattle.home_block.proofs.Ports.{formed, read-in-place}
+use Rattle.home_block.proofs.Ports.{formed, read_in_place}
 use Rattle.home_block.proofs.input.Statement.{statement}
 use Rattle.home_block.proofs.input.Tie as tie
 
@@ -19,7 +19,7 @@ returns c =
     let at_read = c.before.before in
     let at-slice-known = at_read.before.before.before in
     let at-start = at-slice-known.before in
-    read-in-place at-start.args.block.now at-start.requires (λ i. omega (arith, at-slice-known.slice-known.given i)) at-start.args.vram.now
+    read_in_place at-start.args.block.now at-start.requires (λ i. omega (arith, at-slice-known.slice-known.given i)) at-start.args.vram.now
     at-start.args.port at_read.read.ensures
 
 pub input-spec : {M : Type 1} → statement M

@@ -1,7 +1,7 @@
 -- `home_block::well_formed` meets its contract: whether a block has the length, the mark, and no byte that does not fit its place.
 use borrow.Author.Rules.{rules}
 use borrow.Author.Tests.{eq-eqb}
-use Rattle.home_block.specs.HomeBlock.{wellFormed}
+use Rattle.home_block.specs.HomeBlock.{well_formed}
 use Rattle.home_block.proofs.Whole.{other_length}
 use mathlib.Core.Path.{sym}
 use Rattle.home_block.proofs.well_formed.Statement.{statement}
@@ -28,7 +28,7 @@ shared-slice-read-result-2 : tie.Need-shared-slice-read-result-2
 shared-slice-read-result-2 c = search rules
 
 returns-2 : tie.Need-returns-2
-unfolding wellFormed
+unfolding well_formed
 returns-2 c =
     let at-fields-fit = c.before.before in
     let at-if1 = at-fields-fit.before.before.before in

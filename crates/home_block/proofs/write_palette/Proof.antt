@@ -1,7 +1,7 @@
 -- `home_block::write_palette` meets its contract: a byte for the palette (R20.3): it is stored at once.
 use borrow.Author.Rules.{rules}
 use native.Mathlib.Omega.{arith}
-use Rattle.home_block.proofs.Stores.{palette-stored}
+use Rattle.home_block.proofs.Stores.{palette_stored}
 use Rattle.home_block.proofs.write_palette.Statement.{statement}
 use Rattle.home_block.proofs.write_palette.Tie as tie
 
@@ -29,7 +29,7 @@ returns c =
     let at-store-colour = at-store-address.before.before.before.before in
     let at-address-in = at-store-colour.before.before in
     let at-start = at-address-in.before.before.before in
-    λ h g e. palette-stored h g at-start.args.val (omega (arith, at-start.requires.1, at-address-in.address-in.ensures)) e
+    λ h g e. palette_stored h g at-start.args.val (omega (arith, at-start.requires.1, at-address-in.address-in.ensures)) e
     at-address-in.address-in.ensures at-store-colour.store-colour.ensures at-store-address.store-address.ensures
 
 pub write-palette-spec : {M : Type 1} → statement M

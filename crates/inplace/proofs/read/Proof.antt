@@ -2,8 +2,8 @@
 use borrow.Author.Rules.{rules}
 use mathlib.Core.Path.{sym}
 use borrow.Author.Tests.{eq-eqb, ne_eqb}
-use Rattle.front.specs.Ports.{frontRead}
-use Rattle.inplace.proofs.Ports.{refused-by, given_by}
+use Rattle.front.specs.Ports.{front_read}
+use Rattle.inplace.proofs.Ports.{refused_by, given_by}
 use Rattle.inplace.proofs.Stores.{stays}
 use Rattle.inplace.proofs.read.Statement.{statement}
 use Rattle.inplace.proofs.read.Tie as tie
@@ -12,16 +12,16 @@ refused-requires : tie.Need-refused-requires
 refused-requires c κs = search rules
 
 returns : tie.Need-returns
-unfolding frontRead
+unfolding front_read
 returns c =
     let at-start = c.before.before.before.before in
-    refused-by (simp (ne_eqb _ _ c.before.if1.true)) c.refused.ensures (sym (stays at-start.args.block.now at-start.requires))
+    refused_by (simp (ne_eqb _ _ c.before.if1.true)) c.refused.ensures (sym (stays at-start.args.block.now at-start.requires))
 
 slice-read-t10 : tie.Need-slice-read-t10
 slice-read-t10 c = search rules
 
 returns-2 : tie.Need-returns-2
-unfolding frontRead
+unfolding front_read
 returns-2 c =
     let at-if1 = c.before.before in
     let at-start = at-if1.before.before.before in
@@ -31,11 +31,11 @@ refused-requires-2 : tie.Need-refused-requires-2
 refused-requires-2 c κs = search rules
 
 returns-3 : tie.Need-returns-3
-unfolding frontRead
+unfolding front_read
 returns-3 c =
     let at-if1 = c.before.before in
     let at-start = at-if1.before.before.before in
-    refused-by (simp (eq-eqb _ _ at-if1.if1.false, c.before.match.keys2)) c.refused2.ensures
+    refused_by (simp (eq-eqb _ _ at-if1.if1.false, c.before.match.keys2)) c.refused2.ensures
     (sym (stays at-start.args.block.now at-start.requires))
 
 read-status-requires : tie.Need-read-status-requires
@@ -45,7 +45,7 @@ same_length : tie.Need-same-length
 same_length c = search rules
 
 returns-4 : tie.Need-returns-4
-unfolding frontRead
+unfolding front_read
 returns-4 c =
     let at-read-status = c.before.before in
     let at-match = at-read-status.before.before in
@@ -59,7 +59,7 @@ same-length-2 : tie.Need-same-length-2
 same-length-2 c = search rules
 
 returns-5 : tie.Need-returns-5
-unfolding frontRead
+unfolding front_read
 returns-5 c =
     let at-read-ram = c.before.before in
     let at-match = at-read-ram.before.before in
@@ -70,12 +70,12 @@ refused-requires-3 : tie.Need-refused-requires-3
 refused-requires-3 c κs = search rules
 
 returns-6 : tie.Need-returns-6
-unfolding frontRead
+unfolding front_read
 returns-6 c =
     let at-if1 = c.before.before in
     let at-start = at-if1.before.before.before in
     let none = c.before.match.rest in
-    refused-by (simp (eq-eqb _ _ at-if1.if1.false, ne_eqb _ _ none.0.0.0.1, ne_eqb _ _ none.0.0.1, ne_eqb _ _ none.0.1, ne_eqb _ _ none.1))
+    refused_by (simp (eq-eqb _ _ at-if1.if1.false, ne_eqb _ _ none.0.0.0.1, ne_eqb _ _ none.0.0.1, ne_eqb _ _ none.0.1, ne_eqb _ _ none.1))
     c.refused3.ensures (sym (stays at-start.args.block.now at-start.requires))
 
 pub read_spec : {M : Type 1} → statement M

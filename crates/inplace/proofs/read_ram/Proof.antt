@@ -3,7 +3,7 @@ use borrow.Author.Rules.{rules}
 use native.Mathlib.Omega.{arith}
 use lib.ListN.{length-set}
 use borrow.Author.Tests.{lt-ltb, le-ltb}
-use Rattle.inplace.proofs.Ports.{then-address, then-byte, none_is, video-is, palette-is, emptied-formed, emptied-stored, then-buffer, refused-by}
+use Rattle.inplace.proofs.Ports.{then_address, then_byte, none_is, video_is, palette_is, emptied_formed, emptied_stored, then_buffer, refused_by}
 use Rattle.inplace.proofs.Ports.{given_by}
 use Rattle.inplace.proofs.read_ram.Statement.{statement}
 use Rattle.inplace.proofs.read_ram.Tie as tie
@@ -26,8 +26,8 @@ same_length c = search rules
 returns : tie.Need-returns
 returns c =
     let at-start = c.before.before.before.before.before in
-    refused-by (simp (none_is at-start.args.block.now c.before.match.keys1)) c.refused.ensures
-    (emptied-stored at-start.args.block.now at-start.requires.0)
+    refused_by (simp (none_is at-start.args.block.now c.before.match.keys1)) c.refused.ensures
+    (emptied_stored at-start.args.block.now at-start.requires.0)
 
 refused-requires-2 : tie.Need-refused-requires-2
 refused-requires-2 c κs = search rules
@@ -39,8 +39,8 @@ returns-2 : tie.Need-returns-2
 returns-2 c =
     let at-start = c.before.before.before.before.before in
     let none = c.before.match.rest in
-    refused-by (simp (palette-is at-start.args.block.now none.0.1 none.1)) c.refused2.ensures
-    (emptied-stored at-start.args.block.now at-start.requires.0)
+    refused_by (simp (palette_is at-start.args.block.now none.0.1 none.1)) c.refused2.ensures
+    (emptied_stored at-start.args.block.now at-start.requires.0)
 
 address-in-requires : tie.Need-address-in-requires
 address-in-requires c κs = search rules
@@ -56,13 +56,13 @@ returns-3 c =
     let at-address-in = c.before.before in
     let at-match = at-address-in.before.before in
     let at-start = at-match.before.before.before.before in
-    refused-by (simp (
-      video-is at-start.args.block.now at-match.match.keys2,
-      then-address at-start.args.block.now at-start.requires.0
+    refused_by (simp (
+      video_is at-start.args.block.now at-match.match.keys2,
+      then_address at-start.args.block.now at-start.requires.0
           at-address-in.address-in.ensures,
       le-ltb _ _ c.before.if1.true,
     )) c.refused3.ensures
-    (emptied-stored at-start.args.block.now at-start.requires.0)
+    (emptied_stored at-start.args.block.now at-start.requires.0)
 
 cast-at : tie.Need-overflow-cast-at
 cast-at c = search rules
@@ -76,7 +76,7 @@ shared-slice-read-store-buffer c = search rules
 store-buffer-requires : tie.Need-store-buffer-requires
 store-buffer-requires c κs =
     let at-start = c.before.before.before.before.before.before.before.before.before.before in
-    (emptied-formed at-start.args.block.now at-start.requires.0, omega arith)
+    (emptied_formed at-start.args.block.now at-start.requires.0, omega arith)
 
 same-length-4 : tie.Need-same-length-4
 same-length-4 c = omega (arith, simp length-set at c.before.block.given)
@@ -89,13 +89,13 @@ returns-4 c =
     let at-match = at-address-in.before.before in
     let at-start = at-match.before.before.before.before in
     given_by (simp (
-      video-is at-start.args.block.now at-match.match.keys2,
-      then-address at-start.args.block.now at-start.requires.0
+      video_is at-start.args.block.now at-match.match.keys2,
+      then_address at-start.args.block.now at-start.requires.0
           at-address-in.address-in.ensures,
       lt-ltb _ _ at-if1.if1.false,
-      then-byte at-start.args.block.now at-start.requires.0,
+      then_byte at-start.args.block.now at-start.requires.0,
     ))
-    (then-buffer at-start.args.block.now at-start.requires.0 _ _ at-store-buffer.store-buffer.ensures)
+    (then_buffer at-start.args.block.now at-start.requires.0 _ _ at-store-buffer.store-buffer.ensures)
 
 pub read-ram-spec : {M : Type 1} → statement M
 read-ram-spec =

@@ -2,10 +2,10 @@
 use borrow.Author.Rules.{rules}
 use lib.ListN.{length-set}
 use native.Mathlib.Omega.{arith}
-use Rattle.inplace.proofs.Ports.{status-is, emptied-stored, given_by}
-use Rattle.inplace.proofs.Stores.{eleven, status-stored}
+use Rattle.inplace.proofs.Ports.{status_is, emptied_stored, given_by}
+use Rattle.inplace.proofs.Stores.{eleven, status_stored}
 use Rattle.front.specs.Front.{emptied}
-use Rattle.fields.specs.Stored.{frontIn}
+use Rattle.fields.specs.Stored.{front_in}
 use Rattle.inplace.proofs.read_status.Statement.{statement}
 use Rattle.inplace.proofs.read_status.Tie as tie
 
@@ -26,9 +26,9 @@ same_length c = search rules
 
 returns : tie.Need-returns
 returns c =
-    given_by (rw (status-is c.before.args.block.now))
-    (status-stored c.before.args.block.now (emptied (frontIn c.before.args.block.now))
-    (eleven c.before.args.block.now c.before.requires.long) (emptied-stored c.before.args.block.now c.before.requires))
+    given_by (rw (status_is c.before.args.block.now))
+    (status_stored c.before.args.block.now (emptied (front_in c.before.args.block.now))
+    (eleven c.before.args.block.now c.before.requires.long) (emptied_stored c.before.args.block.now c.before.requires))
 
 pub read-status-spec : {M : Type 1} → statement M
 read-status-spec =

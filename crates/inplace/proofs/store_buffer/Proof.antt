@@ -1,6 +1,6 @@
 -- `inplace::store_buffer` meets its contract: a byte in the read buffer, and the address one on from this one.
 use borrow.Author.Rules.{rules}
-use Rattle.inplace.proofs.Stores.{buffer-stored}
+use Rattle.inplace.proofs.Stores.{buffer_stored}
 use Rattle.inplace.proofs.store_buffer.Statement.{statement}
 use Rattle.inplace.proofs.store_buffer.Tie as tie
 
@@ -20,7 +20,7 @@ returns : tie.Need-returns
 returns c =
     let at-store-address = c.before.before in
     let at-start = at-store-address.before.before.before in
-    buffer-stored at-start.args.block.now at-start.requires.0 at-start.args.byte at-start.args.address
+    buffer_stored at-start.args.block.now at-start.requires.0 at-start.args.byte at-start.args.address
     at-store-address.store-address.ensures
 
 pub store-buffer-spec : {M : Type 1} → statement M

@@ -2,8 +2,8 @@
 use borrow.Author.Rules.{rules}
 use mathlib.Core.Path.{sym}
 use borrow.Author.Tests.{eq-eqb, ne_eqb}
-use Rattle.front.specs.Ports.{frontWrite}
-use Rattle.inplace.proofs.Ports.{sent-by}
+use Rattle.front.specs.Ports.{front_write}
+use Rattle.inplace.proofs.Ports.{sent_by}
 use Rattle.inplace.proofs.Stores.{stays}
 use Rattle.inplace.proofs.write.Statement.{statement}
 use Rattle.inplace.proofs.write.Tie as tie
@@ -12,11 +12,11 @@ answered-requires : tie.Need-answered-requires
 answered-requires c κs = search rules
 
 returns : tie.Need-returns
-unfolding frontWrite
+unfolding front_write
 returns c =
     let at-start = c.before.before.before.before in
     let t = ne_eqb _ _ c.before.if1.true in
-    (sent-by (simp t) c.answered.ensures (sym (stays at-start.args.block.now at-start.requires.0)), simp t)
+    (sent_by (simp t) c.answered.ensures (sym (stays at-start.args.block.now at-start.requires.0)), simp t)
 
 write-cmd-requires : tie.Need-write-cmd-requires
 write-cmd-requires c κs = search rules
@@ -37,7 +37,7 @@ same-length-2 : tie.Need-same-length-2
 same-length-2 c = search rules
 
 returns-2 : tie.Need-returns-2
-unfolding frontWrite
+unfolding front_write
 returns-2 c =
     let at-write-cmd = c.before.before.before in
     let at-match = at-write-cmd.before.before.before in
@@ -52,7 +52,7 @@ same-length-4 : tie.Need-same-length-4
 same-length-4 c = search rules
 
 returns-3 : tie.Need-returns-3
-unfolding frontWrite
+unfolding front_write
 returns-3 c =
     let at-write-ram = c.before.before.before.before in
     let at-match = at-write-ram.before.before.before in
@@ -61,13 +61,13 @@ returns-3 c =
     (simp (t, at-match.match.keys2) at-write-ram.write-ram.ensures.0, simp (t, at-match.match.keys2) at-write-ram.write-ram.ensures.1)
 
 returns-4 : tie.Need-returns-4
-unfolding frontWrite
+unfolding front_write
 returns-4 c =
     let at-if1 = c.before.before in
     let at-start = at-if1.before.before.before in
     let t = eq-eqb _ _ at-if1.if1.false in
     let none = c.before.match.rest in (
-      sent-by (simp (t, ne_eqb _ _ none.0.1, ne_eqb _ _ none.1)) c.answered3.ensures
+      sent_by (simp (t, ne_eqb _ _ none.0.1, ne_eqb _ _ none.1)) c.answered3.ensures
           (sym (stays at-start.args.block.now at-start.requires.0)),
       simp (t, ne_eqb _ _ none.0.1, ne_eqb _ _ none.1),
     )

@@ -6,9 +6,9 @@ use Prim.Native.Nat.{◌%◌}
 use lib.ListN.{length-set}
 use Rattle.front.specs.declared.WriteDest.TheVariants.{Vram, Cram}
 use Rattle.front.specs.declared.Latch.TheVariants.{Held}
-use Rattle.inplace.proofs.Ports.{sent-by, first-waits, second_reads, second-writes, second-high, second-register, second-palette, emptied-formed}
-use Rattle.inplace.proofs.Ports.{emptied-stored, then-choice, then-loaded, then-register}
-use Rattle.inplace.proofs.Stores.{command-stored}
+use Rattle.inplace.proofs.Ports.{sent_by, first_waits, second_reads, second_writes, second_high, second_register, second_palette, emptied_formed}
+use Rattle.inplace.proofs.Ports.{emptied_stored, then_choice, then_loaded, then_register}
+use Rattle.inplace.proofs.Stores.{command_stored}
 use Rattle.inplace.proofs.write_cmd.Statement.{statement}
 use Rattle.inplace.proofs.write_cmd.Tie as tie
 
@@ -27,8 +27,8 @@ same_length c = search rules
 returns : tie.Need-returns
 returns c =
     let at-start = c.before.before.before.before in
-    sent-by (first-waits at-start.args.palette at-start.args.block.now at-start.args.vram.now at-start.args.val c.if1.true) refl
-    (command-stored at-start.args.block.now at-start.requires.0 (Held at-start.args.val) refl)
+    sent_by (first_waits at-start.args.palette at-start.args.block.now at-start.args.vram.now at-start.args.val c.if1.true) refl
+    (command_stored at-start.args.block.now at-start.requires.0 (Held at-start.args.val) refl)
 
 slice-read-first : tie.Need-slice-read-first
 slice-read-first c = search rules
@@ -51,7 +51,7 @@ shared-slice-read-store-buffer c = search rules
 store-buffer-requires : tie.Need-store-buffer-requires
 store-buffer-requires c κs =
     let at-start = c.before.before.before.before.before.before.before.before.before in
-    (emptied-formed at-start.args.block.now at-start.requires.0, omega arith)
+    (emptied_formed at-start.args.block.now at-start.requires.0, omega arith)
 
 slice-write-block-5 : tie.Need-slice-write-block-5
 slice-write-block-5 c = omega (arith, simp length-set at c.before.block.given)
@@ -72,8 +72,8 @@ returns-2 : tie.Need-returns-2
 returns-2 c =
     let at-if1 = c.before.before.before.before in
     let at-start = at-if1.before.before.before.before in
-    sent-by (second-high at-start.args.palette at-start.args.block.now at-start.args.vram.now at-start.args.val at-if1.if1.false
-    c.before.match.keys3 c.if2.true) refl (emptied-stored at-start.args.block.now at-start.requires.0)
+    sent_by (second_high at-start.args.palette at-start.args.block.now at-start.args.vram.now at-start.args.val at-if1.if1.false
+    c.before.match.keys3 c.if2.true) refl (emptied_stored at-start.args.block.now at-start.requires.0)
 
 add-block : tie.Need-overflow-add-block
 add-block c = search rules
@@ -100,9 +100,9 @@ returns-3 c =
     let at-word = at-match.before in
     let at-if1 = at-word.before.before in
     let at-start = at-if1.before.before.before.before in
-    sent-by (second_reads at-start.args.palette at-start.args.block.now at-start.args.vram.now at-start.args.val at-if1.if1.false
+    sent_by (second_reads at-start.args.palette at-start.args.block.now at-start.args.vram.now at-start.args.val at-if1.if1.false
     at-match.match.keys1 at-word.word.ensures) refl
-    (then-loaded at-start.args.block.now at-start.requires.0 _ _ at-store-buffer.store-buffer.ensures)
+    (then_loaded at-start.args.block.now at-start.requires.0 _ _ at-store-buffer.store-buffer.ensures)
 
 same-length-4 : tie.Need-same-length-4
 same-length-4 c = simp length-set (omega (arith, simp length-set at c.before.block2.given))
@@ -114,9 +114,9 @@ returns-4 c =
     let at-word = at-match.before in
     let at-if1 = at-word.before.before in
     let at-start = at-if1.before.before.before.before in
-    sent-by (second-writes at-start.args.palette at-start.args.block.now at-start.args.vram.now at-start.args.val at-if1.if1.false
+    sent_by (second_writes at-start.args.palette at-start.args.block.now at-start.args.vram.now at-start.args.val at-if1.if1.false
     at-match.match.keys2 at-word.word.ensures) refl
-    (then-choice at-start.args.block.now at-start.requires.0 Vram _ at-store-address.store-address.ensures)
+    (then_choice at-start.args.block.now at-start.requires.0 Vram _ at-store-address.store-address.ensures)
 
 same-length-5 : tie.Need-same-length-5
 same-length-5 c = search rules
@@ -125,8 +125,8 @@ returns-5 : tie.Need-returns-5
 returns-5 c =
     let at-if1 = c.before.before.before.before in
     let at-start = at-if1.before.before.before.before in
-    sent-by (second-register at-start.args.palette at-start.args.block.now at-start.args.vram.now at-start.args.val at-if1.if1.false
-    c.before.match.keys3 c.if2.false) refl (then-register at-start.args.block.now at-start.requires.0 (at-start.args.val % 128) _
+    sent_by (second_register at-start.args.palette at-start.args.block.now at-start.args.vram.now at-start.args.val at-if1.if1.false
+    c.before.match.keys3 c.if2.false) refl (then_register at-start.args.block.now at-start.requires.0 (at-start.args.val % 128) _
     (omega arith))
 
 same-length-6 : tie.Need-same-length-6
@@ -140,9 +140,9 @@ returns-6 c =
     let at-if1 = at-match.before.before.before in
     let at-start = at-if1.before.before.before.before in
     let none = at-match.match.rest in
-    sent-by (second-palette at-start.args.palette at-start.args.block.now at-start.args.vram.now at-start.args.val at-if1.if1.false
+    sent_by (second_palette at-start.args.palette at-start.args.block.now at-start.args.vram.now at-start.args.val at-if1.if1.false
     none.0.0.1 none.0.1 none.1 at-palette-address.palette-address.ensures) refl
-    (then-choice at-start.args.block.now at-start.requires.0 Cram _ at-store-address2.store-address2.ensures)
+    (then_choice at-start.args.block.now at-start.requires.0 Cram _ at-store-address2.store-address2.ensures)
 
 pub write-cmd-spec : {M : Type 1} → statement M
 write-cmd-spec =

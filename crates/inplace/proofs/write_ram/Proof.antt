@@ -2,8 +2,8 @@
 use borrow.Author.Rules.{rules}
 use native.Mathlib.Omega.{arith}
 use lib.ListN.{length-set}
-use Rattle.inplace.proofs.Ports.{data-nothing, data-video, data-outside, data-palette, data-beyond, emptied-formed, emptied-stored, then-buffer, data-by}
-use Rattle.inplace.proofs.Ports.{palette-by}
+use Rattle.inplace.proofs.Ports.{data_nothing, data_video, data_outside, data_palette, data_beyond, emptied_formed, emptied_stored, then_buffer, data_by_lem}
+use Rattle.inplace.proofs.Ports.{palette_by}
 use Rattle.inplace.proofs.write_ram.Statement.{statement}
 use Rattle.inplace.proofs.write_ram.Tie as tie
 
@@ -33,8 +33,8 @@ returns c =
     let at-match = c.before.before in
     let at-address-in = at-match.before in
     let at-start = at-address-in.before.before.before.before.before in
-    data-by (data-outside at-start.args.palette at-start.args.block.now at-start.args.vram.now at-start.args.val at-match.match.keys2
-    at-address-in.address-in.ensures c.before.if1.true) c.answered2.ensures (emptied-stored at-start.args.block.now at-start.requires.0)
+    data_by_lem (data_outside at-start.args.palette at-start.args.block.now at-start.args.vram.now at-start.args.val at-match.match.keys2
+    at-address-in.address-in.ensures c.before.if1.true) c.answered2.ensures (emptied_stored at-start.args.block.now at-start.requires.0)
 
 cast-at : tie.Need-overflow-cast-at
 cast-at c = search rules
@@ -45,7 +45,7 @@ slice-write-vram c = search rules
 store-buffer-requires : tie.Need-store-buffer-requires
 store-buffer-requires c κs =
     let at-start = c.before.before.before.before.before.before.before.before in
-    (emptied-formed at-start.args.block.now at-start.requires.0, omega arith)
+    (emptied_formed at-start.args.block.now at-start.requires.0, omega arith)
 
 answered-requires-3 : tie.Need-answered-requires-3
 answered-requires-3 c κs = search rules
@@ -62,8 +62,8 @@ returns-2 c =
     let at-address-in = at-match.before in
     let at-start = at-address-in.before.before.before.before.before in
     let none = at-match.match.rest in
-    data-by (data-beyond at-start.args.palette at-start.args.block.now at-start.args.vram.now at-start.args.val none.0.1 none.1
-    at-address-in.address-in.ensures c.before.if2.true) c.answered4.ensures (emptied-stored at-start.args.block.now at-start.requires.0)
+    data_by_lem (data_beyond at-start.args.palette at-start.args.block.now at-start.args.vram.now at-start.args.val none.0.1 none.1
+    at-address-in.address-in.ensures c.before.if2.true) c.answered4.ensures (emptied_stored at-start.args.block.now at-start.requires.0)
 
 same-length-3 : tie.Need-same-length-3
 same-length-3 c = search rules
@@ -71,8 +71,8 @@ same-length-3 c = search rules
 returns-3 : tie.Need-returns-3
 returns-3 c =
     let at-start = c.before.before.before.before.before.before.before in
-    data-by (data-nothing at-start.args.palette at-start.args.block.now at-start.args.vram.now at-start.args.val c.before.match.keys1)
-    c.answered.ensures (emptied-stored at-start.args.block.now at-start.requires.0)
+    data_by_lem (data_nothing at-start.args.palette at-start.args.block.now at-start.args.vram.now at-start.args.val c.before.match.keys1)
+    c.answered.ensures (emptied_stored at-start.args.block.now at-start.requires.0)
 
 same-length-4 : tie.Need-same-length-4
 same-length-4 c =
@@ -89,9 +89,9 @@ returns-4 c =
     let at-match = at-if1.before in
     let at-address-in = at-match.before in
     let at-start = at-address-in.before.before.before.before.before in
-    data-by (data-video at-start.args.palette at-start.args.block.now at-start.args.vram.now at-start.args.val at-match.match.keys2
+    data_by_lem (data_video at-start.args.palette at-start.args.block.now at-start.args.vram.now at-start.args.val at-match.match.keys2
     at-address-in.address-in.ensures at-if1.if1.false) c.answered3.ensures
-    (then-buffer at-start.args.block.now at-start.requires.0 _ _ at-store-buffer.store-buffer.ensures)
+    (then_buffer at-start.args.block.now at-start.requires.0 _ _ at-store-buffer.store-buffer.ensures)
 
 same-length-6 : tie.Need-same-length-6
 same-length-6 c = search rules
@@ -101,8 +101,8 @@ returns-5 c =
     let at-address-in = c.before.before in
     let at-start = at-address-in.before.before.before.before.before in
     let none = c.before.match.rest in
-    palette-by (data-palette at-start.args.palette at-start.args.block.now at-start.args.vram.now at-start.args.val none.0.1 none.1
-    at-address-in.address-in.ensures c.if2.false) (emptied-stored at-start.args.block.now at-start.requires.0)
+    palette_by (data_palette at-start.args.palette at-start.args.block.now at-start.args.vram.now at-start.args.val none.0.1 none.1
+    at-address-in.address-in.ensures c.if2.false) (emptied_stored at-start.args.block.now at-start.requires.0)
 
 pub write-ram-spec : {M : Type 1} → statement M
 write-ram-spec =

@@ -2,10 +2,10 @@
 use borrow.Author.Rules.{rules}
 use mathlib.Core.Path.{refl}
 use lib.ListN.{length}
-use Rattle.points.specs.Points.{reading, frameLines}
+use Rattle.points.specs.Points.{reading, frame_lines}
 use Rattle.picture.specs.Screen.{columns}
-use Rattle.points.specs.Bytes.{alsoLayers}
-use Rattle.row.proofs.Steps.{finished, owned, frame-filled, frame-layers-fit}
+use Rattle.points.specs.Bytes.{also_layers}
+use Rattle.row.proofs.Steps.{finished, owned, frame-filled, frame-layers_fit}
 use Rattle.look.proofs.layer_frame_points.Statement.{statement}
 use Rattle.look.proofs.layer_frame_points.Tie as tie
 
@@ -20,9 +20,9 @@ draw-in-requires c κs =
     let at-layer-due = c.before.before in
     let at-frame-due = at-layer-due.before in
     let at-start = at-frame-due.before.before.before.before in
-    frame-layers-fit at-start.args.screen at-start.args.reg at-start.args.raster at-start.args.vram.now (length at-start.args.frame.now)
+    frame-layers_fit at-start.args.screen at-start.args.reg at-start.args.raster at-start.args.vram.now (length at-start.args.frame.now)
     (columns at-start.args.screen) (length at-start.args.layers.now)
-    (at-layer-due.layer-due.ensures.1 (frameLines at-start.args.screen at-start.args.vram.now (length at-start.args.frame.now))
+    (at-layer-due.layer-due.ensures.1 (frame_lines at-start.args.screen at-start.args.vram.now (length at-start.args.frame.now))
     at-start.args.reg at-frame-due.frame-due.ensures)
 
 finish-requires : tie.Need-finish-requires
@@ -40,10 +40,10 @@ returns c =
     let at-layer-due = at-draw-in.before.before.before in
     let at-frame-due = at-layer-due.before in
     let at-start = at-frame-due.before.before.before.before in
-    let e = at-layer-due.layer-due.ensures.1 (frameLines at-start.args.screen at-start.args.vram.now (length at-start.args.frame.now))
+    let e = at-layer-due.layer-due.ensures.1 (frame_lines at-start.args.screen at-start.args.vram.now (length at-start.args.frame.now))
     at-start.args.reg at-frame-due.frame-due.ensures in
-    let also = (alsoLayers (columns at-start.args.screen) (length at-start.args.layers.now)
-    (frameLines at-start.args.screen at-start.args.vram.now (length at-start.args.frame.now))) in
+    let also = (also_layers (columns at-start.args.screen) (length at-start.args.layers.now)
+    (frame_lines at-start.args.screen at-start.args.vram.now (length at-start.args.frame.now))) in
     let k = (reading at-start.args.reg at-start.args.raster at-start.args.status at-start.args.colours.now) in
     record {
       points = record {

@@ -1,8 +1,8 @@
 -- `look::layer_frame_step` meets its contract: a step on a frame, with the layers of its row.
 use borrow.Author.Rules.{rules}
 use mathlib.Core.Path.{refl}
-use Rattle.step.proofs.Steps.{reading-of}
-use Rattle.look.proofs.Steps.{frame-layers-joined}
+use Rattle.step.proofs.Steps.{reading_of_lem}
+use Rattle.look.proofs.Steps.{frame-layers_joined}
 use Rattle.look.proofs.layer_frame_step.Statement.{statement}
 use Rattle.look.proofs.layer_frame_step.Tie as tie
 
@@ -30,8 +30,8 @@ returns c =
     let at-screen-of = at-layer-frame-points.before in
     let at-colours-of = at-screen-of.before.before.before.before in
     let at-start = at-colours-of.before.before.before.before.before.before in
-    frame-layers-joined at-start.args.area at-start.args.vram.now at-start.args.vdp
-    (reading-of at-start.args.vdp refl refl refl at-colours-of.colours-of.ensures) c.join.ensures at-start.args.frame.now
+    frame-layers_joined at-start.args.area at-start.args.vram.now at-start.args.vdp
+    (reading_of_lem at-start.args.vdp refl refl refl at-colours-of.colours-of.ensures) c.join.ensures at-start.args.frame.now
     at-start.args.layers.now (rw at-screen-of.screen-of.ensures at at-layer-frame-points.layer-frame-points.ensures)
 
 pub layer-frame-step-spec : {M : Type 1} → statement M

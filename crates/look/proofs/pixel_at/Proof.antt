@@ -1,6 +1,6 @@
 -- `look::pixel_at` meets its contract: one pixel of the row as it would be drawn now, whatever the counter reads.
 use borrow.Author.Rules.{rules}
-use Rattle.pixel.specs.Pixel.{pixelOf}
+use Rattle.pixel.specs.Pixel.{pixel_of}
 use Rattle.look.proofs.pixel_at.Statement.{statement}
 use Rattle.look.proofs.pixel_at.Tie as tie
 
@@ -23,7 +23,7 @@ shown-requires : tie.Need-shown-requires
 shown-requires c κs = search rules
 
 returns : tie.Need-returns
-unfolding pixelOf
+unfolding pixel_of
 returns c =
     let at-spot-at = c.before.before in
     let at-screen-of = at-spot-at.before in

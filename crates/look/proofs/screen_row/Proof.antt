@@ -1,8 +1,8 @@
 -- `look::screen_row` meets its contract: a row of a frame, as a part of the caller's own frame.
 use borrow.Author.Rules.{rules}
 use native.Mathlib.Omega.{arith}
-use Rattle.points.proofs.Sizes.{frame-low}
-use Rattle.look.proofs.Views.{none, end-here, end_low, seen}
+use Rattle.points.proofs.Sizes.{frame_low}
+use Rattle.look.proofs.Views.{none, end_here, end_low, seen}
 use Rattle.look.proofs.screen_row.Statement.{statement}
 use Rattle.look.proofs.screen_row.Tie as tie
 
@@ -15,7 +15,7 @@ row-size-requires c κs = search rules
 mul-if1 : tie.Need-overflow-mul-if1
 mul-if1 c =
     let at-start = c.before.before.before in
-    omega (arith, frame-low at-start.args.screen c.before.row_count.ensures c.row-size.ensures)
+    omega (arith, frame_low at-start.args.screen c.before.row_count.ensures c.row_size_lem.ensures)
 
 sub-result : tie.Need-overflow-sub-result
 sub-result c = search rules
@@ -31,7 +31,7 @@ returns c =
     let at-row-size = c.before.before in
     let at-row-count = at-row-size.before in
     let at-start = at-row-count.before.before in
-    none at-start.args.screen at-row-count.row_count.ensures at-row-size.row-size.ensures at-start.args.frame.now at-start.args.row
+    none at-start.args.screen at-row-count.row_count.ensures at-row-size.row_size_lem.ensures at-start.args.frame.now at-start.args.row
     c.before.if1.true
 
 mul-start : tie.Need-overflow-mul-start
@@ -40,7 +40,7 @@ mul-start c =
     let at-start = at-row-count.before.before in
     omega (
       arith,
-      end_low at-start.args.screen at-row-count.row_count.ensures c.before.row-size.ensures at-start.args.frame.now
+      end_low at-start.args.screen at-row-count.row_count.ensures c.before.row_size_lem.ensures at-start.args.frame.now
           at-start.args.row c.if1.false,
     )
 
@@ -50,7 +50,7 @@ add-end c =
     let at-start = at-row-count.before.before in
     omega (
       arith,
-      end_low at-start.args.screen at-row-count.row_count.ensures c.before.row-size.ensures at-start.args.frame.now
+      end_low at-start.args.screen at-row-count.row_count.ensures c.before.row_size_lem.ensures at-start.args.frame.now
           at-start.args.row c.if1.false,
     )
 
@@ -66,7 +66,7 @@ part-result-end-2 c =
     let at-start = at-row-count.before.before in
     omega (
       arith,
-      end-here at-start.args.screen at-row-count.row_count.ensures c.before.row-size.ensures at-start.args.frame.now
+      end_here at-start.args.screen at-row-count.row_count.ensures c.before.row_size_lem.ensures at-start.args.frame.now
           at-start.args.row c.if1.false,
     )
 
@@ -75,7 +75,7 @@ returns-2 c =
     let at-row-size = c.before.before in
     let at-row-count = at-row-size.before in
     let at-start = at-row-count.before.before in
-    seen at-start.args.screen at-row-count.row_count.ensures at-row-size.row-size.ensures at-start.args.frame.now at-start.args.row
+    seen at-start.args.screen at-row-count.row_count.ensures at-row-size.row_size_lem.ensures at-start.args.frame.now at-start.args.row
     c.before.if1.false
 
 pub screen-row-spec : {M : Type 1} → statement M

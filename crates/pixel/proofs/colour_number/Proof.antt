@@ -59,7 +59,7 @@ returns-3 c =
 returns-4 : tie.Need-returns-4
 returns-4 c =
     let at_wide = c.before.before.before in
-    rw (c.before.enum-told4.given.1, ← at_wide.wide.ensures.0) c.home-number.ensures
+    rw (c.before.enum-told4.given.1, ← at_wide.wide.ensures.0) c.home_number.ensures
 
 pub colour-number-spec : {M : Type 1} → statement M
 colour-number-spec =

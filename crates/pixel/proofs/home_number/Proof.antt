@@ -4,7 +4,7 @@ use Rattle.laws.specs.Bits.{bit}
 use Rattle.laws.specs.Lists.{at}
 use Rattle.laws.proofs.Tests.{either}
 use Rattle.picture.specs.Picture.{fills}
-use Rattle.pixel.proofs.Laws.{home-filled, home-number}
+use Rattle.pixel.proofs.Laws.{home_filled, home_number}
 use Rattle.pixel.proofs.home_number.Statement.{statement}
 use Rattle.pixel.proofs.home_number.Tie as tie
 
@@ -30,7 +30,7 @@ returns c =
     let a = at-start.args in
     let e : fills (at a.t2) a.col ≡ true = ap (λ (t : Bool). t && ltb a.col 8) (sym at-is-set.is_set.ensures) ∙
     c.before.if1.true in
-    ap (λ (k : ℕ). 16 + k % 16) c.wide.ensures.0 ∙ home-filled a.vram.now a.t2 a.scroll a.row a.col e
+    ap (λ (k : ℕ). 16 + k % 16) c.wide.ensures.0 ∙ home_filled a.vram.now a.t2 a.scroll a.row a.col e
 
 add-y : tie.Need-overflow-add-y
 add-y c = search rules
@@ -49,7 +49,7 @@ column-at-requires c κs =
     let at-start = c.before.before.before.before.before.before in (
       record {
         room = search rules;
-        last-low =
+        last_low =
             rw c.home-line.ensures
             (either (λ (k : ℕ). k < 224) (bit (at at-start.args.t2 0) 7) (λ e. omega arith) (λ e. omega arith));
         cut_low = omega arith;
@@ -71,7 +71,7 @@ returns-2 c =
     let fit : Fits w8 (get_or a.t2 8 0) = search rules in
     let e : fills (at a.t2) a.col ≡ false = ap (λ (t : Bool). t && ltb a.col 8) (sym at-is-set.is_set.ensures) ∙
     at-if1.if1.false in
-    home-number a.vram.now a.t2 a.scroll a.row a.col _ _ _ _ e fit.fits at-names-at.names_at.ensures.0
+    home_number a.vram.now a.t2 a.scroll a.row a.col _ _ _ _ e fit.fits at-names-at.names_at.ensures.0
     at-home-column.home-column.ensures.0 refl
     c.before.home-line.ensures p.3 c.column-at.ensures
 

@@ -1,6 +1,6 @@
 -- `pixel::visible_number` meets its contract: the colour number of a pixel of a screen of the visible size: the map is scrolled both ways.
 use Rattle.std.proofs.Common.{ℕ, ◌-◌, ◌%◌, get_or, ap, ◌∙◌, ⊎_elim, arith, w8, Fits, rules}
-use Rattle.pixel.proofs.Laws.{scrolled-number}
+use Rattle.pixel.proofs.Laws.{scrolled_number}
 use Rattle.pixel.proofs.visible_number.Statement.{statement}
 use Rattle.pixel.proofs.visible_number.Tie as tie
 
@@ -38,7 +38,7 @@ column-at-requires : tie.Need-column-at-requires
 column-at-requires c κs = (
   record {
     room = search rules;
-    last-low = omega arith;
+    last_low = omega arith;
     cut_low = ⊎_elim (λ z. omega arith) (λ z. omega arith) c.before.cut_of.ensures.1;
     wide = omega arith;
     narrow = omega arith;
@@ -55,7 +55,7 @@ returns c =
     let a = at-start.args in
     let p = at-start.requires in
     let fit : Fits w8 (get_or a.t3 8 0) = search rules in
-    scrolled-number a.screen a.vram.now a.t3 _ _ _ a.scroll a.row a.col p.4 fit.fits at-names-at.names_at.ensures.0
+    scrolled_number a.screen a.vram.now a.t3 _ _ _ a.scroll a.row a.col p.4 fit.fits at-names-at.names_at.ensures.0
     (ap (λ (k : ℕ). (304 - k) % 256) at_wide.wide.ensures.0) (c.before.wide2.ensures.0 ∙ at-cut-of.cut_of.ensures.0) p.3
     c.column-at.ensures
 

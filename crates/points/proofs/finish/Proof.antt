@@ -1,12 +1,12 @@
 -- `points::finish` meets its contract: the points once the row is drawn.
 use borrow.Author.Rules.{rules}
 use borrow.Author.Tests.{not-true, not-false}
-use Rattle.points.specs.Due.{pointsBy}
+use Rattle.points.specs.Due.{points_by}
 use Rattle.points.proofs.finish.Statement.{statement}
 use Rattle.points.proofs.finish.Tie as tie
 
 returns : tie.Need-returns
-unfolding pointsBy
+unfolding points_by
 returns c =
     let at-start = c.before.before.before in
     rw (not-true at-start.args.due.good c.if1.true)
@@ -24,7 +24,7 @@ line-interrupt-update-requires : tie.Need-line-interrupt-update-requires
 line-interrupt-update-requires c κs = search rules
 
 returns-2 : tie.Need-returns-2
-unfolding pointsBy
+unfolding points_by
 returns-2 c =
     let at-interrupt-of = c.before.before in
     let at_ended = at-interrupt-of.before in

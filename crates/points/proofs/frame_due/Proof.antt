@@ -2,8 +2,8 @@
 use borrow.Author.Rules.{rules}
 use mathlib.Core.Path.{◌∙◌}
 use native.Mathlib.Omega.{arith}
-use Rattle.points.proofs.Order.{frame-due-8, frame-due-9, frame-due-12, frame-due-taken}
-use Rattle.points.proofs.Sizes.{frame_is, frame-low}
+use Rattle.points.proofs.Order.{frame_due_8, frame_due_9, frame_due_12, frame_due_taken}
+use Rattle.points.proofs.Sizes.{frame_is, frame_low}
 use Rattle.points.proofs.frame_due.Statement.{statement}
 use Rattle.points.proofs.frame_due.Tie as tie
 
@@ -13,7 +13,7 @@ refused-requires c κs = search rules
 returns : tie.Need-returns
 returns c =
     let at-start = c.before.before.before in
-    c.refused.ensures ∙ frame-due-8 at-start.args.screen at-start.args.reg at-start.args.raster at-start.args.vram.now at-start.args.size
+    c.refused.ensures ∙ frame_due_8 at-start.args.screen at-start.args.reg at-start.args.raster at-start.args.vram.now at-start.args.size
     c.before.if1.true
 
 row-count-requires : tie.Need-row-count-requires
@@ -25,7 +25,7 @@ row-size-requires c κs = search rules
 mul-need : tie.Need-overflow-mul-need
 mul-need c =
     let at-start = c.before.before.before.before in
-    omega (arith, frame-low at-start.args.screen c.before.row_count.ensures c.row-size.ensures)
+    omega (arith, frame_low at-start.args.screen c.before.row_count.ensures c.row_size_lem.ensures)
 
 refused-requires-2 : tie.Need-refused-requires-2
 refused-requires-2 c κs = search rules
@@ -36,8 +36,8 @@ returns-2 c =
     let at-row-count = at-row-size.before in
     let at-if1 = at-row-count.before in
     let at-start = at-if1.before.before in
-    c.refused2.ensures ∙ frame-due-9 at-start.args.screen at-start.args.reg at-start.args.raster at-start.args.vram.now
-    at-start.args.size at-if1.if1.false (frame_is at-start.args.screen at-row-count.row_count.ensures at-row-size.row-size.ensures)
+    c.refused2.ensures ∙ frame_due_9 at-start.args.screen at-start.args.reg at-start.args.raster at-start.args.vram.now
+    at-start.args.size at-if1.if1.false (frame_is at-start.args.screen at-row-count.row_count.ensures at-row-size.row_size_lem.ensures)
     c.before.if2.true
 
 refused-requires-3 : tie.Need-refused-requires-3
@@ -49,8 +49,8 @@ returns-3 c =
     let at-row-count = at-row-size.before in
     let at-if1 = at-row-count.before in
     let at-start = at-if1.before.before in
-    c.refused3.ensures ∙ frame-due-12 at-start.args.screen at-start.args.reg at-start.args.raster at-start.args.vram.now
-    at-start.args.size at-if1.if1.false (frame_is at-start.args.screen at-row-count.row_count.ensures at-row-size.row-size.ensures)
+    c.refused3.ensures ∙ frame_due_12 at-start.args.screen at-start.args.reg at-start.args.raster at-start.args.vram.now
+    at-start.args.size at-if1.if1.false (frame_is at-start.args.screen at-row-count.row_count.ensures at-row-size.row_size_lem.ensures)
     c.before.if3.true
 
 taken-requires : tie.Need-taken-requires
@@ -63,8 +63,8 @@ returns-4 c =
     let at-row-count = at-row-size.before in
     let at-if1 = at-row-count.before in
     let at-start = at-if1.before.before in
-    c.taken.ensures ∙ frame-due-taken at-start.args.screen at-start.args.reg at-start.args.raster at-start.args.vram.now
-    at-start.args.size at-if1.if1.false (frame_is at-start.args.screen at-row-count.row_count.ensures at-row-size.row-size.ensures)
+    c.taken.ensures ∙ frame_due_taken at-start.args.screen at-start.args.reg at-start.args.raster at-start.args.vram.now
+    at-start.args.size at-if1.if1.false (frame_is at-start.args.screen at-row-count.row_count.ensures at-row-size.row_size_lem.ensures)
     at-if2.if2.false c.before.if3.false
 
 pub frame-due-spec : {M : Type 1} → statement M

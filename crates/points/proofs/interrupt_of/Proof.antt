@@ -1,7 +1,7 @@
 -- `points::interrupt_of` meets its contract: the end of the screen or the line count asks for an interrupt.
 use borrow.Author.Rules.{rules}
 use mathlib.Core.Path.{sym}
-use Rattle.points.specs.Points.{interruptBy}
+use Rattle.points.specs.Points.{interrupt_by}
 use Rattle.points.proofs.interrupt_of.Statement.{statement}
 use Rattle.points.proofs.interrupt_of.Tie as tie
 
@@ -18,7 +18,7 @@ is-set-requires-2 : tie.Need-is-set-requires-2
 is-set-requires-2 c κs = search rules
 
 returns : tie.Need-returns
-unfolding interruptBy
+unfolding interrupt_by
 returns c =
     let at-is-set2 = c.before in
     let at-is-set = at-is-set2.before in
@@ -30,7 +30,7 @@ returns c =
     )
 
 returns-2 : tie.Need-returns-2
-unfolding interruptBy
+unfolding interrupt_by
 returns-2 c =
     let at-is-set2 = c.before in
     let at-is-set = at-is-set2.before in

@@ -5,7 +5,7 @@ use borrow.Author.Tests.{not-true, not-false, lt-ltb, le-ltb}
 use native.Mathlib.Omega.{arith}
 use Rattle.picture.specs.Screen.{columns}
 use Rattle.points.specs.declared.Due.{Due}
-use Rattle.points.proofs.Order.{also-refused, also-16, also-taken}
+use Rattle.points.proofs.Order.{also_refused, also_16, also_taken}
 use Rattle.points.proofs.Sizes.{quarter}
 use Rattle.points.proofs.layer_due.Statement.{statement}
 use Rattle.points.proofs.layer_due.Tie as tie
@@ -14,7 +14,7 @@ returns : tie.Need-returns
 returns c =
     let at-start = c.before.before in (
       rw (not-true at-start.args.due.good c.if1.true),
-      λ lines reg e. e ∙ also-refused at-start.args.screen reg at-start.args.raster (columns at-start.args.screen) at-start.args.size lines
+      λ lines reg e. e ∙ also_refused at-start.args.screen reg at-start.args.raster (columns at-start.args.screen) at-start.args.size lines
           (sym (ap (λ (d : Due). d.good) e) ∙ not-true _ c.if1.true),
     )
 
@@ -30,11 +30,11 @@ returns-2 c =
     let at-if1 = at-row-size.before in
     let at-start = at-if1.before.before in
     let h = lt-ltb at-start.args.size (columns at-start.args.screen)
-    (omega (arith, quarter at-start.args.screen at-row-size.row-size.ensures, c.before.if2.true)) in (
+    (omega (arith, quarter at-start.args.screen at-row-size.row_size_lem.ensures, c.before.if2.true)) in (
       c.refused.ensures ∙ rw (not-false at-start.args.due.good at-if1.if1.false, h),
-      λ lines reg e. c.refused.ensures ∙ also-16 at-start.args.screen reg at-start.args.raster (columns at-start.args.screen)
+      λ lines reg e. c.refused.ensures ∙ also_16 at-start.args.screen reg at-start.args.raster (columns at-start.args.screen)
           at-start.args.size lines (sym (ap (λ (d : Due). d.good) e) ∙ not-false _ at-if1.if1.false)
-          (omega (arith, quarter at-start.args.screen at-row-size.row-size.ensures, c.before.if2.true)),
+          (omega (arith, quarter at-start.args.screen at-row-size.row_size_lem.ensures, c.before.if2.true)),
     )
 
 returns-3 : tie.Need-returns-3
@@ -42,11 +42,11 @@ returns-3 c =
     let at-if1 = c.before.before in
     let at-start = at-if1.before.before in
     let h = le-ltb at-start.args.size (columns at-start.args.screen)
-    (omega (arith, quarter at-start.args.screen c.before.row-size.ensures, c.if2.false)) in (
+    (omega (arith, quarter at-start.args.screen c.before.row_size_lem.ensures, c.if2.false)) in (
       rw (not-false at-start.args.due.good at-if1.if1.false, h),
       λ lines reg e. e
-          ∙ also-taken at-start.args.screen reg at-start.args.raster (columns at-start.args.screen) at-start.args.size lines
-          (omega (arith, quarter at-start.args.screen c.before.row-size.ensures, c.if2.false)),
+          ∙ also_taken at-start.args.screen reg at-start.args.raster (columns at-start.args.screen) at-start.args.size lines
+          (omega (arith, quarter at-start.args.screen c.before.row_size_lem.ensures, c.if2.false)),
     )
 
 pub layer-due-spec : {M : Type 1} → statement M

@@ -2,12 +2,12 @@
 use borrow.Author.Rules.{rules}
 use mathlib.Core.Path.{sym}
 use borrow.Author.Tests.{eq-eqb, ne_eqb}
-use Rattle.points.specs.Points.{reportBy}
+use Rattle.points.specs.Points.{report_by}
 use Rattle.points.proofs.report_of.Statement.{statement}
 use Rattle.points.proofs.report_of.Tie as tie
 
 returns : tie.Need-returns
-unfolding reportBy
+unfolding report_by
 returns c = rw (ne_eqb _ _ c.if1.true)
 
 array-read-is-set : tie.Need-array-read-is-set
@@ -17,11 +17,11 @@ is-set-requires : tie.Need-is-set-requires
 is-set-requires c κs = search rules
 
 returns-2 : tie.Need-returns-2
-unfolding reportBy
+unfolding report_by
 returns-2 c = rw (eq-eqb _ _ c.before.before.if1.false, sym c.before.is_set.ensures, c.if2.true)
 
 returns-3 : tie.Need-returns-3
-unfolding reportBy
+unfolding report_by
 returns-3 c = rw (eq-eqb _ _ c.before.before.if1.false, sym c.before.is_set.ensures, c.if2.false)
 
 pub report-of-spec : {M : Type 1} → statement M

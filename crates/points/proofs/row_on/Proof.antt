@@ -1,6 +1,6 @@
--- `points::row_on` meets its contract: the row that a line draws on each screen.
+-- `points::row_on_lem` meets its contract: the row that a line draws on each screen.
 use borrow.Author.Rules.{rules}
-use Rattle.points.specs.Points.{rowOn}
+use Rattle.points.specs.Points.{row_on}
 use Rattle.points.proofs.row_on.Statement.{statement}
 use Rattle.points.proofs.row_on.Tie as tie
 
@@ -29,19 +29,19 @@ row-between-requires-4 : tie.Need-row-between-requires-4
 row-between-requires-4 c κs = search rules
 
 returns : tie.Need-returns
-unfolding rowOn
+unfolding row_on
 returns c = rw c.before.enum_told.given.1 c.row-between.ensures
 
 returns-2 : tie.Need-returns-2
-unfolding rowOn
+unfolding row_on
 returns-2 c = rw c.before.enum-told2.given.1 c.row-between2.ensures
 
 returns-3 : tie.Need-returns-3
-unfolding rowOn
+unfolding row_on
 returns-3 c = rw c.before.enum-told3.given.1 c.row-between3.ensures
 
 returns-4 : tie.Need-returns-4
-unfolding rowOn
+unfolding row_on
 returns-4 c = rw c.before.enum-told4.given.1 c.row-between4.ensures
 
 pub row-on-spec : {M : Type 1} → statement M

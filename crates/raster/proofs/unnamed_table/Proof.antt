@@ -7,7 +7,7 @@ table-number-requires : tie.Need-table-number-requires
 table-number-requires c κs = search rules
 
 returns : tie.Need-returns
-returns c = c.table-number.ensures
+returns c = c.table_number.ensures
 
 pub unnamed-table-spec : {M : Type 1} → statement M
 unnamed-table-spec = tie.close (tie.spec table-number-requires returns)

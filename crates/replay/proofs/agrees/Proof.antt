@@ -30,7 +30,7 @@ unfolding agreed
 returns c =
     let at-four-at2 = c.before.before in
     let at-four-at = at-four-at2.before in
-    simp (at-four-at.four-at.ensures, at-four-at2.four-at2.ensures, c.before.four-at3.ensures, c.sum_of.ensures)
+    simp (at-four-at.four_at_lem.ensures, at-four-at2.four-at2.ensures, c.before.four-at3.ensures, c.sum_of.ensures)
 
 pub agrees-spec : {M : Type 1} → statement M
 agrees-spec =

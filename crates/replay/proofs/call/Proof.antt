@@ -1,7 +1,7 @@
 -- `replay::call` meets its contract: the call of the record at `at`, and whether it gave what the Rust gave.
 use borrow.Author.Rules.{rules}
 use Rattle.replay.specs.Replay.{world}
-use Rattle.replay.proofs.Laws.{wrote-turn, read-turn, step-turn, no-turn}
+use Rattle.replay.proofs.Laws.{wrote_turn, read_turn, step_turn, no_turn}
 use Rattle.replay.proofs.call.Statement.{statement}
 use Rattle.replay.proofs.call.Tie as tie
 
@@ -60,8 +60,8 @@ returns c =
     let at-match = at-port.before.before.before in
     let at-start = at-match.before.before.before.before.before.before.before.before in
     let a = at-start.args in
-    wrote-turn a.list.now a.at (world a.state.now a.vram.now a.row.now) at-match.match.keys1 at-port.port.ensures
-    at-vdp-out.vdp-out.ensures c.agrees.ensures
+    wrote_turn a.list.now a.at (world a.state.now a.vram.now a.row.now) at-match.match.keys1 at-port.port.ensures
+    at-vdp-out.vdp_out.ensures c.agrees.ensures
 
 same-length-3 : tie.Need-same-length-3
 same-length-3 c = search rules
@@ -76,8 +76,8 @@ returns-2 c =
     let at-match = at-port2.before.before.before in
     let at-start = at-match.before.before.before.before.before.before.before.before in
     let a = at-start.args in
-    read-turn a.list.now a.at (world a.state.now a.vram.now a.row.now) at-match.match.keys2 at-port2.port2.ensures
-    at-vdp-input.vdp-input.ensures c.agrees2.ensures
+    read_turn a.list.now a.at (world a.state.now a.vram.now a.row.now) at-match.match.keys2 at-port2.port2.ensures
+    at-vdp-input.vdp_input.ensures c.agrees2.ensures
 
 same-length-5 : tie.Need-same-length-5
 same-length-5 c = search rules
@@ -95,14 +95,14 @@ returns-3 c =
     let at-match = at-vdp-row-step.before.before.before.before in
     let at-start = at-match.before.before.before.before.before.before.before.before in
     let a = at-start.args in
-    step-turn a.list.now a.at (world a.state.now a.vram.now a.row.now) at-match.match.keys3
-    at-vdp-row-step.vdp-row-step.ensures at-row-sum.row-sum.ensures c.agrees3.ensures
+    step_turn a.list.now a.at (world a.state.now a.vram.now a.row.now) at-match.match.keys3
+    at-vdp-row-step.vdp_row_step.ensures at-row-sum.row-sum.ensures c.agrees3.ensures
 
 returns-4 : tie.Need-returns-4
 returns-4 c =
     let at-start = c.before.before.before.before.before.before.before.before in
     let a = at-start.args in
-    no-turn a.list.now a.at (world a.state.now a.vram.now a.row.now) c.match.rest.0.0.1 c.match.rest.0.1
+    no_turn a.list.now a.at (world a.state.now a.vram.now a.row.now) c.match.rest.0.0.1 c.match.rest.0.1
     c.match.rest.1
 
 pub call-spec : {M : Type 1} → statement M

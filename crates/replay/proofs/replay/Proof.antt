@@ -28,7 +28,7 @@ loop-holds c =
     let at-start = at-vdp-new-table.before.before.before.before.before.before in (
       omega arith,
       begun at-start.args.list.now at-start.args.vram.now at-start.args.row.now at-start.args.state.now
-          (search rules) at-vdp-new-table.vdp-new-table.ensures,
+          (search rules) at-vdp-new-table.vdp_new_table.ensures,
       search rules,
       search rules,
       search rules,

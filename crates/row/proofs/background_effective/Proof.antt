@@ -4,8 +4,8 @@ use mathlib.Core.Path.{refl, ◌∙◌}
 use mathlib.Core.Logic.{inl}
 use Rattle.laws.specs.Lists.{at}
 use Rattle.picture.specs.View.{View, effective}
-use Rattle.background.proofs.Views.{effective-x, effective-mark}
-use Rattle.row.proofs.Laws.{back_is, front-is}
+use Rattle.background.proofs.Views.{effective_x, effective_mark}
+use Rattle.row.proofs.Laws.{back_is, front_is}
 use Rattle.row.proofs.background_effective.Statement.{statement}
 use Rattle.row.proofs.background_effective.Tie as tie
 
@@ -30,8 +30,8 @@ returns c =
     let e = at-names-at.names_at.ensures.0 in
     λ scroll.
     record {
-      bytes = b.0 ∙ back_is a.vram.now a.reg v _ 0 a.line e effective-x (λ x. refl) 0 effective-mark a.row.now a.colours.now;
-      mask = b.1 ∙ front-is a.vram.now a.reg v _ 0 a.line e effective-x (λ x. refl) 0 effective-mark;
+      bytes = b.0 ∙ back_is a.vram.now a.reg v _ 0 a.line e effective_x (λ x. refl) 0 effective_mark a.row.now a.colours.now;
+      mask = b.1 ∙ front_is a.vram.now a.reg v _ 0 a.line e effective_x (λ x. refl) 0 effective_mark;
       wide = refl;
       below = refl;
       fill = refl;

@@ -10,7 +10,7 @@ use Rattle.laws.specs.Bits.{bit}
 use Rattle.laws.specs.Lists.{at}
 use Rattle.laws.proofs.Tests.{either}
 use Rattle.picture.specs.View.{home}
-use Rattle.row.proofs.Home.{home-back, home-front}
+use Rattle.row.proofs.Home.{home_back, home_front}
 use Rattle.row.proofs.background_home.Statement.{statement}
 use Rattle.row.proofs.background_home.Tie as tie
 
@@ -58,10 +58,10 @@ returns c =
     let at-home-column = at-home-line.before in
     let b = at-home-background.home-background.ensures in
     record {
-      bytes = b.0 ∙ home-back a.vram.now a.t4 _ _ _ _ a.scroll a.line fit.fits at-names-at.names_at.ensures.0
+      bytes = b.0 ∙ home_back a.vram.now a.t4 _ _ _ _ a.scroll a.line fit.fits at-names-at.names_at.ensures.0
           at-home-column.home-column.ensures.0 refl
           at-home-line.home-line.ensures a.row.now a.colours.now;
-      mask = b.1 ∙ home-front a.vram.now a.t4 _ _ _ _ a.scroll a.line fit.fits at-names-at.names_at.ensures.0
+      mask = b.1 ∙ home_front a.vram.now a.t4 _ _ _ _ a.scroll a.line fit.fits at-names-at.names_at.ensures.0
           at-home-column.home-column.ensures.0 refl
           at-home-line.home-line.ensures;
       wide = refl;

@@ -4,22 +4,22 @@ use mathlib.Core.Path.{◌≡◌, refl, ap, ◌∙◌, sym}
 use Prim.Native.Nat.{◌-◌, ◌≤◌}
 use lib.ListN.{length}
 use native.Mathlib.Omega.{arith}
-use Rattle.picture.specs.Layers.{layersIn}
-use Rattle.picture.proofs.Layers.{layersIn-none, layersIn-start, layersIn-more, length-layersIn}
+use Rattle.picture.specs.Layers.{layers_in}
+use Rattle.picture.proofs.Layers.{layers_in-none, layers_in-start, layers_in_more, length-layers_in}
 use Rattle.row.proofs.clear.Statement.{statement}
 use Rattle.row.proofs.clear.Tie as tie
 
 abbrev invariant-loop : tie.invariant-loop
-invariant-loop layers₀ width i₀ layers i = (i ≤ width) × (length layers ≡ length layers₀) × (layers ≡ layersIn layers₀ i (λ x. 0))
+invariant-loop layers₀ width i₀ layers i = (i ≤ width) × (length layers ≡ length layers₀) × (layers ≡ layers_in layers₀ i (λ x. 0))
 
 abbrev decreases-loop : tie.decreases-loop
 decreases-loop layers₀ width i₀ layers i = width - i
 
 returns : tie.Need-returns invariant-loop decreases-loop
-returns c = sym (layersIn-none _ _ _ c.if1.true)
+returns c = sym (layers_in-none _ _ _ c.if1.true)
 
 loop-holds : tie.Need-loop-init invariant-loop decreases-loop
-loop-holds c = (omega arith, refl, layersIn-start _ _)
+loop-holds c = (omega arith, refl, layers_in-start _ _)
 
 slice-write-layers : tie.Need-slice-write-layers invariant-loop decreases-loop
 slice-write-layers c = search rules
@@ -33,8 +33,8 @@ loop-less c = search rules
 loop-again : tie.Need-loop-preserved invariant-loop decreases-loop
 loop-again c =
     let at-start = c.before.before.before in
-    let e = layersIn-more at-start.args.layers.now c.before.loop.i (λ x. 0) (omega arith) c.before.loop.invariant.2 refl refl in
-    (omega arith, ap length e ∙ length-layersIn _ _ _, e)
+    let e = layers_in_more at-start.args.layers.now c.before.loop.i (λ x. 0) (omega arith) c.before.loop.invariant.2 refl refl in
+    (omega arith, ap length e ∙ length-layers_in _ _ _, e)
 
 same_length : tie.Need-same-length invariant-loop decreases-loop
 same_length c = search rules

@@ -5,13 +5,13 @@ use Prim.Native.Nat.{◌-◌, ◌≤◌}
 use lib.ListN.{length}
 use native.Mathlib.Omega.{arith}
 use borrow.Author.Tests.{not-true, not-false}
-use Rattle.picture.specs.Layers.{layersIn}
-use Rattle.picture.proofs.Layers.{length-layersIn, layersIn-start, layersIn-more, cover-none, cover-off, cover_on}
+use Rattle.picture.specs.Layers.{layers_in}
+use Rattle.picture.proofs.Layers.{length-layers_in, layers_in-start, layers_in_more, cover_none, cover_off, cover_on}
 use Rattle.row.proofs.cover.Statement.{statement}
 use Rattle.row.proofs.cover.Tie as tie
 
 abbrev invariant-loop : tie.invariant-loop
-invariant-loop layers₀ on i₀ layers i = (i ≤ 8) × (length layers ≡ length layers₀) × (layers ≡ layersIn layers₀ i (λ x. 2))
+invariant-loop layers₀ on i₀ layers i = (i ≤ 8) × (length layers ≡ length layers₀) × (layers ≡ layers_in layers₀ i (λ x. 2))
 
 abbrev decreases-loop : tie.decreases-loop
 decreases-loop layers₀ on i₀ layers i = 256 - i
@@ -19,15 +19,15 @@ decreases-loop layers₀ on i₀ layers i = 256 - i
 returns : tie.Need-returns invariant-loop decreases-loop
 returns c =
     let at-start = c.before in
-    rw (not-true at-start.args.on c.if1.true) (cover-off at-start.args.layers.now 256)
+    rw (not-true at-start.args.on c.if1.true) (cover_off at-start.args.layers.now 256)
 
 returns-2 : tie.Need-returns-2 invariant-loop decreases-loop
 returns-2 c =
     let at-start = c.before.before in
-    rw (not-false at-start.args.on c.before.if1.false) (cover-none at-start.args.layers.now 256 8 2 c.if2.true)
+    rw (not-false at-start.args.on c.before.if1.false) (cover_none at-start.args.layers.now 256 8 2 c.if2.true)
 
 loop-holds : tie.Need-loop-init invariant-loop decreases-loop
-loop-holds c = (omega arith, refl, layersIn-start _ _)
+loop-holds c = (omega arith, refl, layers_in-start _ _)
 
 slice-write-layers : tie.Need-slice-write-layers invariant-loop decreases-loop
 slice-write-layers c = search rules
@@ -41,8 +41,8 @@ loop-less c = search rules
 loop-again : tie.Need-loop-preserved invariant-loop decreases-loop
 loop-again c =
     let at-start = c.before.before.before.before in
-    let e = layersIn-more at-start.args.layers.now c.before.loop.i (λ x. 2) (omega arith) c.before.loop.invariant.2 refl refl in
-    (omega arith, ap length e ∙ length-layersIn _ _ _, e)
+    let e = layers_in_more at-start.args.layers.now c.before.loop.i (λ x. 2) (omega arith) c.before.loop.invariant.2 refl refl in
+    (omega arith, ap length e ∙ length-layers_in _ _ _, e)
 
 same_length : tie.Need-same-length invariant-loop decreases-loop
 same_length c = search rules

@@ -3,7 +3,7 @@ use borrow.Author.Rules.{rules}
 use mathlib.Core.Path.{refl, ◌∙◌}
 use mathlib.Core.Logic.{inl}
 use native.Mathlib.Omega.{arith}
-use Rattle.row.proofs.Home.{home-runs}
+use Rattle.row.proofs.Home.{home_runs}
 use Rattle.row.proofs.home_background.Statement.{statement}
 use Rattle.row.proofs.home_background.Tie as tie
 
@@ -48,7 +48,7 @@ returns c =
     let a = at-start.args in
     let e = at-render-background-line.render-background-line.ensures in
     let d = at-render-background-line2.render-background-line2.ensures in
-    (home-runs a.row.now _ _ at-start.requires.1.0 e.0 d.0, c.join.ensures ∙ rw (e.1, d.1))
+    (home_runs a.row.now _ _ at-start.requires.1.0 e.0 d.0, c.join.ensures ∙ rw (e.1, d.1))
 
 pub home-background-spec : {M : Type 1} → statement M
 home-background-spec =

@@ -1,9 +1,9 @@
 -- `row::render_line` meets its contract: row `line` of a screen, by the registers, the latched scroll, the cached colours and video memory.
 use borrow.Author.Rules.{rules}
 use native.Mathlib.Omega.{arith}
-use Rattle.picture.proofs.Laws.{row-size}
-use Rattle.row.proofs.Laws.{row-long}
-use Rattle.row.proofs.Home.{drawn-is}
+use Rattle.picture.proofs.Laws.{row_size_lem}
+use Rattle.row.proofs.Laws.{row_long}
+use Rattle.row.proofs.Home.{drawn_is}
 use Rattle.row.proofs.render_line.Statement.{statement}
 use Rattle.row.proofs.render_line.Tie as tie
 
@@ -26,7 +26,7 @@ render-sprites-line-requires c κs =
     let at-start = at-background-of.before.before.before.before.before.before.before in
     record {
       memory = at-start.requires.0;
-      bytes = rw at-background-of.background-of.ensures.wide (omega (arith, row-size at-start.args.screen, at_row.row.given, at-start.requires.1));
+      bytes = rw at-background-of.background-of.ensures.wide (omega (arith, row_size_lem at-start.args.screen, at_row.row.given, at-start.requires.1));
     }
 
 status-bits-requires : tie.Need-status-bits-requires
@@ -37,7 +37,7 @@ fill-over-requires c κs =
     let at-row2 = c.before.before.before.before.before.before in
     let at_row = at-row2.before.before.before.before.before.before.before.before.before.before in
     let at-start = at_row.before.before.before.before.before.before.before.before in
-    omega (arith, row-long at-start.args.screen, at-row2.row2.given, at_row.row.given, at-start.requires.1)
+    omega (arith, row_long at-start.args.screen, at-row2.row2.given, at_row.row.given, at-start.requires.1)
 
 same_length : tie.Need-same-length
 same_length c = search rules
@@ -56,7 +56,7 @@ returns c =
     let at_wide = at-wide2.before in
     let at-start = at_wide.before.before.before.before.before in
     let a = at-start.args in
-    drawn-is a.vram.now a.reg a.scroll a.line a.row.now a.layers.now a.colours.now a.screen
+    drawn_is a.vram.now a.reg a.scroll a.line a.row.now a.layers.now a.colours.now a.screen
     at-background-of.background-of.result at-start.requires.1
     (rw (at_wide.wide.ensures.0, at-wide2.wide2.ensures.0) at at-background-of.background-of.ensures) at_clear.clear.ensures
     at-render-sprites-line.render-sprites-line.ensures at-status-bits.status-bits.ensures

@@ -1,6 +1,6 @@
 -- `sprites::line_at` meets its contract: where that line stands.
 use Rattle.std.proofs.Common.{arith, rules}
-use Rattle.picture.specs.Picture.{spriteLine}
+use Rattle.picture.specs.Picture.{sprite_line}
 use Rattle.sprites.proofs.line_at.Statement.{statement}
 use Rattle.sprites.proofs.line_at.Tie as tie
 
@@ -35,7 +35,7 @@ add-result-2 : tie.Need-overflow-add-result-2
 add-result-2 c = search rules
 
 returns : tie.Need-returns
-unfolding spriteLine
+unfolding sprite_line
 returns c =
     let at-pattern-base = c.before.before in
     let at-is-set = at-pattern-base.before in (

@@ -2,7 +2,7 @@
 use Rattle.std.proofs.Common.{◌≡◌, ℕ, ◌-◌, ◌<◌, ◌≤◌, cond, refl, ◌∙◌, arith, w64, Fits, rules, eq-eqb, ne_eqb}
 use Rattle.laws.specs.Lists.{at}
 use Rattle.picture.specs.Picture.{table_at, tall, listed}
-use Rattle.sprites.proofs.List.{list-ends, list-skips, list-has, list_done, byte-of, on_line, below_top, off-line}
+use Rattle.sprites.proofs.List.{list_ends, list_skips, list_has, list_done, byte_of_lem, on_line_lem, below_top, off_line}
 use Rattle.sprites.proofs.next_on.Statement.{statement}
 use Rattle.sprites.proofs.next_on.Tie as tie
 
@@ -35,7 +35,7 @@ returns c =
     let l : n < 64 = omega arith in (
       λ g te le.
           record {
-            none = λ h. v g te le ∙ list-ends m g a.line n l (byte-of m g a.line n te refl (eq-eqb _ _ c.if1.true));
+            none = λ h. v g te le ∙ list_ends m g a.line n l (byte_of_lem m g a.line n te refl (eq-eqb _ _ c.if1.true));
             next = λ h. absurd (omega arith);
             below = λ h. absurd (omega arith);
           },
@@ -67,8 +67,8 @@ returns-2 c =
             none = λ h. absurd (omega arith);
             next = λ h.
                 v g te le
-                ∙ list-has m g a.line n l (byte-of m g a.line n te refl (ne_eqb _ _ at-if1.if1.false))
-                (on_line m g a.line n te refl top a.lines d at-top-of.top_of.ensures.0 le c.before.wrapping-sub-usize.ensures low
+                ∙ list_has m g a.line n l (byte_of_lem m g a.line n te refl (ne_eqb _ _ at-if1.if1.false))
+                (on_line_lem m g a.line n te refl top a.lines d at-top-of.top_of.ensures.0 le c.before.wrapping-sub-usize.ensures low
                 c.if2.true);
             below = λ h. below_top m g a.line n te refl top a.lines d at-top-of.top_of.ensures.0 le
                 c.before.wrapping-sub-usize.ensures low c.if2.true;
@@ -102,8 +102,8 @@ loop-again c =
       omega arith,
       λ g te le.
           v g te le
-          ∙ list-skips m g a.line n l (byte-of m g a.line n te refl (ne_eqb _ _ at-if1.if1.false))
-          (off-line m g a.line n te refl top a.lines d at-top-of.top_of.ensures.0 le c.before.wrapping-sub-usize.ensures low out
+          ∙ list_skips m g a.line n l (byte_of_lem m g a.line n te refl (ne_eqb _ _ at-if1.if1.false))
+          (off_line m g a.line n te refl top a.lines d at-top-of.top_of.ensures.0 le c.before.wrapping-sub-usize.ensures low out
           fits.fits),
     )
 

@@ -36,13 +36,13 @@ character-line-sprite-requires c κs =
     let at-start = at-line-at.before.before.before.before.before.before in
     let p = at-start.requires in
     let f = p.1.0 in
-    (f.end_low, f.start-low, omega (arith, at-line-at.line_at.ensures.1, p.0.memory), omega (arith, f.x-low), p.0.bytes, p.1.1.4)
+    (f.end_low, f.start_low, omega (arith, at-line-at.line_at.ensures.1, p.0.memory), omega (arith, f.x_low), p.0.bytes, p.1.1.4)
 
 own-requires : tie.Need-own-requires
 own-requires c κs =
     let at-start = c.before.before.before.before.before.before.before.before.before.before.before.before.before.before.before.before in
     let p = at-start.requires.1 in
-    (omega (arith, p.0.x-low), p.1.1)
+    (omega (arith, p.0.x_low), p.1.1)
 
 marked-requires : tie.Need-marked-requires
 marked-requires c κs = search rules
@@ -83,7 +83,7 @@ character-line-sprite-bitmap-requires c κs =
     let at-start = at-line-at.before.before.before.before.before.before in
     let p = at-start.requires in
     let f = p.1.0 in
-    (f.end_low, f.start-low, omega (arith, at-line-at.line_at.ensures.1, p.0.memory))
+    (f.end_low, f.start_low, omega (arith, at-line-at.line_at.ensures.1, p.0.memory))
 
 marked-requires-2 : tie.Need-marked-requires-2
 marked-requires-2 c κs = search rules

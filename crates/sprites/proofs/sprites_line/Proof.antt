@@ -2,11 +2,11 @@
 use Rattle.std.proofs.Common.{◌≡◌, ℕ, ◌-◌, ◌≤◌, Bool, List, length, refl, arith, rules}
 use Rattle.laws.specs.Lists.{at}
 use Rattle.laws.specs.Paint.{painted}
-use Rattle.bitmap.specs.Mask.{bytesOf, cleared}
+use Rattle.bitmap.specs.Mask.{bytes_of, cleared}
 use Rattle.picture.specs.View.{early}
-use Rattle.picture.specs.Layers.{layersIn}
-use Rattle.stand.specs.Stand.{standOf}
-use Rattle.sprites.proofs.List.{Going, Told, row-starts, finished, has-turn, going_on, going-stops, told-on}
+use Rattle.picture.specs.Layers.{layers_in}
+use Rattle.stand.specs.Stand.{stand_of}
+use Rattle.sprites.proofs.List.{Going, Told, row_starts, finished, has_turn, going_on, going_stops, told_on}
 use Rattle.sprites.proofs.sprites_line.Statement.{statement}
 use Rattle.sprites.proofs.sprites_line.Tie as tie
 
@@ -16,10 +16,10 @@ invariant-loop row₀ layers₀ vram colours bytes screen reg line width prio ma
     × (count ≤ 8)
     × (length row ≡ length row₀)
     × (length layers ≡ length layers₀)
-    × ((base told : List ℕ) (f : ℕ → Bool) (colour : ℕ → ℕ) → prio.bits ≡ bytesOf f → mask₀.bits ≡ cleared → row₀ ≡ painted base 0 width
+    × ((base told : List ℕ) (f : ℕ → Bool) (colour : ℕ → ℕ) → prio.bits ≡ bytes_of f → mask₀.bits ≡ cleared → row₀ ≡ painted base 0 width
     (λ x. at colours (colour x)) →
-    layers₀ ≡ layersIn told width (λ x. 0) →
-    Going (at vram) (at reg) (standOf screen (early (at reg))) line f colour from count (Told base told colours width row mask.bits layers hit))
+    layers₀ ≡ layers_in told width (λ x. 0) →
+    Going (at vram) (at reg) (stand_of screen (early (at reg))) line f colour from count (Told base told colours width row mask.bits layers hit))
 
 abbrev decreases-loop : tie.decreases-loop
 decreases-loop row₀ layers₀ vram colours bytes screen reg line width prio mask₀ table hit₀ count₀ from₀ row layers mask hit count from = 64 - from
@@ -28,7 +28,7 @@ table-of-requires : tie.Need-table-of-requires invariant-loop decreases-loop
 table-of-requires c κs = search rules
 
 loop-holds : tie.Need-loop-init invariant-loop decreases-loop
-loop-holds c = (omega arith, omega arith, refl, refl, λ base told f colour pe me re le. row-starts _ _ _ _ _ _ _ _ _ _ re le me refl)
+loop-holds c = (omega arith, omega arith, refl, refl, λ base told f colour pe me re le. row_starts _ _ _ _ _ _ _ _ _ _ re le me refl)
 
 next-on-requires : tie.Need-next-on-requires invariant-loop decreases-loop
 next-on-requires c κs = search rules
@@ -42,7 +42,7 @@ stand-of-requires c κs =
     let at-loop = at-next-on.before in
     let at-table-of = at-loop.before in
     let at-start = at-table-of.before.before.before.before in
-    let t = has-turn at-next-on.next-on.result.n at-loop.loop.count c.before.both.ensures c.if1.true in
+    let t = has_turn at-next-on.next-on.result.n at-loop.loop.count c.before.both.ensures c.if1.true in
     (at-start.requires.0.memory, at-table-of.table_of.ensures.low, t.0, at-table-of.table_of.ensures.near)
 
 add-high : tie.Need-overflow-add-high invariant-loop decreases-loop
@@ -72,7 +72,7 @@ render-sprite-requires c κs =
     let at-loop = at-next-on.before in
     let at-table-of = at-loop.before in
     let at-start = at-table-of.before.before.before.before in
-    let t = has-turn at-next-on.next-on.result.n at-loop.loop.count at_both.both.ensures at-if1.if1.true in
+    let t = has_turn at-next-on.next-on.result.n at-loop.loop.count at_both.both.ensures at-if1.if1.true in
     let p = at-start.requires in
     let room = p.0 in (
       record { memory = room.memory; bytes = omega (arith, room.bytes, at-loop.loop.invariant.2) },
@@ -91,7 +91,7 @@ add-from c =
     let at_both = at-if1.before in
     let at-next-on = at_both.before.before in
     let at-loop = at-next-on.before in
-    let t = has-turn at-next-on.next-on.result.n at-loop.loop.count at_both.both.ensures at-if1.if1.true in
+    let t = has_turn at-next-on.next-on.result.n at-loop.loop.count at_both.both.ensures at-if1.if1.true in
     omega (arith, t.0)
 
 loop-less : tie.Need-loop-smaller invariant-loop decreases-loop
@@ -100,7 +100,7 @@ loop-less c =
     let at_both = at-if1.before in
     let at-next-on = at_both.before.before in
     let at-loop = at-next-on.before in
-    let t = has-turn at-next-on.next-on.result.n at-loop.loop.count at_both.both.ensures at-if1.if1.true in
+    let t = has_turn at-next-on.next-on.result.n at-loop.loop.count at_both.both.ensures at-if1.if1.true in
     omega (arith, t.0, at-next-on.next-on.ensures.1.0)
 
 loop-again : tie.Need-loop-preserved invariant-loop decreases-loop
@@ -113,7 +113,7 @@ loop-again c =
     let at-loop = at-next-on.before in
     let at-table-of = at-loop.before in
     let at-start = at-table-of.before.before.before.before in
-    let t = has-turn at-next-on.next-on.result.n at-loop.loop.count at_both.both.ensures at-if1.if1.true in
+    let t = has_turn at-next-on.next-on.result.n at-loop.loop.count at_both.both.ensures at-if1.if1.true in
     let a = at-start.args in
     let v = at-loop.loop.invariant in
     let next = at-next-on.next-on.result in
@@ -129,7 +129,7 @@ loop-again c =
           let o = v.4 base told f colour pe me re le in
           let follows = at-next-on.next-on.ensures.0 (at a.reg) set.start set.lines in
           going_on _ _ _ _ _ _ _ (follows.next t.0) t.1 k.counted o
-          (told-on a.vram.now a.reg a.screen a.line f next at-loop.loop.count set.start set.clock at-stand-of.Stand-of.ensures.0
+          (told_on a.vram.now a.reg a.screen a.line f next at-loop.loop.count set.start set.clock at-stand-of.Stand-of.ensures.0
           at-stand-of.Stand-of.ensures.1.End-low (follows.below t.0) (omega (arith, room.bytes, v.2)) pe o.shows k),
     )
 
@@ -151,7 +151,7 @@ returns c =
     λ base told f colour pe me re le.
     let o = at-loop.loop.invariant.4 base told f colour pe me re le in
     let follows = at-next-on.next-on.ensures.0 (at a.reg) set.start set.lines in
-    finished _ _ _ _ _ _ _ _ _ _ (going-stops _ _ _ _ _ _ _ at-loop.loop.invariant.1 at_both.both.ensures c.before.if1.false follows o)
+    finished _ _ _ _ _ _ _ _ _ _ (going_stops _ _ _ _ _ _ _ at-loop.loop.invariant.1 at_both.both.ensures c.before.if1.false follows o)
 
 pub sprites-line-spec : {M : Type 1} → statement M
 sprites-line-spec =

@@ -1,6 +1,6 @@
 -- `stand::sprite_line_settings_true` meets its contract: where a sprite stands by true columns.
 use Rattle.std.proofs.Common.{◌≡◌, ◌+◌, ◌-◌, arith, rules}
-use Rattle.picture.specs.View.{edgeStand}
+use Rattle.picture.specs.View.{edge_stand}
 use Rattle.stand.proofs.sprite_line_settings_true.Statement.{statement}
 use Rattle.stand.proofs.sprite_line_settings_true.Tie as tie
 
@@ -26,7 +26,7 @@ edge-end-requires : tie.Need-edge-end-requires
 edge-end-requires c κs = search rules
 
 returns : tie.Need-returns
-unfolding edgeStand
+unfolding edge_stand
 returns c =
     let at_wide = c.before.before in
     let at-start = at_wide.before.before.before.before in
@@ -35,7 +35,7 @@ returns c =
     let start : c.before.wide2.result ≡ a.left + a.e - a.h = omega arith in (
       rw (c.edge-end.ensures.0, start, x),
       record
-          { end_low = omega arith; start-low = omega arith; x-low = omega arith; prio-low = omega arith; mark-low = omega arith },
+          { end_low = omega arith; start_low = omega arith; x_low = omega arith; prio_low = omega arith; mark_low = omega arith },
     )
 
 pub sprite-line-settings-true-spec : {M : Type 1} → statement M

@@ -1,14 +1,14 @@
 -- `stand::sprite_line_settings_visible` meets its contract: where a sprite with X byte h stands in the visible area, the early clock taking e off.
 use Rattle.std.proofs.Common.{◌≡◌, ℕ, ◌+◌, ◌-◌, ◌*◌, ◌%◌, Bool, true, false, cond, not, arith, rules}
 use Rattle.laws.specs.Bits.{digit}
-use Rattle.picture.specs.View.{visibleStand, visibleSeen}
+use Rattle.picture.specs.View.{visible_stand, visible_seen}
 use Rattle.stand.proofs.sprite_line_settings_visible.Statement.{statement}
 use Rattle.stand.proofs.sprite_line_settings_visible.Tie as tie
 
 -- what an unseen one adds to its place
-mark-at : (seen : Bool) (h start : ℕ) → h + start * digit (not seen) ≡ cond seen h (h + start)
-mark-at true h start = omega arith
-mark-at false h start = omega arith
+mark_at_lem : (seen : Bool) (h start : ℕ) → h + start * digit (not seen) ≡ cond seen h (h + start)
+mark_at_lem true h start = omega arith
+mark_at_lem false h start = omega arith
 
 minus-requires : tie.Need-minus-requires
 minus-requires c κs = search rules
@@ -47,7 +47,7 @@ wide-requires-4 : tie.Need-wide-requires-4
 wide-requires-4 c κs = search rules
 
 returns : tie.Need-returns
-unfolding visibleStand visibleSeen
+unfolding visible_stand visible_seen
 returns c =
     let at-visible-end = c.before.before in
     let at-wide3 = at-visible-end.before in
@@ -63,7 +63,7 @@ returns c =
     let prio : c.wide4.result ≡ (a.h - 48 - a.e + 256 - (48 + a.e - a.h)) % 256 = omega arith in (
       rw (
         at-weight.weight.ensures.0,
-        mark-at _ at-wide2.wide2.result at_wide.wide.result,
+        mark_at_lem _ at-wide2.wide2.result at_wide.wide.result,
         prio,
         at-wide3.wide3.ensures.0,
         at-wide2.wide2.ensures.0,
@@ -72,7 +72,7 @@ returns c =
         start,
         x,
       ),
-      record { end_low = omega arith; start-low = omega arith; x-low = omega arith; prio-low = omega arith; mark-low = omega arith },
+      record { end_low = omega arith; start_low = omega arith; x_low = omega arith; prio_low = omega arith; mark_low = omega arith },
     )
 
 pub sprite-line-settings-visible-spec : {M : Type 1} → statement M

@@ -1,7 +1,7 @@
 -- `step::frame_step` meets its contract: a step on a whole frame.
 use borrow.Author.Rules.{rules}
 use mathlib.Core.Path.{refl}
-use Rattle.step.proofs.Steps.{reading-of, frame-joined}
+use Rattle.step.proofs.Steps.{reading_of_lem, frame-joined}
 use Rattle.step.proofs.frame_step.Statement.{statement}
 use Rattle.step.proofs.frame_step.Tie as tie
 
@@ -27,7 +27,7 @@ returns c =
     let at-colours-of = at-screen-of.before.before.before in
     let at-start = at-colours-of.before.before.before.before.before in
     frame-joined at-start.args.area at-start.args.vram.now at-start.args.vdp
-    (reading-of at-start.args.vdp refl refl refl at-colours-of.colours-of.ensures) c.join.ensures at-start.args.frame.now
+    (reading_of_lem at-start.args.vdp refl refl refl at-colours-of.colours-of.ensures) c.join.ensures at-start.args.frame.now
     (rw at-screen-of.screen-of.ensures at at-frame-points.frame-points.ensures)
 
 pub frame-step-spec : {M : Type 1} → statement M

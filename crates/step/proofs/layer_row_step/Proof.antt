@@ -1,7 +1,7 @@
 -- `step::layer_row_step` meets its contract: a step on a row buffer, with the layers of its row.
 use borrow.Author.Rules.{rules}
 use mathlib.Core.Path.{refl}
-use Rattle.step.proofs.Steps.{reading-of, row-layers-joined}
+use Rattle.step.proofs.Steps.{reading_of_lem, row_layers_joined}
 use Rattle.step.proofs.layer_row_step.Statement.{statement}
 use Rattle.step.proofs.layer_row_step.Tie as tie
 
@@ -29,8 +29,8 @@ returns c =
     let at-screen-of = at-layer-row-points.before in
     let at-colours-of = at-screen-of.before.before.before.before in
     let at-start = at-colours-of.before.before.before.before.before.before in
-    row-layers-joined at-start.args.area at-start.args.vram.now at-start.args.vdp
-    (reading-of at-start.args.vdp refl refl refl at-colours-of.colours-of.ensures) c.join.ensures at-start.args.row.now
+    row_layers_joined at-start.args.area at-start.args.vram.now at-start.args.vdp
+    (reading_of_lem at-start.args.vdp refl refl refl at-colours-of.colours-of.ensures) c.join.ensures at-start.args.row.now
     at-start.args.layers.now (rw at-screen-of.screen-of.ensures at at-layer-row-points.layer-row-points.ensures)
 
 pub layer-row-step-spec : {M : Type 1} → statement M

@@ -1,7 +1,7 @@
 -- `step::row_step` meets its contract: a step, whose row goes to the first bytes of the row buffer.
 use borrow.Author.Rules.{rules}
 use mathlib.Core.Path.{refl}
-use Rattle.step.proofs.Steps.{reading-of, row-joined}
+use Rattle.step.proofs.Steps.{reading_of_lem, row_joined}
 use Rattle.step.proofs.row_step.Statement.{statement}
 use Rattle.step.proofs.row_step.Tie as tie
 
@@ -26,8 +26,8 @@ returns c =
     let at-screen-of = at-row-points.before in
     let at-colours-of = at-screen-of.before.before.before in
     let at-start = at-colours-of.before.before.before.before.before in
-    row-joined at-start.args.area at-start.args.vram.now at-start.args.vdp
-    (reading-of at-start.args.vdp refl refl refl at-colours-of.colours-of.ensures) c.join.ensures at-start.args.row.now
+    row_joined at-start.args.area at-start.args.vram.now at-start.args.vdp
+    (reading_of_lem at-start.args.vdp refl refl refl at-colours-of.colours-of.ensures) c.join.ensures at-start.args.row.now
     (rw at-screen-of.screen-of.ensures at at-row-points.row-points.ensures)
 
 pub row-step-spec : {M : Type 1} → statement M

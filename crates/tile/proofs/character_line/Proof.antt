@@ -4,11 +4,11 @@ use native.Mathlib.Omega.{arith}
 use mathlib.Core.Path.{◌≡◌, ap, ◌∙◌}
 use Prim.Native.Nat.{◌+◌, ◌%◌, ◌<◌}
 use Rattle.laws.specs.Lists.{at}
-use Rattle.laws.proofs.Bits.{number-ext}
-use Rattle.laws.proofs.Paint.{painted-cong}
+use Rattle.laws.proofs.Bits.{number_ext}
+use Rattle.laws.proofs.Paint.{painted_cong}
 use Rattle.tile.specs.Lanes.{lane}
 use Rattle.tile.proofs.Lanes.{lane_past}
-use Rattle.tile.proofs.Whole.{lane-at, lane_low, bit_at}
+use Rattle.tile.proofs.Whole.{lane_at, lane_low, bit_at}
 use Rattle.tile.proofs.character_line.Statement.{statement}
 use Rattle.tile.proofs.character_line.Tie as tie
 
@@ -31,7 +31,7 @@ paint-requires c κs =
       search rules,
       λ k h.
           let e : a.start % 8 + k < 8 = omega arith in
-          rw lane_past (lane_low a.vram.now a.addr a.flip at-line-of.line-of.ensures.0 (a.start % 8 + k) e),
+          rw lane_past (lane_low a.vram.now a.addr a.flip at-line-of.line_of_lem.ensures.0 (a.start % 8 + k) e),
     )
 
 cut-requires : tie.Need-cut-requires
@@ -46,17 +46,17 @@ returns c =
     let at-line-of = at-paint.before.before.before.before in
     let at-start = at-line-of.before.before.before in
     let a = at-start.args in
-    let w = at-line-of.line-of.result.codes in (
+    let w = at-line-of.line_of_lem.result.codes in (
       at-paint.paint.ensures
-          ∙ painted-cong _ _ _ _ _ (λ k h.
+          ∙ painted_cong _ _ _ _ _ (λ k h.
           let e : a.start % 8 + k ≡ a.start + k = omega arith in
           let l : a.start + k < 8 = omega arith in
           ap (λ i. at a.colours.now (a.palette + i))
-          (lane_past w (a.start % 8) k ∙ ap (lane w) e ∙ lane-at a.vram.now a.addr a.flip at-line-of.line-of.ensures.0 (a.start + k) l)),
+          (lane_past w (a.start % 8) k ∙ ap (lane w) e ∙ lane_at a.vram.now a.addr a.flip at-line-of.line_of_lem.ensures.0 (a.start + k) l)),
       c.cut.ensures
-          ∙ number-ext _ _ _ (λ k h.
+          ∙ number_ext _ _ _ (λ k h.
           let l : a.start + k < 8 = omega arith in
-          bit_at a.vram.now a.addr a.flip at-line-of.line-of.ensures.1 a.start k l),
+          bit_at a.vram.now a.addr a.flip at-line-of.line_of_lem.ensures.1 a.start k l),
     )
 
 pub character-line-spec : {M : Type 1} → statement M

@@ -8,11 +8,11 @@ use mir.Syntax.{w8}
 use mir.Val.{Fits}
 use Rattle.laws.specs.Bits.{bit, number}
 use Rattle.laws.specs.Lists.{at}
-use Rattle.laws.proofs.Bits.{number-all, byte-is}
+use Rattle.laws.proofs.Bits.{number_all, byte_is}
 use Rattle.picture.specs.Tile.{code_at}
 use Rattle.picture.specs.Picture.{solid}
-use Rattle.tile.proofs.Marks.{solid-past}
-use Rattle.tile.proofs.Whole.{bit_at, part-solid}
+use Rattle.tile.proofs.Marks.{solid_past}
+use Rattle.tile.proofs.Whole.{bit_at, part_solid}
 use Rattle.tile.proofs.character_line_sprite_bitmap.Statement.{statement}
 use Rattle.tile.proofs.character_line_sprite_bitmap.Tie as tie
 
@@ -22,8 +22,8 @@ returns c =
     let at-start = c.before.before in
     let a = at-start.args in
     let h : a.end ≤ a.start = c.if1.true in
-    number-all (solid a.start a.end (code_at (at a.vram.now) a.addr)) 0 (omega arith)
-    (λ k g. solid-past a.start a.end _ k (omega (arith, h)))
+    number_all (solid a.start a.end (code_at (at a.vram.now) a.addr)) 0 (omega arith)
+    (λ k g. solid_past a.start a.end _ k (omega (arith, h)))
 
 line-of-requires : tie.Need-line-of-requires
 line-of-requires c κs = search rules
@@ -42,10 +42,10 @@ returns-2 c =
     let v = a.vram.now in
     let l : a.start < a.end = omega (arith, at-if1.if1.false) in
     let fit : Fits w8 c.cut.result = search rules in
-    byte-is _ (solid a.start a.end (code_at (at v) a.addr)) fit.fits
+    byte_is _ (solid a.start a.end (code_at (at v) a.addr)) fit.fits
     (λ k h.
     sym (ap (λ n. bit n k) c.cut.ensures
-    ∙ part-solid v a.addr a.start a.end (a.end - a.start) k _ l at-start.requires.0 refl (bit_at v a.addr false c.before.line-of.ensures.1
+    ∙ part_solid v a.addr a.start a.end (a.end - a.start) k _ l at-start.requires.0 refl (bit_at v a.addr false c.before.line_of_lem.ensures.1
     a.start)))
 
 pub character-line-sprite-bitmap-spec : {M : Type 1} → statement M

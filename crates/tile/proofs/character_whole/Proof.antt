@@ -4,10 +4,10 @@ use mathlib.Core.Path.{ap, sym, ◌∙◌}
 use Prim.Native.Nat.{◌+◌}
 use native.Mathlib.Nat.{zero-add}
 use Rattle.laws.specs.Lists.{at}
-use Rattle.laws.proofs.Paint.{painted-cong}
+use Rattle.laws.proofs.Paint.{painted_cong}
 use Rattle.picture.specs.Tile.{turned, code_at}
-use Rattle.tile.specs.Line.{coloursIn}
-use Rattle.tile.proofs.Whole.{lane-at, lane_low}
+use Rattle.tile.specs.Line.{colours_in}
+use Rattle.tile.proofs.Whole.{lane_at, lane_low}
 use Rattle.tile.proofs.character_whole.Statement.{statement}
 use Rattle.tile.proofs.character_whole.Tie as tie
 
@@ -19,7 +19,7 @@ paint-whole-requires c κs =
     let at-line-of = c.before.before in
     let at-start = at-line-of.before.before.before in
     let a = at-start.args in
-    (at-start.requires.2, at-start.requires.3, at-start.requires.1, search rules, lane_low a.vram.now a.addr a.flip at-line-of.line-of.ensures.0)
+    (at-start.requires.2, at-start.requires.3, at-start.requires.1, search rules, lane_low a.vram.now a.addr a.flip at-line-of.line_of_lem.ensures.0)
 
 same_length : tie.Need-same-length
 same_length c = search rules
@@ -31,10 +31,10 @@ returns c =
     let at-start = at-line-of.before.before.before in
     let a = at-start.args in (
       at-paint-whole.paint-whole.ensures
-          ∙ painted-cong _ _ _ _ _ (λ k h.
-          ap (λ i. at (coloursIn a.table.now) (a.palette + i)) (lane-at a.vram.now a.addr a.flip at-line-of.line-of.ensures.0 k h
+          ∙ painted_cong _ _ _ _ _ (λ k h.
+          ap (λ i. at (colours_in a.table.now) (a.palette + i)) (lane_at a.vram.now a.addr a.flip at-line-of.line_of_lem.ensures.0 k h
           ∙ ap (λ i. code_at (at a.vram.now) a.addr (turned a.flip i)) (sym (zero-add k)))),
-      at-line-of.line-of.ensures.1,
+      at-line-of.line_of_lem.ensures.1,
     )
 
 pub character-whole-spec : {M : Type 1} → statement M

@@ -8,8 +8,8 @@ use mir.Val.{Fits}
 use Rattle.picture.specs.Tile.{code_of}
 use Rattle.picture.proofs.Laws.{code_lt}
 use Rattle.tile.specs.Lanes.{lane, exchange}
-use Rattle.tile.proofs.Lanes.{turned-lanes}
-use Rattle.tile.proofs.Squares.{codes-are}
+use Rattle.tile.proofs.Lanes.{turned_lanes}
+use Rattle.tile.proofs.Squares.{codes_are}
 use Rattle.tile.proofs.codes_of.Statement.{statement}
 use Rattle.tile.proofs.codes_of.Tie as tie
 
@@ -30,7 +30,7 @@ returns c =
     let fit : Fits w32 x = search rules in
     rw c.if1.true
     (c.before.exchanged2.ensures ∙ ap (λ n. exchange n 7 0x00AA00AA00AA00AA) at-exchanged.exchanged.ensures
-    ∙ codes-are x (λ k. 7 - (7 - k)) fit.fits (λ k h. omega arith))
+    ∙ codes_are x (λ k. 7 - (7 - k)) fit.fits (λ k h. omega arith))
 
 returns-2 : tie.Need-returns-2
 returns-2 c =
@@ -41,9 +41,9 @@ returns-2 c =
     let fit : Fits w32 x = search rules in
     rw c.before.if1.false
     (c.mirrored.ensures
-    ∙ turned-lanes (code_of (lane x 0) (lane x 1) (lane x 2) (lane x 3)) (λ k. omega (arith, code_lt (lane x 0) (lane x 1) (lane x 2) (lane x 3) k))
+    ∙ turned_lanes (code_of (lane x 0) (lane x 1) (lane x 2) (lane x 3)) (λ k. omega (arith, code_lt (lane x 0) (lane x 1) (lane x 2) (lane x 3) k))
     (at-exchanged2.exchanged2.ensures ∙ ap (λ n. exchange n 7 0x00AA00AA00AA00AA) at-exchanged.exchanged.ensures
-    ∙ codes-are x (λ k. k) fit.fits (λ k h. refl)))
+    ∙ codes_are x (λ k. k) fit.fits (λ k h. refl)))
 
 pub codes-of-spec : {M : Type 1} → statement M
 codes-of-spec =

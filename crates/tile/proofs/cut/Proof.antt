@@ -2,7 +2,7 @@
 use borrow.Author.Rules.{rules}
 use native.Mathlib.Omega.{arith}
 use lib.Pow.{pow_pos}
-use Rattle.tile.proofs.Lanes.{cut_low, cut-lt, cut-is}
+use Rattle.tile.proofs.Lanes.{cut_low, cut_lt, cut_is}
 use Rattle.tile.proofs.cut.Statement.{statement}
 use Rattle.tile.proofs.cut.Tie as tie
 
@@ -19,10 +19,10 @@ rem-result : tie.Need-nonzero-rem-result
 rem-result c = omega (arith, cut_low c.before.args.n (omega arith), pow_pos c.before.args.n)
 
 cast-result : tie.Need-overflow-cast-result
-cast-result c = record { fits = cut-lt _ c.before.args.start _ c.wide.ensures.1 }
+cast-result c = record { fits = cut_lt _ c.before.args.start _ c.wide.ensures.1 }
 
 returns : tie.Need-returns
-returns c = rw c.wide.ensures.0 (cut-is c.before.args.bits c.before.args.start c.before.args.n c.before.requires)
+returns c = rw c.wide.ensures.0 (cut_is c.before.args.bits c.before.args.start c.before.args.n c.before.requires)
 
 pub cut_spec : {M : Type 1} → statement M
 cut_spec = tie.close (tie.spec shl-low wide-requires shr-result rem-result cast-result returns)

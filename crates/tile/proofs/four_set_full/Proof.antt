@@ -1,7 +1,7 @@
 -- `tile::four_set_full` meets its contract: four colours, from pixel x of the row on.
 use borrow.Author.Rules.{rules}
 use native.Mathlib.Omega.{arith}
-use Rattle.tile.proofs.Store.{four-set}
+use Rattle.tile.proofs.Store.{four_set}
 use Rattle.tile.proofs.four_set_full.Statement.{statement}
 use Rattle.tile.proofs.four_set_full.Tie as tie
 
@@ -35,7 +35,7 @@ returns c =
     let at-third = at-fourth.before.before.before.before in
     let at_second = at-third.before.before.before.before in
     let at_first = at_second.before.before.before.before in
-    four-set _ _ _ at_first.pixel-set-full.ensures at_second.pixel-set-full2.ensures at-third.pixel-set-full3.ensures
+    four_set _ _ _ at_first.pixel-set-full.ensures at_second.pixel-set-full2.ensures at-third.pixel-set-full3.ensures
     at-fourth.pixel-set-full4.ensures
 
 pub four-set-full-spec : {M : Type 1} → statement M

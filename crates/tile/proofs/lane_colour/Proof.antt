@@ -1,6 +1,6 @@
 -- `tile::lane_colour` meets its contract: the colour whose first byte lane k names.
 use mathlib.Core.Path.{◌∙◌, ap}
-use Rattle.laws.specs.Paint.{fourAt}
+use Rattle.laws.specs.Paint.{four_at}
 use Rattle.tile.proofs.lane_colour.Statement.{statement}
 use Rattle.tile.proofs.lane_colour.Tie as tie
 
@@ -13,7 +13,7 @@ four-at-requires c κs = let at-start = c.before.before in rw c.color-code.ensur
 returns : tie.Need-returns
 returns c =
     let at-start = c.before.before.before in
-    c.four-at.ensures ∙ ap (fourAt at-start.args.table.now) c.before.color-code.ensures
+    c.four_at_lem.ensures ∙ ap (four_at at-start.args.table.now) c.before.color-code.ensures
 
 pub lane-colour-spec : {M : Type 1} → statement M
 lane-colour-spec = tie.close (tie.spec color-code-requires four-at-requires returns)

@@ -4,9 +4,9 @@ use native.Mathlib.Omega.{arith}
 use mathlib.Core.Path.{◌∙◌}
 use Prim.Native.Nat.{◌+◌, ◌<◌}
 use Rattle.laws.specs.Lists.{at}
-use Rattle.tile.specs.Line.{coloursIn}
+use Rattle.tile.specs.Line.{colours_in}
 use Rattle.tile.specs.Lanes.{lane}
-use Rattle.tile.proofs.Whole.{place-fits, place-four, fours-are}
+use Rattle.tile.proofs.Whole.{place_fits, place_four, fours_are}
 use Rattle.tile.proofs.lane_colours.Statement.{statement}
 use Rattle.tile.proofs.lane_colours.Tie as tie
 
@@ -29,7 +29,7 @@ lane-colour-requires : tie.Need-lane-colour-requires
 lane-colour-requires c κs =
     let at-start = c.before.before in
     let a = at-start.args in
-    (omega arith, place-fits a.table.now a.palette a.codes at-start.requires.2 at-start.requires.1 at-start.ranges.codes.fits at-start.requires.3)
+    (omega arith, place_fits a.table.now a.palette a.codes at-start.requires.2 at-start.requires.1 at-start.ranges.codes.fits at-start.requires.3)
 
 add-lane-colour : tie.Need-overflow-add-lane-colour
 add-lane-colour c = omega arith
@@ -38,7 +38,7 @@ lane-colour-requires-2 : tie.Need-lane-colour-requires-2
 lane-colour-requires-2 c κs =
     let at-start = c.before.before.before in
     let a = at-start.args in
-    (omega arith, place-fits a.table.now a.palette a.codes at-start.requires.2 at-start.requires.1 at-start.ranges.codes.fits at-start.requires.3)
+    (omega arith, place_fits a.table.now a.palette a.codes at-start.requires.2 at-start.requires.1 at-start.ranges.codes.fits at-start.requires.3)
 
 add-lane-colour-2 : tie.Need-overflow-add-lane-colour-2
 add-lane-colour-2 c = omega arith
@@ -47,7 +47,7 @@ lane-colour-requires-3 : tie.Need-lane-colour-requires-3
 lane-colour-requires-3 c κs =
     let at-start = c.before.before.before.before in
     let a = at-start.args in
-    (omega arith, place-fits a.table.now a.palette a.codes at-start.requires.2 at-start.requires.1 at-start.ranges.codes.fits at-start.requires.3)
+    (omega arith, place_fits a.table.now a.palette a.codes at-start.requires.2 at-start.requires.1 at-start.ranges.codes.fits at-start.requires.3)
 
 add-lane-colour-3 : tie.Need-overflow-add-lane-colour-3
 add-lane-colour-3 c = omega arith
@@ -56,7 +56,7 @@ lane-colour-requires-4 : tie.Need-lane-colour-requires-4
 lane-colour-requires-4 c κs =
     let at-start = c.before.before.before.before.before in
     let a = at-start.args in
-    (omega arith, place-fits a.table.now a.palette a.codes at-start.requires.2 at-start.requires.1 at-start.ranges.codes.fits at-start.requires.3)
+    (omega arith, place_fits a.table.now a.palette a.codes at-start.requires.2 at-start.requires.1 at-start.ranges.codes.fits at-start.requires.3)
 
 returns : tie.Need-returns
 returns c =
@@ -65,9 +65,9 @@ returns c =
     let at-start = at-lane-colour.before.before.before in
     let a = at-start.args in
     let k = a.k in
-    let q = place-four a.table.now a.palette a.codes at-start.requires.2 at-start.requires.1 at-start.ranges.codes.fits at-start.requires.3 in
+    let q = place_four a.table.now a.palette a.codes at-start.requires.2 at-start.requires.1 at-start.ranges.codes.fits at-start.requires.3 in
     let l : k < 5 = at-start.requires.0 in
-    fours-are (λ i. at (coloursIn a.table.now) (a.palette + lane a.codes i)) k
+    fours_are (λ i. at (colours_in a.table.now) (a.palette + lane a.codes i)) k
     (at-lane-colour.lane-colour.ensures ∙ q k (omega arith)) (at-lane-colour2.lane-colour2.ensures ∙ q (k + 1) (omega arith))
     (c.before.lane-colour3.ensures ∙ q (k + 2) (omega arith)) (c.lane-colour4.ensures ∙ q (k + 3) (omega arith))
 

@@ -4,7 +4,7 @@ use mathlib.Core.Path.{◌∙◌}
 use Prim.Native.Nat.{ℕ, ◌<◌}
 use Rattle.laws.specs.Lists.{at}
 use native.Mathlib.Omega.{arith}
-use Rattle.tile.proofs.Whole.{codes_at, bits_at}
+use Rattle.tile.proofs.Whole.{codes_at_lem, bits_at}
 use Rattle.tile.proofs.line_of.Statement.{statement}
 use Rattle.tile.proofs.line_of.Tie as tie
 
@@ -23,10 +23,10 @@ returns c =
     let at-shared-slice-known = at-four-at.before in
     let at-start = at-shared-slice-known.before in
     let a = at-start.args in
-    let x = at-four-at.four-at.result in
+    let x = at-four-at.four_at_lem.result in
     let low : (k : ℕ) → at a.vram.now k < 256 = λ k. omega (arith, at-shared-slice-known.shared-slice-known.given k) in
-    let e = at-four-at.four-at.ensures in (
-      c.before.codes-of.ensures ∙ codes_at a.vram.now a.addr x low e a.flip,
+    let e = at-four-at.four_at_lem.ensures in (
+      c.before.codes-of.ensures ∙ codes_at_lem a.vram.now a.addr x low e a.flip,
       c.solids-of.ensures
           ∙ bits_at a.vram.now a.addr x low e a.flip,
     )

@@ -1,6 +1,6 @@
 -- `tile::mirrored` meets its contract: the lanes in the other order.
 use borrow.Author.Rules.{rules}
-use Rattle.tile.proofs.Lanes.{mirrored-is}
+use Rattle.tile.proofs.Lanes.{mirrored_is}
 use Rattle.tile.proofs.mirrored.Statement.{statement}
 use Rattle.tile.proofs.mirrored.Tie as tie
 
@@ -19,7 +19,7 @@ add-result c = search rules
 returns : tie.Need-returns
 returns c =
     let at-start = c.before.before in
-    mirrored-is at-start.args.w c.before.half-mirrored.ensures.0 c.half-mirrored2.ensures.0
+    mirrored_is at-start.args.w c.before.half-mirrored.ensures.0 c.half-mirrored2.ensures.0
 
 pub mirrored-spec : {M : Type 1} → statement M
 mirrored-spec = tie.close (tie.spec half-mirrored-requires half-mirrored-requires-2 mul-result add-result returns)

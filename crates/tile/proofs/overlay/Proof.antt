@@ -1,7 +1,7 @@
 -- `tile::overlay` meets its contract: the colours in palette 1 that the lanes name where `drawn` has their bits, from pixel x of the row on.
 use borrow.Author.Rules.{rules}
 use native.Mathlib.Omega.{arith}
-use Rattle.tile.proofs.Store.{eight-chosen}
+use Rattle.tile.proofs.Store.{eight_chosen}
 use Rattle.tile.proofs.overlay.Statement.{statement}
 use Rattle.tile.proofs.overlay.Tie as tie
 
@@ -41,7 +41,7 @@ returns c =
     let at_old = at_read.before.before in
     let at-known = at_old.before.before.before.before.before in
     let a = at-known.before.args in
-    eight-chosen a.row.now a.x a.drawn _ (λ k. omega (arith, at-known.slice-known.given k)) at_old.before.before.row-colours.ensures
+    eight_chosen a.row.now a.x a.drawn _ (λ k. omega (arith, at-known.slice-known.given k)) at_old.before.before.row-colours.ensures
     at_old.row-colours2.ensures at_read.before.lane-colours.ensures at_read.lane-colours2.ensures at_left.overlay-four.ensures
     at_right.overlay-four2.ensures
 

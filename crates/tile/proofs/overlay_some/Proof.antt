@@ -7,9 +7,9 @@ use lib.ListN.{length}
 use Rattle.laws.specs.Bits.{bit}
 use Rattle.laws.specs.Lists.{at}
 use Rattle.laws.specs.Paint.{overlaid}
-use Rattle.laws.proofs.Paint.{overlaid-step}
+use Rattle.laws.proofs.Paint.{overlaid_step}
 use Rattle.tile.specs.Lanes.{lane}
-use Rattle.tile.proofs.Lanes.{past-zero, past-step, past-lane}
+use Rattle.tile.proofs.Lanes.{past_zero, past_step, past_lane}
 use Rattle.tile.proofs.overlay_some.Statement.{statement}
 use Rattle.tile.proofs.overlay_some.Tie as tie
 
@@ -22,7 +22,7 @@ decreases-loop row₀ colours x codes n drawn w₀ i₀ row w i = n - i
 
 loop-holds : tie.Need-loop-init invariant-loop decreases-loop
 unfolding overlaid
-loop-holds c = (omega arith, refl, past-zero _, refl)
+loop-holds c = (omega arith, refl, past_zero _, refl)
 
 add-c : tie.Need-overflow-add-c invariant-loop decreases-loop
 add-c c = search rules
@@ -41,7 +41,7 @@ element-copy-out-pixel-set-if c =
     let at-loop = c.before.before.before in
     let at-start = at-loop.before.before in
     let l = at-start.requires.3 at-loop.loop.i (omega arith) in omega
-    (arith, past-lane at-start.args.codes at-loop.loop.i at-loop.loop.invariant.2, l)
+    (arith, past_lane at-start.args.codes at-loop.loop.i at-loop.loop.invariant.2, l)
 
 pixel-set-if-requires : tie.Need-pixel-set-if-requires invariant-loop decreases-loop
 pixel-set-if-requires c κs =
@@ -66,9 +66,9 @@ loop-again c =
     let a = at-start.args in
     let i = at-loop.loop.i in (
       omega arith,
-      overlaid-step _ _ _ _ _ v.1 at-is-set.is_set.ensures
-          (ap (λ k. at a.colours.now (16 + k)) (past-lane a.codes i v.2)) at-pixel-set-if.pixel-set-if.ensures,
-      past-step a.codes i
+      overlaid_step _ _ _ _ _ v.1 at-is-set.is_set.ensures
+          (ap (λ k. at a.colours.now (16 + k)) (past_lane a.codes i v.2)) at-pixel-set-if.pixel-set-if.ensures,
+      past_step a.codes i
           v.2,
       omega arith,
     )

@@ -5,7 +5,7 @@ use Prim.Native.Nat.{◌-◌, ◌≤◌}
 use lib.ListN.{length}
 use native.Mathlib.Omega.{arith}
 use Rattle.tile.specs.Layer.{stamped}
-use Rattle.tile.proofs.Layer.{stamped-none, stamped-step, stamped-length}
+use Rattle.tile.proofs.Layer.{stamped_none, stamped_step, stamped_length}
 use Rattle.tile.proofs.own_columns.Statement.{statement}
 use Rattle.tile.proofs.own_columns.Tie as tie
 
@@ -16,7 +16,7 @@ abbrev decreases-loop : tie.decreases-loop
 decreases-loop layers₀ width x n drawn held i₀ layers i = 8 - i
 
 loop-holds : tie.Need-loop-init invariant-loop decreases-loop
-loop-holds c = (omega arith, refl, stamped-none _ _ _ _ _ _)
+loop-holds c = (omega arith, refl, stamped_none _ _ _ _ _ _)
 
 add-own-column : tie.Need-overflow-add-own-column invariant-loop decreases-loop
 add-own-column c = search rules
@@ -45,9 +45,9 @@ loop-again c =
     let at-start = at-loop.before.before in
     let v = at-loop.loop.invariant in
     let a = at-start.args in
-    let e = stamped-step a.layers.now a.width a.x a.n a.drawn a.held at-loop.loop.i at-start.requires.0 v.2
+    let e = stamped_step a.layers.now a.width a.x a.n a.drawn a.held at-loop.loop.i at-start.requires.0 v.2
     at-is-set.is_set.ensures at-is-set2.is-set2.ensures at-own-column.own-column.ensures in
-    (omega arith, ap length e ∙ stamped-length _ _ _ _ _ _ _, e)
+    (omega arith, ap length e ∙ stamped_length _ _ _ _ _ _ _, e)
 
 same_length : tie.Need-same-length invariant-loop decreases-loop
 same_length c = search rules

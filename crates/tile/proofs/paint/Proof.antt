@@ -6,9 +6,9 @@ use Prim.Native.Nat.{◌+◌, ◌-◌, ◌*◌, ◌/◌, ◌^◌, ◌≤◌}
 use lib.ListN.{length, take, drop}
 use Rattle.laws.specs.Lists.{at}
 use Rattle.laws.specs.Paint.{painted}
-use Rattle.laws.proofs.Paint.{painted-step}
+use Rattle.laws.proofs.Paint.{painted_step}
 use Rattle.tile.specs.Lanes.{lane}
-use Rattle.tile.proofs.Lanes.{past-zero, past-step, past-lane}
+use Rattle.tile.proofs.Lanes.{past_zero, past_step, past_lane}
 use Rattle.tile.proofs.Whole.{half_length, half_at}
 use Rattle.tile.proofs.paint.Statement.{statement}
 use Rattle.tile.proofs.paint.Tie as tie
@@ -37,7 +37,7 @@ part-some-end c = search rules
 
 loop-holds : tie.Need-loop-init invariant-loop decreases-loop
 unfolding painted
-loop-holds c = (omega arith, refl, past-zero _, refl)
+loop-holds c = (omega arith, refl, past_zero _, refl)
 
 add-pixel-set-full : tie.Need-overflow-add-pixel-set-full invariant-loop decreases-loop
 add-pixel-set-full c = search rules
@@ -50,7 +50,7 @@ shared-slice-read-pixel-set-full c =
     let at-loop = c.before.before.before in
     let at-start = at-loop.before.before.before.before in
     let a = at-start.args in
-    rw (half_length a.colours.now a.palette at-start.requires.2, past-lane a.codes at-loop.loop.i at-loop.loop.invariant.2)
+    rw (half_length a.colours.now a.palette at-start.requires.2, past_lane a.codes at-loop.loop.i at-loop.loop.invariant.2)
     (at-start.requires.3 at-loop.loop.i (omega arith))
 
 pixel-set-full-requires : tie.Need-pixel-set-full-requires invariant-loop decreases-loop
@@ -70,9 +70,9 @@ loop-again c =
     let v = at-loop.loop.invariant in
     let a = at-start.args in
     let i = at-loop.loop.i in
-    let e = ap (at (take (a.palette + 16 - a.palette) (drop a.palette a.colours.now))) (past-lane a.codes i v.2) ∙ half_at a.colours.now
+    let e = ap (at (take (a.palette + 16 - a.palette) (drop a.palette a.colours.now))) (past_lane a.codes i v.2) ∙ half_at a.colours.now
     a.palette _ (at-start.requires.3 i (omega arith)) in
-    (omega arith, painted-step _ _ _ _ v.1 e at-pixel-set-full.pixel-set-full.ensures, past-step a.codes i v.2, omega arith)
+    (omega arith, painted_step _ _ _ _ v.1 e at-pixel-set-full.pixel-set-full.ensures, past_step a.codes i v.2, omega arith)
 
 same_length : tie.Need-same-length invariant-loop decreases-loop
 same_length c = search rules

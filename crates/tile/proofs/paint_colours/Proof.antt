@@ -6,8 +6,8 @@ use native.Mathlib.Omega.{arith}
 use lib.ListN.{length}
 use Rattle.laws.specs.Lists.{at}
 use Rattle.laws.specs.Paint.{painted}
-use Rattle.tile.specs.Line.{coloursIn}
-use Rattle.tile.proofs.Whole.{colour-step, bytes-are, colours-back}
+use Rattle.tile.specs.Line.{colours_in}
+use Rattle.tile.proofs.Whole.{colour_step, bytes_are, colours_back}
 use Rattle.tile.proofs.paint_colours.Statement.{statement}
 use Rattle.tile.proofs.paint_colours.Tie as tie
 
@@ -43,7 +43,7 @@ loop-again c =
     let a = at-loop.before.before.before.args in
     let v = at-loop.loop.invariant in (
       omega arith,
-      colour-step a.row.now a.colours.now at-loop.loop.i v.1 at-pixel-set-full.pixel-set-full.ensures,
+      colour_step a.row.now a.colours.now at-loop.loop.i v.1 at-pixel-set-full.pixel-set-full.ensures,
       omega (arith, v.2, at-pixel-set-full.pixel-set-full.auto.0),
     )
 
@@ -59,9 +59,9 @@ returns c =
     let cs = a.colours.now in
     let v = at-loop.loop.invariant in
     let n : at-loop.loop.i ≡ 32 = omega arith in
-    let e = bytes-are cs a.row.now at-start.requires.0 (v.2 ∙ at-start.requires.0) (rw n at v.1) in
+    let e = bytes_are cs a.row.now at-start.requires.0 (v.2 ∙ at-start.requires.0) (rw n at v.1) in
     let low : (k : ℕ) → at cs k < 4294967296 = λ k. omega (arith, at-shared-slice-known.shared-slice-known.given k) in
-    (e, ap coloursIn e ∙ colours-back cs at-start.requires.1 low)
+    (e, ap colours_in e ∙ colours_back cs at-start.requires.1 low)
 
 pub paint-colours-spec : {M : Type 1} → statement M
 paint-colours-spec =

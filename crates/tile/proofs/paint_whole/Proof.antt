@@ -1,7 +1,7 @@
 -- `tile::paint_whole` meets its contract: the colours that the eight lanes name, from pixel x of the row on.
 use borrow.Author.Rules.{rules}
 use native.Mathlib.Omega.{arith}
-use Rattle.tile.proofs.Store.{eight-set}
+use Rattle.tile.proofs.Store.{eight_set}
 use Rattle.tile.proofs.paint_whole.Statement.{statement}
 use Rattle.tile.proofs.paint_whole.Tie as tie
 
@@ -28,7 +28,7 @@ returns c =
     let at_right = c.before.before in
     let at_left = at_right.before.before.before.before in
     let at_read = at_left.before.before in
-    eight-set _ _ _ at_read.before.lane-colours.ensures at_read.lane-colours2.ensures at_left.four-set-full.ensures
+    eight_set _ _ _ at_read.before.lane-colours.ensures at_read.lane-colours2.ensures at_left.four-set-full.ensures
     at_right.four-set-full2.ensures
 
 pub paint-whole-spec : {M : Type 1} → statement M

@@ -1,7 +1,7 @@
 -- `tile::pixel_code` meets its contract: the code of pixel p of the line at addr.
 use borrow.Author.Rules.{rules}
 use mathlib.Core.Path.{◌∙◌}
-use Rattle.tile.proofs.Whole.{lane-at, lane_low}
+use Rattle.tile.proofs.Whole.{lane_at, lane_low}
 use Rattle.tile.proofs.pixel_code.Statement.{statement}
 use Rattle.tile.proofs.pixel_code.Tie as tie
 
@@ -15,9 +15,9 @@ returns : tie.Need-returns
 returns c =
     let at-start = c.before.before.before in
     let a = at-start.args in
-    let e = c.before.line-of.ensures.0 in
+    let e = c.before.line_of_lem.ensures.0 in
     let p = at-start.requires.0 in (
-      c.color-code.ensures ∙ lane-at a.vram.now a.addr a.flip e a.p p,
+      c.color-code.ensures ∙ lane_at a.vram.now a.addr a.flip e a.p p,
       rw c.color-code.ensures
           (lane_low a.vram.now a.addr a.flip e a.p p),
     )

@@ -42,7 +42,7 @@ unfolding fours
 returns c =
     let at-four-at2 = c.before.before in
     let at-four-at = at-four-at2.before in
-    rw (c.four-at4.ensures, c.before.four-at3.ensures, at-four-at2.four-at2.ensures, at-four-at.four-at.ensures)
+    rw (c.four-at4.ensures, c.before.four-at3.ensures, at-four-at2.four-at2.ensures, at-four-at.four_at_lem.ensures)
 
 pub row-colours-spec : {M : Type 1} → statement M
 row-colours-spec =

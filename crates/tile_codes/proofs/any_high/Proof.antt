@@ -7,7 +7,7 @@ use lib.Dec.{ltb}
 use lib.ListN.{length}
 use Rattle.laws.specs.Bits.{any}
 use Rattle.laws.specs.Lists.{at}
-use Rattle.tile_codes.specs.Calls.{anyHigh}
+use Rattle.tile_codes.specs.Calls.{any_high}
 use Rattle.tile_codes.proofs.Loops.{any_step}
 use Rattle.tile_codes.proofs.any_high.Statement.{statement}
 use Rattle.tile_codes.proofs.any_high.Tie as tie
@@ -38,7 +38,7 @@ loop-again c =
     (omega arith, any_step (λ k. ltb 15 (at at-start.args.codes.now k)) at-loop.loop.i at-loop.loop.invariant.1)
 
 returns : tie.Need-returns invariant-loop decreases-loop
-unfolding anyHigh
+unfolding any_high
 returns c =
     let at-start = c.before.before in
     let e : c.before.loop.i ≡ length at-start.args.codes.now = omega arith in

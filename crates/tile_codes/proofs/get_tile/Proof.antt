@@ -6,14 +6,14 @@ use native.Mathlib.Omega.{arith}
 use lib.ListN.{length, length-set}
 use lib.Seq.{paste, paste-zero}
 use Rattle.laws.specs.Lists.{at}
-use Rattle.laws.proofs.Lists.{fill_step, filled-whole}
-use Rattle.tile_codes.specs.Tiles.{codesAt}
-use Rattle.tile_codes.proofs.Loops.{codes-long, code_is}
+use Rattle.laws.proofs.Lists.{fill_step, filled_whole}
+use Rattle.tile_codes.specs.Tiles.{codes_at}
+use Rattle.tile_codes.proofs.Loops.{codes_long, code_is}
 use Rattle.tile_codes.proofs.get_tile.Statement.{statement}
 use Rattle.tile_codes.proofs.get_tile.Tie as tie
 
 abbrev invariant-loop : tie.invariant-loop
-invariant-loop src from codes₀ k₀ codes k = (k ≤ 64) × (codes ≡ paste codes₀ 0 (codesAt (at src) from) k) × (length codes ≡ 64)
+invariant-loop src from codes₀ k₀ codes k = (k ≤ 64) × (codes ≡ paste codes₀ 0 (codes_at (at src) from) k) × (length codes ≡ 64)
 
 abbrev decreases-loop : tie.decreases-loop
 decreases-loop src from codes₀ k₀ codes k = 64 - k
@@ -21,7 +21,7 @@ decreases-loop src from codes₀ k₀ codes k = 64 - k
 loop-holds : tie.Need-loop-init invariant-loop decreases-loop
 loop-holds c =
     let at-start = c.before.before in
-    (omega arith, paste-zero at-start.args.codes.now 0 (codesAt (at at-start.args.src.now) at-start.args.from), omega arith)
+    (omega arith, paste-zero at-start.args.codes.now 0 (codes_at (at at-start.args.src.now) at-start.args.from), omega arith)
 
 mul-line : tie.Need-overflow-mul-line invariant-loop decreases-loop
 mul-line c = search rules
@@ -59,11 +59,11 @@ loop-again c =
     let at-start = at-loop.before.before.before in
     let a = at-start.args in
     let l = at-loop.loop in
-    let s = codesAt (at a.src.now) a.from in
-    let h : l.k < length s = omega (arith, codes-long (at a.src.now) a.from) in (
+    let s = codes_at (at a.src.now) a.from in
+    let h : l.k < length s = omega (arith, codes_long (at a.src.now) a.from) in (
       omega arith,
       fill_step a.codes.now 0 s l.k (omega arith) h (omega arith)
-          (code_is (at a.src.now) a.from l.k (omega arith) c.code-at.ensures.0) l.invariant.1,
+          (code_is (at a.src.now) a.from l.k (omega arith) c.code_at_lem.ensures.0) l.invariant.1,
       simp length-set l.invariant.2,
     )
 
@@ -77,7 +77,7 @@ returns c =
     let l = c.before.loop in
     let h : length a.codes.now ≡ 64 = omega arith in
     let e : l.k ≡ 64 = omega arith in
-    l.invariant.1 ∙ filled-whole a.codes.now (codesAt (at a.src.now) a.from) 64 h (codes-long (at a.src.now) a.from) e
+    l.invariant.1 ∙ filled_whole a.codes.now (codes_at (at a.src.now) a.from) 64 h (codes_long (at a.src.now) a.from) e
 
 pub get-tile-spec : {M : Type 1} → statement M
 get-tile-spec =

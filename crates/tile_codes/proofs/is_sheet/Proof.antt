@@ -1,6 +1,6 @@
 -- `tile_codes::is_sheet` meets its contract: whether the input is a sheet: 1 to 256 tiles of 64 codes, none above 15.
 use borrow.Author.Rules.{rules}
-use Rattle.tile_codes.specs.Sheet.{isSheet}
+use Rattle.tile_codes.specs.Sheet.{is_sheet}
 use Rattle.tile_codes.proofs.is_sheet.Statement.{statement}
 use Rattle.tile_codes.proofs.is_sheet.Tie as tie
 
@@ -8,7 +8,7 @@ any-high-requires : tie.Need-any-high-requires
 any-high-requires c κs = search rules
 
 returns : tie.Need-returns
-unfolding isSheet
+unfolding is_sheet
 returns c = rw c.any-high.ensures
 
 pub is-sheet-spec : {M : Type 1} → statement M

@@ -2,7 +2,7 @@
 use borrow.Author.Rules.{rules}
 use mathlib.Core.Path.{◌∙◌}
 use Prim.Native.Nat.{◌+◌}
-use Rattle.tile_codes.proofs.Loops.{half_is, plane-sum}
+use Rattle.tile_codes.proofs.Loops.{half_is, plane_sum}
 use Rattle.tile_codes.proofs.plane_byte.Statement.{statement}
 use Rattle.tile_codes.proofs.plane_byte.Tie as tie
 
@@ -42,7 +42,7 @@ add-result c = search rules
 returns : tie.Need-returns
 returns c =
     let a = c.before.before.before.args in
-    plane-sum a.codes.now a.from a.plane (c.before.code-at.ensures.0 ∙ half_is a.codes.now a.from a.plane)
+    plane_sum a.codes.now a.from a.plane (c.before.code_at_lem.ensures.0 ∙ half_is a.codes.now a.from a.plane)
     (c.code-at2.ensures.0 ∙ half_is a.codes.now (a.from + 4) a.plane)
 
 pub plane-byte-spec : {M : Type 1} → statement M

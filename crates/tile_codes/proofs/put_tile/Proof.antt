@@ -6,14 +6,14 @@ use native.Mathlib.Omega.{arith}
 use lib.ListN.{length, length-set}
 use lib.Seq.{paste, paste-zero}
 use Rattle.laws.specs.Lists.{at}
-use Rattle.laws.proofs.Lists.{fill_step, written-whole}
-use Rattle.tile_codes.specs.Tiles.{tileBytes}
-use Rattle.tile_codes.proofs.Loops.{tile-long, plane-is}
+use Rattle.laws.proofs.Lists.{fill_step, written_whole}
+use Rattle.tile_codes.specs.Tiles.{tile_bytes}
+use Rattle.tile_codes.proofs.Loops.{tile_long, plane_is}
 use Rattle.tile_codes.proofs.put_tile.Statement.{statement}
 use Rattle.tile_codes.proofs.put_tile.Tie as tie
 
 abbrev invariant-loop : tie.invariant-loop
-invariant-loop dst₀ to codes from j₀ dst j = (j ≤ 32) × (dst ≡ paste dst₀ to (tileBytes (λ k. at codes (from + k))) j) × (length dst ≡ length dst₀)
+invariant-loop dst₀ to codes from j₀ dst j = (j ≤ 32) × (dst ≡ paste dst₀ to (tile_bytes (λ k. at codes (from + k))) j) × (length dst ≡ length dst₀)
 
 abbrev decreases-loop : tie.decreases-loop
 decreases-loop dst₀ to codes from j₀ dst j = 32 - j
@@ -23,7 +23,7 @@ loop-holds c =
     let at-start = c.before.before in (
       omega arith,
       paste-zero at-start.args.dst.now at-start.args.to
-          (tileBytes (λ k. at at-start.args.codes.now (at-start.args.from + k))),
+          (tile_bytes (λ k. at at-start.args.codes.now (at-start.args.from + k))),
       refl,
     )
 
@@ -54,11 +54,11 @@ loop-again c =
     let at-start = at-loop.before.before.before in
     let a = at-start.args in
     let l = at-loop.loop in
-    let s = tileBytes (λ k. at a.codes.now (a.from + k)) in
-    let h : l.j < length s = omega (arith, tile-long (λ k. at a.codes.now (a.from + k))) in (
+    let s = tile_bytes (λ k. at a.codes.now (a.from + k)) in
+    let h : l.j < length s = omega (arith, tile_long (λ k. at a.codes.now (a.from + k))) in (
       omega arith,
       fill_step a.dst.now a.to s l.j (omega arith) h refl
-          (plane-is a.codes.now a.from l.j (omega arith) c.plane-byte.ensures) l.invariant.1,
+          (plane_is a.codes.now a.from l.j (omega arith) c.plane-byte.ensures) l.invariant.1,
       simp length-set l.invariant.2,
     )
 
@@ -70,9 +70,9 @@ returns c =
     let at-start = c.before.before.before.before in
     let a = at-start.args in
     let l = c.before.loop in
-    let s = tileBytes (λ k. at a.codes.now (a.from + k)) in
-    let e : l.j ≡ length s = omega (arith, tile-long (λ k. at a.codes.now (a.from + k))) in
-    l.invariant.1 ∙ written-whole a.dst.now a.to s e
+    let s = tile_bytes (λ k. at a.codes.now (a.from + k)) in
+    let e : l.j ≡ length s = omega (arith, tile_long (λ k. at a.codes.now (a.from + k))) in
+    l.invariant.1 ∙ written_whole a.dst.now a.to s e
 
 pub put-tile-spec : {M : Type 1} → statement M
 put-tile-spec =

@@ -7,14 +7,14 @@ use native.Mathlib.Omega.{arith}
 use borrow.Author.Tests.{not-true, not-false}
 use lib.ListN.{length}
 use Rattle.laws.specs.Lists.{written}
-use Rattle.tile_codes.specs.Sheet.{isSheet, sheetBytes}
-use Rattle.tile_codes.proofs.Sheets.{sheet-most, sheet-none, sheet-step, no_room, is-bad, bad-counted, is-good, good-counted}
+use Rattle.tile_codes.specs.Sheet.{is_sheet, sheet_bytes}
+use Rattle.tile_codes.proofs.Sheets.{sheet_most, sheet_none, sheet_step, no_room, is_bad, bad_counted, is_good, good_counted}
 use Rattle.tile_codes.proofs.sheet.Statement.{statement}
 use Rattle.tile_codes.proofs.sheet.Tie as tie
 
 abbrev invariant-loop : tie.invariant-loop
 invariant-loop input out₀ tiles n₀ out n =
-    (n ≤ tiles) × (out ≡ written out₀ 0 (sheetBytes n input)) × (length out ≡ length out₀) × (tiles ≡ length input / 64)
+    (n ≤ tiles) × (out ≡ written out₀ 0 (sheet_bytes n input)) × (length out ≡ length out₀) × (tiles ≡ length input / 64)
 
 abbrev decreases-loop : tie.decreases-loop
 decreases-loop input out₀ tiles n₀ out n = tiles - n
@@ -44,16 +44,16 @@ returns-2 c =
     let at-if1 = at-is-sheet.before in
     let at-start = at-if1.before.before.before in
     let a = at-start.args in
-    let bad = sym at-is-sheet.is-sheet.ensures ∙ not-true _ at-if2.if2.true in (
-      is-bad a.input.now a.out.now at-if1.if1.false bad at_copy.copy.ensures.0 at_copy.copy.ensures.1,
-      bad-counted
+    let bad = sym at-is-sheet.is_sheet_lem.ensures ∙ not-true _ at-if2.if2.true in (
+      is_bad a.input.now a.out.now at-if1.if1.false bad at_copy.copy.ensures.0 at_copy.copy.ensures.1,
+      bad_counted
           a.input.now a.out.now at-if1.if1.false at_copy.copy.ensures.0 at_copy.copy.ensures.1,
     )
 
 loop-holds : tie.Need-loop-init invariant-loop decreases-loop
 loop-holds c =
     let at-start = c.before.before.before.before.before in
-    (omega arith, sheet-none at-start.args.out.now at-start.args.input.now, refl, refl)
+    (omega arith, sheet_none at-start.args.out.now at-start.args.input.now, refl, refl)
 
 mul-put-tile : tie.Need-overflow-mul-put-tile invariant-loop decreases-loop
 mul-put-tile c = search rules
@@ -66,8 +66,8 @@ put-tile-requires c κs =
     let at-if2 = c.before.before.before in
     let at-is-sheet = at-if2.before in
     let at-start = at-is-sheet.before.before.before.before in
-    let good : isSheet at-start.args.input.now ≡ true = sym at-is-sheet.is-sheet.ensures ∙ not-false _ at-if2.if2.false in
-    let most = sheet-most at-start.args.input.now good in
+    let good : is_sheet at-start.args.input.now ≡ true = sym at-is-sheet.is_sheet_lem.ensures ∙ not-false _ at-if2.if2.false in
+    let most = sheet_most at-start.args.input.now good in
     (omega arith, omega arith)
 
 add-n : tie.Need-overflow-add-n invariant-loop decreases-loop
@@ -85,9 +85,9 @@ loop-again c =
     let at-start = at-is-sheet.before.before.before.before in
     let a = at-start.args in
     let l = at-loop.loop in
-    let good : isSheet a.input.now ≡ true = sym at-is-sheet.is-sheet.ensures ∙ not-false _ at-if2.if2.false in
-    let most = sheet-most a.input.now good in
-    (omega arith, sheet-step a.out.now a.input.now l.n (omega arith) l.invariant.1 at-put-tile.put-tile.ensures, omega arith, l.invariant.3)
+    let good : is_sheet a.input.now ≡ true = sym at-is-sheet.is_sheet_lem.ensures ∙ not-false _ at-if2.if2.false in
+    let most = sheet_most a.input.now good in
+    (omega arith, sheet_step a.out.now a.input.now l.n (omega arith) l.invariant.1 at-put-tile.put-tile.ensures, omega arith, l.invariant.3)
 
 mul-result : tie.Need-overflow-mul-result invariant-loop decreases-loop
 mul-result c = search rules
@@ -103,10 +103,10 @@ returns-3 c =
     let at-start = at-if1.before.before.before in
     let a = at-start.args in
     let l = c.before.loop in
-    let good : isSheet a.input.now ≡ true = sym at-is-sheet.is-sheet.ensures ∙ not-false _ at-if2.if2.false in
+    let good : is_sheet a.input.now ≡ true = sym at-is-sheet.is_sheet_lem.ensures ∙ not-false _ at-if2.if2.false in
     let all : l.n ≡ length a.input.now / 64 = omega arith in (
-      is-good a.input.now a.out.now at-if1.if1.false good all refl l.invariant.1,
-      good-counted a.input.now a.out.now
+      is_good a.input.now a.out.now at-if1.if1.false good all refl l.invariant.1,
+      good_counted a.input.now a.out.now
           at-if1.if1.false good all refl l.invariant.1,
     )
 

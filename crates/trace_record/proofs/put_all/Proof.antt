@@ -5,7 +5,7 @@ use mathlib.Core.Path.{◌≡◌, refl, ◌∙◌}
 use native.Mathlib.Omega.{arith}
 use lib.ListN.{length, length-set}
 use lib.Seq.{paste, paste-zero}
-use Rattle.laws.proofs.Lists.{fill_step, written-whole}
+use Rattle.laws.proofs.Lists.{fill_step, written_whole}
 use Rattle.trace_record.proofs.put_all.Statement.{statement}
 use Rattle.trace_record.proofs.put_all.Tie as tie
 
@@ -55,7 +55,7 @@ returns c =
     let l = c.before.loop in
     let a = at-start.args in
     let e : l.i ≡ length a.src.now = omega arith in
-    (omega arith, l.invariant.1 ∙ written-whole a.out.now a.at a.src.now e)
+    (omega arith, l.invariant.1 ∙ written_whole a.out.now a.at a.src.now e)
 
 pub put-all-spec : {M : Type 1} → statement M
 put-all-spec =

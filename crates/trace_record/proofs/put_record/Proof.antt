@@ -2,7 +2,7 @@
 use borrow.Author.Rules.{rules}
 use native.Mathlib.Omega.{arith}
 use borrow.Author.Tests.{not-true, not-false}
-use Rattle.trace_record.proofs.Records.{bytes_count, room_for, left-full, left-stored}
+use Rattle.trace_record.proofs.Records.{bytes_count, room_for, left_full, left_stored}
 use Rattle.trace_record.proofs.put_record.Statement.{statement}
 use Rattle.trace_record.proofs.put_record.Tie as tie
 
@@ -19,7 +19,7 @@ returns : tie.Need-returns
 returns c =
     let at-size-of = c.before.before in
     let at-start = at-size-of.before.before in (
-      left-full at-start.args.recording.now at-start.args.used at-start.args.call at-size-of.type_size.ensures.0 c.before.has_room.ensures
+      left_full at-start.args.recording.now at-start.args.used at-start.args.call at-size-of.type_size.ensures.0 c.before.has_room.ensures
           (not-true c.before.has_room.result c.if1.true),
       omega arith,
     )
@@ -61,7 +61,7 @@ returns-2 c =
     let at-has-room = at-if1.before in
     let at-size-of = at-has-room.before in
     let at-start = at-size-of.before.before in (
-      left-stored at-start.args.recording.now at-start.args.used at-start.args.call at-size-of.type_size.ensures.0
+      left_stored at-start.args.recording.now at-start.args.used at-start.args.call at-size-of.type_size.ensures.0
           at-has-room.has_room.ensures (not-false at-has-room.has_room.result at-if1.if1.false) at-bytes-of.bytes_of.result
           at-bytes-of.bytes_of.ensures at-put-all.put_all_lem.ensures.1,
       at-size-of.type_size.ensures.1,

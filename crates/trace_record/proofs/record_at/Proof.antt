@@ -5,19 +5,19 @@ use native.Mathlib.Omega.{arith}
 use mathlib.Core.Path.{◌≡◌}
 use Prim.Native.Nat.{◌+◌, ◌*◌}
 use Rattle.laws.specs.Lists.{at}
-use Rattle.trace_record.specs.Record.{recordAt}
+use Rattle.trace_record.specs.Record.{record_at}
 use Rattle.trace_record.proofs.record_at.Statement.{statement}
 use Rattle.trace_record.proofs.record_at.Tie as tie
 
 returns : tie.Need-returns
-unfolding recordAt
+unfolding record_at
 returns c = rw (le-leb _ _ c.if1.true)
 
 sub-left : tie.Need-overflow-sub-left
 sub-left c = omega arith
 
 returns-2 : tie.Need-returns-2
-unfolding recordAt
+unfolding record_at
 returns-2 c = rw (lt-leb _ _ c.before.if1.false, lt-ltb _ _ c.if2.true)
 
 add-word : tie.Need-overflow-add-word
@@ -36,7 +36,7 @@ record-marked-requires : tie.Need-record-marked-requires
 record-marked-requires c κs = (omega arith, omega arith)
 
 returns-3 : tie.Need-returns-3
-unfolding recordAt
+unfolding record_at
 returns-3 c =
     let at-if2 = c.before.before.before.before in
     let at-if1 = at-if2.before in

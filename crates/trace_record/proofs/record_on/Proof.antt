@@ -1,6 +1,6 @@
 -- `trace_record::record_on` meets its contract: the record at this offset, as the machine takes it.
 use borrow.Author.Rules.{rules}
-use Rattle.trace_record.proofs.Machines.{no_step, by-area}
+use Rattle.trace_record.proofs.Machines.{no_step, by_area}
 use Rattle.trace_record.proofs.record_on.Statement.{statement}
 use Rattle.trace_record.proofs.record_on.Tie as tie
 
@@ -23,7 +23,7 @@ returns-2 c =
     let at-record = c.before.before.before in
     let at-record-at = at-record.before.before in
     let at-start = at-record-at.before.before in
-    by-area at-start.args.machine at-start.args.s.now at-start.args.at at-record-at.record-at.ensures at-record.«record».given.1
+    by_area at-start.args.machine at-start.args.s.now at-start.args.at at-record-at.record-at.ensures at-record.«record».given.1
     c.before.has-area.ensures c.if1.true
 
 returns-3 : tie.Need-returns-3
@@ -31,7 +31,7 @@ returns-3 c =
     let at-record = c.before.before.before in
     let at-record-at = at-record.before.before in
     let at-start = at-record-at.before.before in
-    by-area at-start.args.machine at-start.args.s.now at-start.args.at at-record-at.record-at.ensures at-record.«record».given.1
+    by_area at-start.args.machine at-start.args.s.now at-start.args.at at-record-at.record-at.ensures at-record.«record».given.1
     c.before.has-area.ensures c.if1.false
 
 pub record-on-spec : {M : Type 1} → statement M

@@ -2,7 +2,7 @@
 use borrow.Author.Rules.{rules}
 use mathlib.Core.Path.{sym, ◌∙◌}
 use Rattle.trace_run.specs.Run.{held}
-use Rattle.trace_run.proofs.Turns.{handheld-frame, home-frame, frame-stepped}
+use Rattle.trace_run.proofs.Turns.{handheld_frame, home_frame, frame_stepped}
 use Rattle.trace_run.proofs.frame_step_turn.Statement.{statement}
 use Rattle.trace_run.proofs.frame_step_turn.Tie as tie
 
@@ -28,8 +28,8 @@ returns c =
     let at-machine-of = at-enum-told.before.before in
     let at-start = at-machine-of.before.before.before in
     let a = at-start.args in
-    λ f. frame-stepped a.area (held a.run a.vram.now f a.frame.now) c.handheld-stepped.ensures
-    (handheld-frame a.area a.run.device a.vram.now (sym at-machine-of.machine-of.ensures ∙ at-enum-told.enum_told.given.1)
+    λ f. frame_stepped a.area (held a.run a.vram.now f a.frame.now) c.handheld-stepped.ensures
+    (handheld_frame a.area a.run.device a.vram.now (sym at-machine-of.machine-of.ensures ∙ at-enum-told.enum_told.given.1)
     at-frame-step.frame_step.ensures)
 
 enum-told-2 : tie.Need-enum-told-2
@@ -51,8 +51,8 @@ returns-2 c =
     let at-machine-of = at-enum-told2.before.before in
     let at-start = at-machine-of.before.before.before in
     let a = at-start.args in
-    λ f. frame-stepped a.area (held a.run a.vram.now f a.frame.now) c.home-stepped.ensures
-    (home-frame a.area a.run.device a.vram.now (sym at-machine-of.machine-of.ensures ∙ at-enum-told2.enum-told2.given.1)
+    λ f. frame_stepped a.area (held a.run a.vram.now f a.frame.now) c.home-stepped.ensures
+    (home_frame a.area a.run.device a.vram.now (sym at-machine-of.machine-of.ensures ∙ at-enum-told2.enum-told2.given.1)
     at-frame-step2.frame-step2.ensures)
 
 pub frame-step-turn-spec : {M : Type 1} → statement M

@@ -2,16 +2,16 @@
 use borrow.Author.Rules.{rules}
 use native.Mathlib.Omega.{arith}
 use borrow.Author.Tests.{eq-eqb, ne_eqb}
-use Rattle.trace_run.specs.Run.{layerColour}
+use Rattle.trace_run.specs.Run.{layer_colour}
 use Rattle.trace_run.proofs.layer_colour.Statement.{statement}
 use Rattle.trace_run.proofs.layer_colour.Tie as tie
 
 returns : tie.Need-returns
-unfolding layerColour
+unfolding layer_colour
 returns c = rw (eq-eqb _ _ c.if1.true)
 
 returns-2 : tie.Need-returns-2
-unfolding layerColour
+unfolding layer_colour
 returns-2 c = rw (ne_eqb _ _ c.before.if1.false, eq-eqb _ _ c.if2.true)
 
 sprite-of-requires : tie.Need-sprite-of-requires
@@ -36,7 +36,7 @@ add-result-2 : tie.Need-overflow-add-result-2
 add-result-2 c = search rules
 
 returns-3 : tie.Need-returns-3
-unfolding layerColour
+unfolding layer_colour
 returns-3 c =
     let at-if1 = c.before.before in
     rw (ne_eqb _ _ at-if1.if1.false, ne_eqb _ _ c.before.if2.false, c.sprite-of.ensures) (omega arith)

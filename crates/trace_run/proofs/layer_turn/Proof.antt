@@ -4,7 +4,7 @@ use mathlib.Core.Path.{refl, sym, ap, ◌∙◌}
 use lib.ListN.{replicate}
 use Rattle.step.specs.declared.Stepped.{Stepped}
 use Rattle.trace_run.specs.Run.{held}
-use Rattle.trace_run.proofs.Turns.{row_told, layer-stepped, no-layers}
+use Rattle.trace_run.proofs.Turns.{row_told, layer_stepped, no_layers}
 use Rattle.trace_run.proofs.layer_turn.Statement.{statement}
 use Rattle.trace_run.proofs.layer_turn.Tie as tie
 
@@ -27,7 +27,7 @@ paint-layers-requires c κs =
     let a = at-start.args in (
       at-start.requires.2,
       row_told a.area at-start.requires.3 a.vram.now a.run.device.vdp a.frame.now (replicate 160 0) refl _
-          (ap (λ (x : Stepped). x.row) at-layer-row-step.layer-row-step.ensures.answer),
+          (ap (λ (x : Stepped). x.row) at-layer-row-step.layer_row_step_lem.ensures.answer),
     )
 
 handheld-stepped-requires : tie.Need-handheld-stepped-requires
@@ -47,8 +47,8 @@ returns c =
     let at-machine-of = at-enum-told.before.before in
     let at-start = at-machine-of.before.before.before.before in
     let a = at-start.args in
-    layer-stepped a.area at-start.requires.3 (held a.run a.vram.now a.row.now a.frame.now) (replicate 160 0) refl
-    (sym at-machine-of.machine-of.ensures ∙ at-enum-told.enum_told.given.1) at-layer-row-step.layer-row-step.ensures
+    layer_stepped a.area at-start.requires.3 (held a.run a.vram.now a.row.now a.frame.now) (replicate 160 0) refl
+    (sym at-machine-of.machine-of.ensures ∙ at-enum-told.enum_told.given.1) at-layer-row-step.layer_row_step_lem.ensures
     at-paint-layers.paint-layers.ensures
     c.handheld-stepped.ensures
 
@@ -68,7 +68,7 @@ returns-2 c =
     let at-machine-of = at-enum-told2.before.before in
     let at-start = at-machine-of.before.before.before.before in
     let a = at-start.args in
-    no-layers a.area (held a.run a.vram.now a.row.now a.frame.now)
+    no_layers a.area (held a.run a.vram.now a.row.now a.frame.now)
     (sym at-machine-of.machine-of.ensures ∙ at-enum-told2.enum-told2.given.1) (at-row-step-turn.row-step-turn.ensures a.frame.now)
 
 pub layer-turn-spec : {M : Type 1} → statement M

@@ -6,14 +6,14 @@ use Prim.Native.Nat.{◌-◌, ◌*◌, ◌≤◌}
 use lib.ListN.{length}
 use Rattle.laws.specs.Lists.{at}
 use Rattle.laws.specs.Paint.{painted}
-use Rattle.laws.proofs.Paint.{painted-step}
-use Rattle.trace_run.specs.Run.{layerColour}
+use Rattle.laws.proofs.Paint.{painted_step}
+use Rattle.trace_run.specs.Run.{layer_colour}
 use Rattle.trace_run.proofs.paint_layers.Statement.{statement}
 use Rattle.trace_run.proofs.paint_layers.Tie as tie
 
 abbrev invariant-loop : tie.invariant-loop
 invariant-loop frame₀ layers y first x₀ frame x =
-    (x ≤ 160) × (frame ≡ painted frame₀ first x (λ k. layerColour (at layers k))) × (length frame ≡ length frame₀)
+    (x ≤ 160) × (frame ≡ painted frame₀ first x (λ k. layer_colour (at layers k))) × (length frame ≡ length frame₀)
 
 abbrev decreases-loop : tie.decreases-loop
 decreases-loop frame₀ layers y first x₀ frame x = 160 - x
@@ -66,7 +66,7 @@ loop-again c =
     let at-layer-colour = at-pixel-set-full.before in
     let at-loop = at-layer-colour.before.before.before.before in
     let v = at-loop.loop.invariant in
-    (omega arith, painted-step _ _ _ _ v.1 at-layer-colour.layer-colour.ensures at-pixel-set-full.pixel-set-full.ensures, omega arith)
+    (omega arith, painted_step _ _ _ _ v.1 at-layer-colour.layer-colour.ensures at-pixel-set-full.pixel-set-full.ensures, omega arith)
 
 same_length : tie.Need-same-length invariant-loop decreases-loop
 same_length c = search rules

@@ -1,8 +1,8 @@
 -- `trace_run::read_turn` meets its contract: a turn that reads a port.
 use borrow.Author.Rules.{rules}
 use mathlib.Core.Path.{sym, ap, ◌∙◌}
-use Rattle.trace_run.specs.Run.{readTurned}
-use Rattle.trace_run.proofs.Turns.{handheld-gave, home-gave}
+use Rattle.trace_run.specs.Run.{read_turned}
+use Rattle.trace_run.proofs.Turns.{handheld_gave, home_gave}
 use Rattle.trace_run.proofs.read_turn.Statement.{statement}
 use Rattle.trace_run.proofs.read_turn.Tie as tie
 
@@ -30,7 +30,7 @@ returns c =
     let at-start = at-machine-of.before.before in
     let a = at-start.args in
     rw at-number.refusal-number.ensures.0 at c.handheld-turned.ensures
-    ∙ ap (readTurned a.run) (handheld-gave a.run.device a.vram.now a.port
+    ∙ ap (read_turned a.run) (handheld_gave a.run.device a.vram.now a.port
     (sym at-machine-of.machine-of.ensures ∙ at-enum-told.enum_told.given.1) at-input.input.ensures)
 
 enum-told-2 : tie.Need-enum-told-2
@@ -54,7 +54,7 @@ returns-2 c =
     let at-start = at-machine-of.before.before in
     let a = at-start.args in
     rw at-number2.refusal-number2.ensures.0 at c.home-turned.ensures
-    ∙ ap (readTurned a.run) (home-gave a.run.device a.vram.now a.port
+    ∙ ap (read_turned a.run) (home_gave a.run.device a.vram.now a.port
     (sym at-machine-of.machine-of.ensures ∙ at-enum-told2.enum-told2.given.1) at-input2.input2.ensures)
 
 pub read-turn-spec : {M : Type 1} → statement M

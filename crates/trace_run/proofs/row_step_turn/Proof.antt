@@ -2,7 +2,7 @@
 use borrow.Author.Rules.{rules}
 use mathlib.Core.Path.{sym, ◌∙◌}
 use Rattle.trace_run.specs.Run.{held}
-use Rattle.trace_run.proofs.Turns.{handheld-row, home-row, row-stepped}
+use Rattle.trace_run.proofs.Turns.{handheld_row, home_row_lem, row_stepped}
 use Rattle.trace_run.proofs.row_step_turn.Statement.{statement}
 use Rattle.trace_run.proofs.row_step_turn.Tie as tie
 
@@ -28,8 +28,8 @@ returns c =
     let at-machine-of = at-enum-told.before.before in
     let at-start = at-machine-of.before.before.before in
     let a = at-start.args in
-    λ f. row-stepped a.area (held a.run a.vram.now a.row.now f) c.handheld-stepped.ensures
-    (handheld-row a.area a.run.device a.vram.now (sym at-machine-of.machine-of.ensures ∙ at-enum-told.enum_told.given.1)
+    λ f. row_stepped a.area (held a.run a.vram.now a.row.now f) c.handheld-stepped.ensures
+    (handheld_row a.area a.run.device a.vram.now (sym at-machine-of.machine-of.ensures ∙ at-enum-told.enum_told.given.1)
     at-row-step.row_step.ensures)
 
 enum-told-2 : tie.Need-enum-told-2
@@ -51,8 +51,8 @@ returns-2 c =
     let at-machine-of = at-enum-told2.before.before in
     let at-start = at-machine-of.before.before.before in
     let a = at-start.args in
-    λ f. row-stepped a.area (held a.run a.vram.now a.row.now f) c.home-stepped.ensures
-    (home-row a.area a.run.device a.vram.now (sym at-machine-of.machine-of.ensures ∙ at-enum-told2.enum-told2.given.1)
+    λ f. row_stepped a.area (held a.run a.vram.now a.row.now f) c.home-stepped.ensures
+    (home_row_lem a.area a.run.device a.vram.now (sym at-machine-of.machine-of.ensures ∙ at-enum-told2.enum-told2.given.1)
     at-row-step2.row-step2.ensures)
 
 pub row-step-turn-spec : {M : Type 1} → statement M

@@ -3,7 +3,7 @@ use borrow.Author.Rules.{rules}
 use mathlib.Core.Path.{sym, ◌∙◌}
 use lib.ListN.{length}
 use Rattle.trace_run.specs.Run.{held}
-use Rattle.trace_run.proofs.Turns.{as_wide, as_long, shown-stepped}
+use Rattle.trace_run.proofs.Turns.{as_wide, as_long, shown_stepped}
 use Rattle.trace_run.proofs.step_turn.Statement.{statement}
 use Rattle.trace_run.proofs.step_turn.Tie as tie
 
@@ -26,7 +26,7 @@ returns c =
     let at-shown-of = at-enum-told.before.before in
     let at-start = at-shown-of.before.before.before.before in
     let a = at-start.args in
-    shown-stepped a.shown a.area (held a.run a.vram.now a.row.now a.frame.now)
+    shown_stepped a.shown a.area (held a.run a.vram.now a.row.now a.frame.now)
     (sym at-enum-told.enum_told.given.1 ∙ at-shown-of.Shown-of.ensures) (at-row-step-turn.row-step-turn.ensures a.frame.now)
 
 enum-told-2 : tie.Need-enum-told-2
@@ -45,7 +45,7 @@ returns-2 c =
     let at-shown-of = at-enum-told2.before.before in
     let at-start = at-shown-of.before.before.before.before in
     let a = at-start.args in
-    shown-stepped a.shown a.area (held a.run a.vram.now a.row.now a.frame.now)
+    shown_stepped a.shown a.area (held a.run a.vram.now a.row.now a.frame.now)
     (sym at-enum-told2.enum-told2.given.1 ∙ at-shown-of.Shown-of.ensures) (at-frame-step-turn.frame-step-turn.ensures a.row.now)
 
 enum-told-3 : tie.Need-enum-told-3
@@ -77,7 +77,7 @@ returns-3 c =
     let at-shown-of = at-enum-told3.before.before in
     let at-start = at-shown-of.before.before.before.before in
     let a = at-start.args in
-    shown-stepped a.shown a.area (held a.run a.vram.now a.row.now a.frame.now)
+    shown_stepped a.shown a.area (held a.run a.vram.now a.row.now a.frame.now)
     (sym at-enum-told3.enum-told3.given.1 ∙ at-shown-of.Shown-of.ensures) at-layer-turn.layer-turn.ensures
 
 pub step-turn-spec : {M : Type 1} → statement M

@@ -1,7 +1,7 @@
 -- `trace_run::turn` meets its contract: the record at the run's place.
 use borrow.Author.Rules.{rules}
-use Rattle.trace_run.specs.Run.{held, turnFor}
-use Rattle.trace_run.proofs.Turns.{at-write, at_read, at-step, at-bad, at-end}
+use Rattle.trace_run.specs.Run.{held, turn_for}
+use Rattle.trace_run.proofs.Turns.{at_write, at_read, at_step, at_bad, at_end_lem}
 use Rattle.trace_run.proofs.turn.Statement.{statement}
 use Rattle.trace_run.proofs.turn.Tie as tie
 
@@ -30,7 +30,7 @@ returns c =
     let a = at-start.args in
     let e = rw at-machine-of.machine-of.ensures at at-record-on.record-on.ensures in
     let w = held a.run a.vram.now a.row.now a.frame.now in
-    at-write (turnFor a.shown) a.input.now w e at-port.port.given.1 at-write-turn.write-turn.ensures.0 at-write-turn.write-turn.ensures.1
+    at_write (turn_for a.shown) a.input.now w e at-port.port.given.1 at-write-turn.write-turn.ensures.0 at-write-turn.write-turn.ensures.1
 
 enum-known-port-2 : tie.Need-enum-known-port-2
 enum-known-port-2 c = search rules
@@ -50,7 +50,7 @@ returns-2 c =
     let a = at-start.args in
     let e = rw at-machine-of.machine-of.ensures at at-record-on.record-on.ensures in
     let w = held a.run a.vram.now a.row.now a.frame.now in
-    at_read (turnFor a.shown) a.input.now w e at-port2.port2.given.1 c.read-turn.ensures
+    at_read (turn_for a.shown) a.input.now w e at-port2.port2.given.1 c.read_turn.ensures
 
 enum-known-area : tie.Need-enum-known-area
 enum-known-area c = search rules
@@ -77,7 +77,7 @@ returns-3 c =
     let a = at-start.args in
     let e = rw at-machine-of.machine-of.ensures at at-record-on.record-on.ensures in
     let w = held a.run a.vram.now a.row.now a.frame.now in
-    at-step (turnFor a.shown) a.input.now w e at-area.area.given.1 at-step-turn.step-turn.ensures
+    at_step (turn_for a.shown) a.input.now w e at-area.area.given.1 at-step-turn.step_turn.ensures
 
 enum_told : tie.Need-enum-told
 enum_told c = search rules
@@ -94,7 +94,7 @@ returns-4 c =
     let a = at-start.args in
     let e = rw at-machine-of.machine-of.ensures at at-record-on.record-on.ensures in
     let w = held a.run a.vram.now a.row.now a.frame.now in
-    rw c.none.ensures (at-bad (turnFor a.shown) a.input.now w e at-enum-told.enum_told.given.1)
+    rw c.none.ensures (at_bad (turn_for a.shown) a.input.now w e at-enum-told.enum_told.given.1)
 
 enum-told-2 : tie.Need-enum-told-2
 enum-told-2 c = search rules
@@ -111,7 +111,7 @@ returns-5 c =
     let a = at-start.args in
     let e = rw at-machine-of.machine-of.ensures at at-record-on.record-on.ensures in
     let w = held a.run a.vram.now a.row.now a.frame.now in
-    rw c.none2.ensures (at-end (turnFor a.shown) a.input.now w e at-enum-told2.enum-told2.given.1)
+    rw c.none2.ensures (at_end_lem (turn_for a.shown) a.input.now w e at-enum-told2.enum-told2.given.1)
 
 pub turn_spec : {M : Type 1} → statement M
 turn_spec =

@@ -2,8 +2,8 @@
 use borrow.Author.Rules.{rules}
 use mathlib.Core.Path.{sym, ap, ◌∙◌}
 use Rattle.trace_run.specs.Device.{AfterWrite}
-use Rattle.trace_run.specs.Run.{writeTurned}
-use Rattle.trace_run.proofs.Turns.{handheld-wrote, home-wrote}
+use Rattle.trace_run.specs.Run.{write_turned}
+use Rattle.trace_run.proofs.Turns.{handheld_wrote, home_wrote}
 use Rattle.trace_run.proofs.write_turn.Statement.{statement}
 use Rattle.trace_run.proofs.write_turn.Tie as tie
 
@@ -33,9 +33,9 @@ returns c =
     let at-machine-of = at-enum-told.before.before in
     let at-start = at-machine-of.before.before in
     let a = at-start.args in
-    let g = handheld-wrote a.run.device a.vram.now a.port a.value (sym at-machine-of.machine-of.ensures ∙ at-enum-told.enum_told.given.1)
+    let g = handheld_wrote a.run.device a.vram.now a.port a.value (sym at-machine-of.machine-of.ensures ∙ at-enum-told.enum_told.given.1)
     at_out.out.ensures in
-    (rw at-number.refusal-number.ensures.0 at c.handheld-turned.ensures ∙ ap (writeTurned a.run) g, ap (λ (x : AfterWrite). x.vram) g)
+    (rw at-number.refusal-number.ensures.0 at c.handheld-turned.ensures ∙ ap (write_turned a.run) g, ap (λ (x : AfterWrite). x.vram) g)
 
 enum-told-2 : tie.Need-enum-told-2
 enum-told-2 c = search rules
@@ -60,9 +60,9 @@ returns-2 c =
     let at-machine-of = at-enum-told2.before.before in
     let at-start = at-machine-of.before.before in
     let a = at-start.args in
-    let g = home-wrote a.run.device a.vram.now a.port a.value (sym at-machine-of.machine-of.ensures ∙ at-enum-told2.enum-told2.given.1)
+    let g = home_wrote a.run.device a.vram.now a.port a.value (sym at-machine-of.machine-of.ensures ∙ at-enum-told2.enum-told2.given.1)
     at-out2.out2.ensures in
-    (rw at-number2.refusal-number2.ensures.0 at c.home-turned.ensures ∙ ap (writeTurned a.run) g, ap (λ (x : AfterWrite). x.vram) g)
+    (rw at-number2.refusal-number2.ensures.0 at c.home-turned.ensures ∙ ap (write_turned a.run) g, ap (λ (x : AfterWrite). x.vram) g)
 
 pub write-turn-spec : {M : Type 1} → statement M
 write-turn-spec =

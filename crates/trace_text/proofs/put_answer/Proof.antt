@@ -2,7 +2,7 @@
 use borrow.Author.Rules.{rules}
 use mathlib.Core.Path.{refl}
 use Rattle.trace_text.specs.Text.{line_of}
-use Rattle.trace_text.proofs.Lines.{line-done, no_line}
+use Rattle.trace_text.proofs.Lines.{line_done, no_line}
 use Rattle.trace_text.proofs.put_answer.Statement.{statement}
 use Rattle.trace_text.proofs.put_answer.Tie as tie
 
@@ -39,7 +39,7 @@ returns c =
     let at-put-line = c.before.before in
     let at-answer = at-put-line.before.before.before.before in
     let at-start = at-answer.before.before.before in
-    line-done at-start.args.out.now at-start.args.at at-answer.answer.given.1 refl at-put-line.put-line.ensures
+    line_done at-start.args.out.now at-start.args.at at-answer.answer.given.1 refl at-put-line.put-line.ensures
 
 same-length-2 : tie.Need-same-length-2
 same-length-2 c = search rules
@@ -49,7 +49,7 @@ returns-2 c =
     let at-put-read = c.before.before in
     let at-answer2 = at-put-read.before.before.before in
     let at-start = at-answer2.before.before.before in
-    line-done at-start.args.out.now at-start.args.at at-answer2.answer2.given.1 refl at-put-read.put-read.ensures
+    line_done at-start.args.out.now at-start.args.at at-answer2.answer2.given.1 refl at-put-read.put-read.ensures
 
 same-length-3 : tie.Need-same-length-3
 same-length-3 c = search rules
@@ -59,7 +59,7 @@ returns-3 c =
     let at-put-step = c.before.before in
     let at-answer3 = at-put-step.before.before.before in
     let at-start = at-answer3.before.before.before in
-    line-done at-start.args.out.now at-start.args.at at-answer3.answer3.given.1 refl at-put-step.put_step.ensures
+    line_done at-start.args.out.now at-start.args.at at-answer3.answer3.given.1 refl at-put-step.put_step.ensures
 
 returns-4 : tie.Need-returns-4
 returns-4 c =

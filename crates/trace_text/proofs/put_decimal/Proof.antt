@@ -5,7 +5,7 @@ use mathlib.Core.List.{List}
 use Prim.Native.Nat.{ℕ, ◌-◌}
 use lib.ListN.{take, drop}
 use Rattle.trace_text.specs.Text.{decimal}
-use Rattle.trace_text.proofs.Lines.{printed, decimal-short, put_as}
+use Rattle.trace_text.proofs.Lines.{printed, decimal_short, put_as}
 use Rattle.trace_text.proofs.put_decimal.Statement.{statement}
 use Rattle.trace_text.proofs.put_decimal.Tie as tie
 
@@ -40,7 +40,7 @@ returns c =
     let e : take (5 - k) (drop k at-five-digits.five-digits.result) ≡ decimal a.n =
     ap (λ (l : List ℕ). take (5 - k) (drop k l)) at-five-digits.five-digits.ensures ∙ printed a.n k at-unprinted.unprinted.ensures in
     let p = put_as a.out.now a.at e at-put-all.put_all_lem.ensures in
-    ((p.0, decimal-short a.n), p.1)
+    ((p.0, decimal_short a.n), p.1)
 
 pub put-decimal-spec : {M : Type 1} → statement M
 put-decimal-spec =

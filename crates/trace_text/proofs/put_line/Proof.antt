@@ -5,7 +5,7 @@ use mathlib.Core.List.{[], ◌∷◌}
 use Prim.Native.Nat.{◌+◌, ◌≤◌}
 use lib.ListN.{length}
 use Rattle.trace_text.specs.Text.{decimal}
-use Rattle.trace_text.proofs.Lines.{three-writes}
+use Rattle.trace_text.proofs.Lines.{three_writes}
 use Rattle.trace_text.proofs.put_line.Statement.{statement}
 use Rattle.trace_text.proofs.put_line.Tie as tie
 
@@ -36,7 +36,7 @@ returns c =
     let d = at-put-decimal.put-decimal.ensures in
     let q = at-put-all2.put-all2.ensures in
     let h : a.at + 2 + length (decimal n) + length a.rest.now ≤ length a.out.now = omega (arith, d.0.1, at-start.requires) in
-    three-writes a.out.now a.at (a.letter ∷ 0x20 ∷ []) (decimal n) a.rest.now h p.1 p.0 d.1 d.0.0 q.1 q.0
+    three_writes a.out.now a.at (a.letter ∷ 0x20 ∷ []) (decimal n) a.rest.now h p.1 p.0 d.1 d.0.0 q.1 q.0
 
 pub put-line-spec : {M : Type 1} → statement M
 put-line-spec =

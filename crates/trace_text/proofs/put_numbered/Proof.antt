@@ -5,7 +5,7 @@ use Prim.Native.Nat.{◌+◌, ◌≤◌}
 use native.Mathlib.Omega.{arith}
 use lib.ListN.{length}
 use Rattle.trace_text.specs.Text.{decimal}
-use Rattle.trace_text.proofs.Lines.{three-writes}
+use Rattle.trace_text.proofs.Lines.{three_writes}
 use Rattle.trace_text.proofs.put_numbered.Statement.{statement}
 use Rattle.trace_text.proofs.put_numbered.Tie as tie
 
@@ -35,7 +35,7 @@ returns c =
     let d = at-put-decimal.put-decimal.ensures in
     let q = at-put-all2.put-all2.ensures in
     let h : a.at + length a.word.now + length (decimal a.n) + 1 ≤ length a.out.now = omega (arith, d.0.1, at-start.requires) in
-    three-writes a.out.now a.at a.word.now (decimal a.n) (0x0A ∷ []) h p.1 p.0 d.1 d.0.0 q.1 q.0
+    three_writes a.out.now a.at a.word.now (decimal a.n) (0x0A ∷ []) h p.1 p.0 d.1 d.0.0 q.1 q.0
 
 pub put-numbered-spec : {M : Type 1} → statement M
 put-numbered-spec =

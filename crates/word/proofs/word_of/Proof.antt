@@ -1,6 +1,6 @@
 -- `word::word_of` meets its contract: the word of a step.
 use borrow.Author.Rules.{rules}
-use Rattle.word.specs.Word.{answerWord}
+use Rattle.word.specs.Word.{answer_word}
 use Rattle.word.proofs.word_of.Statement.{statement}
 use Rattle.word.proofs.word_of.Tie as tie
 
@@ -32,7 +32,7 @@ add-result-3 : tie.Need-overflow-add-result-3
 add-result-3 c = search rules
 
 returns : tie.Need-returns
-unfolding answerWord
+unfolding answer_word
 returns c =
     let at-interrupt-number = c.before.before in
     let at-number = at-interrupt-number.before in

@@ -5,7 +5,7 @@ use Prim.Native.Nat.{ℕ}
 use native.Mathlib.Omega.{arith}
 use borrow.Author.Tests.{eq-eqb, ne_eqb}
 use Rattle.home_block.specs.HomeBlock.{state_of}
-use Rattle.colour.specs.Home.{homeColoursOf}
+use Rattle.colour.specs.Home.{home_colours_of}
 use Rattle.face.proofs.home_calls.colours_of.Statement.{statement}
 use Rattle.face.proofs.home_calls.colours_of.Tie as tie
 
@@ -31,7 +31,7 @@ returns-2 : tie.Need-returns-2
 unfolding state_of
 returns-2 c =
     let at-if1 = c.before.before in
-    λ y e. rw (eq-eqb _ _ at-if1.if1.true) (c.home-palette-recompute.ensures ∙ ap homeColoursOf c.before.palette-in.ensures)
+    λ y e. rw (eq-eqb _ _ at-if1.if1.true) (c.home-palette-recompute.ensures ∙ ap home_colours_of c.before.palette-in.ensures)
 
 cache-in-requires : tie.Need-cache-in-requires
 cache-in-requires c κs = search rules

@@ -2,7 +2,7 @@
 use borrow.Author.Rules.{rules}
 use mathlib.Core.Path.{◌∙◌}
 use borrow.Author.Tests.{not-true, not-false}
-use Rattle.face.proofs.HomePixels.{colour-dirty, colour-clean}
+use Rattle.face.proofs.HomePixels.{colour_dirty, colour_clean}
 use Rattle.face.proofs.home_calls.shown.Statement.{statement}
 use Rattle.face.proofs.home_calls.shown.Tie as tie
 
@@ -29,7 +29,7 @@ returns-2 c =
     let at-if1 = at-if2.before.before in
     let at-start = at-if1.before.before in
     rw (not-false at-start.args.there at-if1.if1.false)
-    (c.home-rgb.ensures ∙ colour-dirty at-start.args.state.now at-start.args.n at-start.requires.1 at-if2.if2.true)
+    (c.home-rgb.ensures ∙ colour_dirty at-start.args.state.now at-start.args.n at-start.requires.1 at-if2.if2.true)
 
 cached-colour-requires : tie.Need-cached-colour-requires
 cached-colour-requires c κs = search rules
@@ -39,7 +39,7 @@ returns-3 c =
     let at-if1 = c.before.before.before in
     let at-start = at-if1.before.before in
     rw (not-false at-start.args.there at-if1.if1.false)
-    (c.cached-colour.ensures ∙ colour-clean at-start.args.state.now at-start.args.n c.before.if2.false)
+    (c.cached-colour.ensures ∙ colour_clean at-start.args.state.now at-start.args.n c.before.if2.false)
 
 pub shown-spec : {M : Type 1} → statement M
 shown-spec =

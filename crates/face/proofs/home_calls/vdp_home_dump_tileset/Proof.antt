@@ -1,6 +1,6 @@
 -- `face::home_calls::vdp_home_dump_tileset` meets its contract: all tiles into the pixels.
 use borrow.Author.Rules.{rules}
-use Rattle.face.proofs.HomeLaws.{room, dump-refused, dump-done}
+use Rattle.face.proofs.HomeLaws.{room, dump_refused, dump_done}
 use Rattle.face.proofs.home_calls.vdp_home_dump_tileset.Statement.{statement}
 use Rattle.face.proofs.home_calls.vdp_home_dump_tileset.Tie as tie
 
@@ -10,7 +10,7 @@ asked-requires c κs = search rules
 returns : tie.Need-returns
 returns c =
     let at-start = c.before.before.before.before.before in
-    dump-refused at-start.args.state.now c.before.asked.ensures c.if1.true at-start.args.vram.now at-start.args.pixels.now
+    dump_refused at-start.args.state.now c.before.asked.ensures c.if1.true at-start.args.vram.now at-start.args.pixels.now
 
 cache-in-requires : tie.Need-cache-in-requires
 cache-in-requires c κs =
@@ -40,8 +40,8 @@ returns-2 c =
     let at-if1 = at-cache-in.before in
     let at-asked = at-if1.before in
     let at-start = at-asked.before.before.before.before in
-    dump-done at-start.args.state.now at-asked.asked.ensures at-if1.if1.false at-start.args.vram.now at-start.args.pixels.now
-    at-registers.registers.ensures at-cache-in.cache-in.ensures at-dump-tileset.dump-tileset.ensures c.number.ensures.0
+    dump_done at-start.args.state.now at-asked.asked.ensures at-if1.if1.false at-start.args.vram.now at-start.args.pixels.now
+    at-registers.registers.ensures at-cache-in.cache-in.ensures at-dump-tileset.dump_tileset.ensures c.number.ensures.0
 
 pub vdp-home-dump-tileset-spec : {M : Type 1} → statement M
 vdp-home-dump-tileset-spec =

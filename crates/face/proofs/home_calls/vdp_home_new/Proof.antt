@@ -15,7 +15,7 @@ same_length c = search rules
 returns : tie.Need-returns
 returns c =
     let at-vdp-home-new-table = c.before.before in
-    rw at-vdp-home-new-table.before.unnamed-table.ensures at at-vdp-home-new-table.vdp-home-new-table.ensures
+    rw at-vdp-home-new-table.before.unnamed-table.ensures at at-vdp-home-new-table.vdp_home_new_table.ensures
 
 pub vdp-home-new-spec : {M : Type 1} → statement M
 vdp-home-new-spec = tie.close (tie.spec unnamed-table-requires vdp-home-new-table-requires same_length returns)

@@ -1,7 +1,7 @@
 -- `face::home_calls::vdp_home_new_table` meets its contract: a fresh device of this table into the block.
 use borrow.Author.Rules.{rules}
 use borrow.Author.Tests.{not-true, not-false}
-use Rattle.face.proofs.HomeLaws.{new-ten, new-room, new-done}
+use Rattle.face.proofs.HomeLaws.{new_ten, new_room, new_done}
 use Rattle.face.proofs.home_calls.vdp_home_new_table.Statement.{statement}
 use Rattle.face.proofs.home_calls.vdp_home_new_table.Tie as tie
 
@@ -15,7 +15,7 @@ returns : tie.Need-returns
 returns c =
     let at_both = c.before.before in
     let at-start = at_both.before.before in
-    new-ten at-start.args.state.now at-start.args.table at_both.both.ensures (not-true _ c.before.if1.true) c.number.ensures.0
+    new_ten at-start.args.state.now at-start.args.table at_both.both.ensures (not-true _ c.before.if1.true) c.number.ensures.0
 
 table-from-requires : tie.Need-table-from-requires
 table-from-requires c κs = search rules
@@ -25,7 +25,7 @@ fresh-requires c κs =
     let at-if1 = c.before.before in
     let at_both = at-if1.before in
     let at-start = at_both.before.before in
-    new-room at-start.args.state.now at-start.args.table at_both.both.ensures (not-false _ at-if1.if1.false)
+    new_room at-start.args.state.now at-start.args.table at_both.both.ensures (not-false _ at-if1.if1.false)
 
 same_length : tie.Need-same-length
 same_length c = search rules
@@ -37,7 +37,7 @@ returns-2 c =
     let at-if1 = at-table-from.before.before in
     let at_both = at-if1.before in
     let at-start = at_both.before.before in
-    new-done at-start.args.state.now at-start.args.table at_both.both.ensures (not-false _ at-if1.if1.false)
+    new_done at-start.args.state.now at-start.args.table at_both.both.ensures (not-false _ at-if1.if1.false)
     at-table-from.table-from.ensures at-fresh.fresh.ensures
 
 pub vdp-home-new-table-spec : {M : Type 1} → statement M

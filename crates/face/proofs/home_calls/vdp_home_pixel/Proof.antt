@@ -1,7 +1,7 @@
 -- `face::home_calls::vdp_home_pixel` meets its contract: one pixel of the row as it would be drawn now; the block is only read.
 use borrow.Author.Rules.{rules}
 use Rattle.face.proofs.HomeLaws.{room}
-use Rattle.face.proofs.HomePixels.{pixel-asked, pixel-done}
+use Rattle.face.proofs.HomePixels.{pixel_asked, pixel_done}
 use Rattle.face.proofs.home_calls.vdp_home_pixel.Statement.{statement}
 use Rattle.face.proofs.home_calls.vdp_home_pixel.Tie as tie
 
@@ -14,7 +14,7 @@ cast-result c = search rules
 returns : tie.Need-returns
 returns c =
     let at-start = c.before.before.before.before in
-    pixel-asked at-start.args.state.now at-start.args.vram.now at-start.args.row at-start.args.column c.before.asked.ensures
+    pixel_asked at-start.args.state.now at-start.args.vram.now at-start.args.row at-start.args.column c.before.asked.ensures
     c.if1.true
 
 raster-in-requires : tie.Need-raster-in-requires
@@ -49,7 +49,7 @@ returns-2 c =
     let at-if1 = at-raster-in.before in
     let at-asked = at-if1.before in
     let at-start = at-asked.before.before.before in
-    pixel-done at-start.args.state.now at-start.args.vram.now at-start.args.row at-start.args.column at-asked.asked.ensures
+    pixel_done at-start.args.state.now at-start.args.vram.now at-start.args.row at-start.args.column at-asked.asked.ensures
     at-if1.if1.false
     at-registers.registers.ensures at-raster-in.raster-in.ensures at-spot-at.spot-at.ensures.0 c.before.shown.ensures c.pixel-word.ensures
 

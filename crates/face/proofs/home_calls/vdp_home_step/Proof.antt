@@ -3,8 +3,8 @@ use borrow.Author.Rules.{rules}
 use lib.ListN.{length}
 use native.Mathlib.Omega.{arith}
 use Rattle.picture.specs.declared.Screen.TheVariants.{Home}
-use Rattle.row.proofs.Steps.{frame-due-fits}
-use Rattle.face.proofs.HomeLaws.{room, colours-room, points-room, step-refused, step_kept}
+use Rattle.row.proofs.Steps.{frame_due_fits}
+use Rattle.face.proofs.HomeLaws.{room, colours_room, points_room, step_refused, step_kept}
 use Rattle.face.proofs.home_calls.vdp_home_step.Statement.{statement}
 use Rattle.face.proofs.home_calls.vdp_home_step.Tie as tie
 
@@ -17,7 +17,7 @@ same_length c = search rules
 returns : tie.Need-returns
 returns c =
     let at-start = c.before.before.before.before.before.before in
-    step-refused at-start.args.state.now c.before.asked.ensures c.if1.true at-start.args.vram.now at-start.args.frame.now
+    step_refused at-start.args.state.now c.before.asked.ensures c.if1.true at-start.args.vram.now at-start.args.frame.now
 
 registers-requires : tie.Need-registers-requires
 registers-requires c κs =
@@ -49,7 +49,7 @@ draw-in-requires c κs =
     let at-raster-in = at-frame-due.before in
     let at-registers = at-raster-in.before in
     let at-start = at-registers.before.before.before.before.before.before.before in
-    frame-due-fits Home at-registers.registers.result at-raster-in.raster-in.result at-start.args.vram.now (length at-start.args.frame.now)
+    frame_due_fits Home at-registers.registers.result at-raster-in.raster-in.result at-start.args.vram.now (length at-start.args.frame.now)
     at-frame-due.frame-due.ensures
 
 store-colours-requires : tie.Need-store-colours-requires
@@ -57,7 +57,7 @@ store-colours-requires c κs =
     let at-if1 = c.before.before.before.before.before.before.before.before.before.before.before.before in
     let at-asked = at-if1.before in
     let at-start = at-asked.before.before.before.before.before in
-    colours-room at-start.args.state.now at-asked.asked.ensures at-if1.if1.false
+    colours_room at-start.args.state.now at-asked.asked.ensures at-if1.if1.false
 
 left-requires : tie.Need-left-requires
 left-requires c κs =
@@ -65,7 +65,7 @@ left-requires c κs =
     let at-if1 = at-store-colours.before.before.before.before.before.before.before.before.before.before.before.before.before in
     let at-asked = at-if1.before in
     let at-start = at-asked.before.before.before.before.before in
-    points-room at-start.args.state.now at-asked.asked.ensures at-if1.if1.false at-store-colours.store-colours.new.0
+    points_room at-start.args.state.now at-asked.asked.ensures at-if1.if1.false at-store-colours.store-colours.new.0
     at-store-colours.store-colours.auto.0
 
 same-length-2 : tie.Need-same-length-2

@@ -10,7 +10,7 @@ same_length : tie.Need-same-length
 same_length c = search rules
 
 returns : tie.Need-returns
-returns c = c.before.before.dump-tileset.ensures
+returns c = c.before.before.dump_tileset.ensures
 
 pub dump-tileset-spec : {M : Type 1} → statement M
 dump-tileset-spec =

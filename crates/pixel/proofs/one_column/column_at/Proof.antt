@@ -1,13 +1,13 @@
 -- `pixel::one_column::column_at` meets its contract: the colour number of a column of a row: the map's, and over it the first eight sprites in turn.
 use Rattle.std.proofs.Common.{◌≡◌, ℕ, ◌+◌, ◌-◌, ◌%◌, ◌<◌, ◌≤◌, Bool, refl, ap, ◌∙◌, arith, rules}
 use Rattle.laws.specs.Lists.{at}
-use Rattle.picture.specs.Tile.{mapColour}
+use Rattle.picture.specs.Tile.{map_colour}
 use Rattle.picture.specs.View.{early}
-use Rattle.stand.specs.Stand.{standOf}
+use Rattle.stand.specs.Stand.{stand_of}
 use Rattle.sprites.specs.Sprites.{Follows}
-use Rattle.sprites.proofs.List.{Going, going_on, going-ends, with-sprite-is}
-use Rattle.pixel.specs.Column.{line_at, frontAt, Shows}
-use Rattle.pixel.proofs.Laws.{column-starts, going-from, going-eight}
+use Rattle.sprites.proofs.List.{Going, going_on, going_ends, with_sprite_is}
+use Rattle.pixel.specs.Column.{line_at, front_at, Shows}
+use Rattle.pixel.proofs.Laws.{column_starts, going_from, going_eight}
 use Rattle.pixel.proofs.one_column.column_at.Statement.{statement}
 use Rattle.pixel.proofs.one_column.column_at.Tie as tie
 
@@ -15,9 +15,9 @@ abbrev invariant-loop : tie.invariant-loop
 invariant-loop vram screen reg b line col table e shift column₀ from₀ count₀ column from count =
     (from ≤ 64)
     × (count ≤ 8)
-    × ((f : ℕ → Bool) (colour : ℕ → ℕ) → ((i : ℕ) → i < 256 → frontAt vram b i ≡ f i) → mapColour (at vram) b.names ((b.sx + col) % 256)
+    × ((f : ℕ → Bool) (colour : ℕ → ℕ) → ((i : ℕ) → i < 256 → front_at vram b i ≡ f i) → map_colour (at vram) b.names ((b.sx + col) % 256)
     (line_at b col) ≡ colour col →
-    Going (at vram) (at reg) (standOf screen (early (at reg))) line f colour from count (λ q L. Shows col shift.off q column))
+    Going (at vram) (at reg) (stand_of screen (early (at reg))) line f colour from count (λ q L. Shows col shift.off q column))
 
 abbrev decreases-loop : tie.decreases-loop
 decreases-loop vram screen reg b line col table e shift column₀ from₀ count₀ column from count = 8 - count
@@ -37,16 +37,16 @@ add-map-pixel c = search rules
 line-of-requires : tie.Need-line-of-requires invariant-loop decreases-loop
 line-of-requires c κs =
     let at-start = c.before.before.before.before.before in
-    (at-start.requires.0.room.line, at-start.requires.0.last-low)
+    (at-start.requires.0.room.line, at-start.requires.0.last_low)
 
 map-pixel-requires : tie.Need-map-pixel-requires invariant-loop decreases-loop
 map-pixel-requires c κs =
     let at-start = c.before.before.before.before.before.before in
     record {
       memory = at-start.requires.0.room.memory;
-      names-low = at-start.requires.0.room.names-low;
+      names_low = at-start.requires.0.room.names_low;
       column = omega arith;
-      line = c.line-of.ensures.1;
+      line = c.line_of_lem.ensures.1;
     }
 
 first-group-requires : tie.Need-first-group-requires invariant-loop decreases-loop
@@ -62,10 +62,10 @@ loop-holds c =
     let a = at-start.args in (
       c.first_group.ensures.0,
       omega arith,
-      λ f colour pe ue. going-from _ _ _ _ _ _ _ c.first_group.ensures.1
-          (column-starts _ _ colour
+      λ f colour pe ue. going_from _ _ _ _ _ _ _ c.first_group.ensures.1
+          (column_starts _ _ colour
           (c.before.map-pixel.ensures.0
-          ∙ ap (λ (k : ℕ). mapColour (at a.vram.now) a.b.names ((a.b.sx + a.col) % 256) k) at-line-of.line-of.ensures.0
+          ∙ ap (λ (k : ℕ). map_colour (at a.vram.now) a.b.names ((a.b.sx + a.col) % 256) k) at-line-of.line_of_lem.ensures.0
           ∙ ue) refl),
     )
 
@@ -83,7 +83,7 @@ returns c =
     λ f colour pe ue.
     let o : Follows (at a.vram.now) (at a.reg) a.line at-loop.loop.from c.before.next-sprite.result.n
     c.before.next-sprite.result.d = c.before.next-sprite.ensures.0 in
-    (going-ends _ _ _ _ _ _ (λ q L. Shows a.col at-shift-of.Shift-of.result.off q at-loop.loop.column) (o.none c.if1.true)
+    (going_ends _ _ _ _ _ _ (λ q L. Shows a.col at-shift-of.Shift-of.result.off q at-loop.loop.column) (o.none c.if1.true)
     (at-loop.loop.invariant.2 f colour pe ue)).shows.colour
 
 add-sprite-at : tie.Need-overflow-add-sprite-at invariant-loop decreases-loop
@@ -142,9 +142,9 @@ loop-again c =
       λ f colour pe ue.
           let w = v.2 f colour pe ue in
           going_on _ _ _ _ _ _ _ (o.next l) k refl w
-          (rw (← with-sprite-is a.vram.now a.reg a.screen a.line n at-next-sprite.next-sprite.result.d f w.canvas
+          (rw (← with_sprite_is a.vram.now a.reg a.screen a.line n at-next-sprite.next-sprite.result.d f w.canvas
           at-table-at.table_at.ensures.0 at-early-of.early-of.ensures.0 refl (o.below l) refl)
-          (c.sprite-at.ensures f w.canvas pe w.shows)),
+          (c.sprite_at.ensures f w.canvas pe w.shows)),
     )
 
 returns-2 : tie.Need-returns-2 invariant-loop decreases-loop
@@ -153,7 +153,7 @@ returns-2 c =
     let at-start = at-shift-of.before.before.before.before in
     let a = at-start.args in
     let e : c.before.loop.count ≡ 8 = omega arith in
-    λ f colour pe ue. (going-eight _ _ _ _ _ _ (λ q. Shows a.col at-shift-of.Shift-of.result.off q c.before.loop.column) e
+    λ f colour pe ue. (going_eight _ _ _ _ _ _ (λ q. Shows a.col at-shift-of.Shift-of.result.off q c.before.loop.column) e
     (c.before.loop.invariant.2 f colour pe ue)).colour
 
 pub column-at-spec : {M : Type 1} → statement M

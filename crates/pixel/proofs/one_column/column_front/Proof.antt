@@ -1,7 +1,7 @@
 -- `pixel::one_column::column_front` meets its contract: whether column x of the row stands in front of sprites, where that is asked.
 use Rattle.std.proofs.Common.{rules}
 use borrow.Author.Tests.{not-true, not-false}
-use Rattle.background.specs.Background.{backFront}
+use Rattle.background.specs.Background.{back_front}
 use Rattle.pixel.proofs.one_column.column_front.Statement.{statement}
 use Rattle.pixel.proofs.one_column.column_front.Tie as tie
 
@@ -17,7 +17,7 @@ map-pixel-requires : tie.Need-map-pixel-requires
 map-pixel-requires c κs = search rules
 
 returns-2 : tie.Need-returns-2
-unfolding backFront
+unfolding back_front
 returns-2 c =
     let at-if1 = c.before.before in
     let at-start = at-if1.before.before in

@@ -3,7 +3,7 @@ use Rattle.std.proofs.Common.{◌≡◌, ℕ, ◌+◌, ◌-◌, ◌%◌, ◌≤�
 use borrow.Author.Tests.{not-false}
 use Rattle.laws.specs.Lists.{at}
 use Rattle.picture.specs.Picture.{table_at, tall, listed}
-use Rattle.pixel.proofs.Laws.{clear-is, clear-all}
+use Rattle.pixel.proofs.Laws.{clear_is, clear_all}
 use Rattle.pixel.proofs.one_column.first_group.Statement.{statement}
 use Rattle.pixel.proofs.one_column.first_group.Tie as tie
 
@@ -72,10 +72,10 @@ loop-again c =
       omega (arith, at-loop.loop.invariant.1),
       at-loop.loop.invariant.2,
       λ g te le.
-          at-loop.loop.invariant.3 g te le ∙ clear-all (at a.vram.now) g a.line n 16 at-start.requires.3 h
+          at-loop.loop.invariant.3 g te le ∙ clear_all (at a.vram.now) g a.line n 16 at-start.requires.3 h
           (λ i j.
           let e : a.table + n + i ≡ table_at g + (n + i) = omega (arith, te) in
-          clear-is at-loop.loop.invariant.2 le (ap (at a.vram.now) e) (c.before.none_of.ensures t i j)),
+          clear_is at-loop.loop.invariant.2 le (ap (at a.vram.now) e) (c.before.none_of.ensures t i j)),
     )
 
 returns-2 : tie.Need-returns-2 invariant-loop decreases-loop

@@ -1,6 +1,6 @@
 -- `pixel::one_column::map_pixel` meets its contract: the map's pixel, by the tile that stands there.
 use Rattle.std.proofs.Common.{rules}
-use Rattle.picture.specs.Tile.{mapColour, mapFront, entryColour, entryFront, entryCode, entry_at}
+use Rattle.picture.specs.Tile.{map_colour, map_front, entry_colour, entry_front, entry_code, entry_at}
 use Rattle.pixel.proofs.one_column.map_pixel.Statement.{statement}
 use Rattle.pixel.proofs.one_column.map_pixel.Tie as tie
 
@@ -47,7 +47,7 @@ is-set-requires-3 : tie.Need-is-set-requires-3
 is-set-requires-3 c κs = search rules
 
 returns : tie.Need-returns
-unfolding mapColour mapFront entryColour entryFront entryCode entry_at
+unfolding map_colour map_front entry_colour entry_front entry_code entry_at
 returns c =
     let at-weight = c.before in
     let at-is-set2 = at-weight.before in

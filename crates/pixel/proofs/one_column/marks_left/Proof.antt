@@ -2,8 +2,8 @@
 use Rattle.std.proofs.Common.{sym, ◌∙◌, rules, le-ltb, lt-ltb, eq-eqb, ne_eqb}
 use borrow.Author.Tests.{not-true, not-false}
 use Rattle.picture.specs.Picture.{solid}
-use Rattle.pixel.specs.Column.{marksLeft}
-use Rattle.pixel.proofs.Laws.{left-past}
+use Rattle.pixel.specs.Column.{marks_left}
+use Rattle.pixel.proofs.Laws.{left_past}
 use Rattle.pixel.proofs.one_column.marks_left.Statement.{statement}
 use Rattle.pixel.proofs.one_column.marks_left.Tie as tie
 
@@ -23,34 +23,34 @@ add-p-3 : tie.Need-overflow-add-p-3
 add-p-3 c = search rules
 
 returns : tie.Need-returns
-unfolding marksLeft solid
+unfolding marks_left solid
 returns c =
     let at-start = c.before.before.before.before.before in
     let a = at-start.args in
-    let e = left-past a.col a.off a.j a.s.mark at-start.requires.1.1.3 at-start.requires.1.0.mark-low in
+    let e = left_past a.col a.off a.j a.s.mark at-start.requires.1.1.3 at-start.requires.1.0.mark_low in
     rw (← e, le-ltb _ _ c.if1.true)
 
 pixel-code-requires : tie.Need-pixel-code-requires
 pixel-code-requires c κs = search rules
 
 returns-2 : tie.Need-returns-2
-unfolding marksLeft solid
+unfolding marks_left solid
 returns-2 c =
     let at-if1 = c.before.before in
     let at-start = at-if1.before.before.before.before.before in
     let a = at-start.args in
-    let e = left-past a.col a.off a.j a.s.mark at-start.requires.1.1.3 at-start.requires.1.0.mark-low in
+    let e = left_past a.col a.off a.j a.s.mark at-start.requires.1.1.3 at-start.requires.1.0.mark_low in
     rw (← e, lt-ltb _ _ at-if1.if1.false, eq-eqb _ 0 (sym c.before.pixel-code.ensures.0 ∙ c.if2.true))
 
 returns-3 : tie.Need-returns-3
-unfolding marksLeft solid
+unfolding marks_left solid
 returns-3 c =
     let at-if2 = c.before.before in
     let at-pixel-code = at-if2.before in
     let at-if1 = at-pixel-code.before in
     let at-start = at-if1.before.before.before.before.before in
     let a = at-start.args in
-    let e = left-past a.col a.off a.j a.s.mark at-start.requires.1.1.3 at-start.requires.1.0.mark-low in
+    let e = left_past a.col a.off a.j a.s.mark at-start.requires.1.1.3 at-start.requires.1.0.mark_low in
     rw (
       ← e,
       lt-ltb _ _ at-if1.if1.false,
@@ -69,14 +69,14 @@ in-front-requires : tie.Need-in-front-requires
 in-front-requires c κs = search rules
 
 returns-4 : tie.Need-returns-4
-unfolding marksLeft solid
+unfolding marks_left solid
 returns-4 c =
     let at-if2 = c.before.before.before in
     let at-pixel-code = at-if2.before in
     let at-if1 = at-pixel-code.before in
     let at-start = at-if1.before.before.before.before.before in
     let a = at-start.args in
-    let e = left-past a.col a.off a.j a.s.mark at-start.requires.1.1.3 at-start.requires.1.0.mark-low in
+    let e = left_past a.col a.off a.j a.s.mark at-start.requires.1.1.3 at-start.requires.1.0.mark_low in
     rw (
       ← e,
       lt-ltb _ _ at-if1.if1.false,

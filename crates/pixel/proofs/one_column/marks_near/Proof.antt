@@ -2,12 +2,12 @@
 use Rattle.std.proofs.Common.{◌≡◌, ℕ, ◌-◌, ◌<◌, ◌≤◌, refl, ap, ◌∙◌, arith, rules}
 use Rattle.laws.specs.Bits.{number}
 use Rattle.laws.proofs.Bits.{number_step}
-use Rattle.pixel.specs.Column.{marksLeft, reachOf}
+use Rattle.pixel.specs.Column.{marks_left, reach_of}
 use Rattle.pixel.proofs.one_column.marks_near.Statement.{statement}
 use Rattle.pixel.proofs.one_column.marks_near.Tie as tie
 
 abbrev invariant-loop : tie.invariant-loop
-invariant-loop vram b s addr col off reach bits₀ j₀ bits j = (j ≤ reach) × (bits ≡ number j (marksLeft vram b s addr col off))
+invariant-loop vram b s addr col off reach bits₀ j₀ bits j = (j ≤ reach) × (bits ≡ number j (marks_left vram b s addr col off))
 
 abbrev decreases-loop : tie.decreases-loop
 decreases-loop vram b s addr col off reach bits₀ j₀ bits j = reach - j
@@ -44,9 +44,9 @@ loop-again c =
 returns : tie.Need-returns invariant-loop decreases-loop
 returns c =
     let at-start = c.before.before.before.before in
-    let e : c.before.loop.j ≡ reachOf at-start.args.col = omega arith in
+    let e : c.before.loop.j ≡ reach_of at-start.args.col = omega arith in
     let a = at-start.args in
-    c.before.loop.invariant.1 ∙ ap (λ (k : ℕ). number k (marksLeft a.vram.now a.b a.s a.addr a.col a.off)) e
+    c.before.loop.invariant.1 ∙ ap (λ (k : ℕ). number k (marks_left a.vram.now a.b a.s a.addr a.col a.off)) e
 
 pub marks-near-spec : {M : Type 1} → statement M
 marks-near-spec =

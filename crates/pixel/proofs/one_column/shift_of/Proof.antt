@@ -25,23 +25,23 @@ returns : tie.Need-returns
 returns c =
     let w = c.before.before.wide.ensures.0 in
     rw c.enum_told.given.1
-    (record { off = ap (λ k. 48 + k) w; ahead = ap (λ k. 48 + k) w; back = λ start. omega arith; off-low = omega arith; ahead-low = omega arith })
+    (record { off = ap (λ k. 48 + k) w; ahead = ap (λ k. 48 + k) w; back = λ start. omega arith; off_low = omega arith; ahead_low = omega arith })
 
 returns-2 : tie.Need-returns-2
 returns-2 c =
     let w = c.before.before.wide.ensures.0 in
-    rw c.enum-told2.given.1 (record { off = w; ahead = w; back = λ start. omega arith; off-low = omega arith; ahead-low = omega arith })
+    rw c.enum-told2.given.1 (record { off = w; ahead = w; back = λ start. omega arith; off_low = omega arith; ahead_low = omega arith })
 
 returns-3 : tie.Need-returns-3
 returns-3 c =
     let w = c.before.before.wide.ensures.0 in
     rw c.enum-told3.given.1
-    (record { off = refl; ahead = ap (λ k. 48 + k) w; back = λ start. omega arith; off-low = omega arith; ahead-low = omega arith })
+    (record { off = refl; ahead = ap (λ k. 48 + k) w; back = λ start. omega arith; off_low = omega arith; ahead_low = omega arith })
 
 returns-4 : tie.Need-returns-4
 returns-4 c =
     let w = c.before.before.wide.ensures.0 in
-    rw c.enum-told4.given.1 (record { off = refl; ahead = w; back = λ start. omega arith; off-low = omega arith; ahead-low = omega arith })
+    rw c.enum-told4.given.1 (record { off = refl; ahead = w; back = λ start. omega arith; off_low = omega arith; ahead_low = omega arith })
 
 pub shift-of-spec : {M : Type 1} → statement M
 shift-of-spec =

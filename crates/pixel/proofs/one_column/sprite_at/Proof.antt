@@ -1,11 +1,11 @@
 -- `pixel::one_column::sprite_at` meets its contract: the column with the sprite whose X byte stands at k, its tile behind it, and of which line d is shown.
 use Rattle.std.proofs.Common.{◌≡◌, ◌+◌, ◌-◌, ◌%◌, ◌<◌, ◌≤◌, min, refl, rules}
 use Rattle.laws.specs.Lists.{at}
-use Rattle.laws.proofs.Bits.{bit-number}
-use Rattle.stand.specs.Stand.{standOf}
-use Rattle.picture.specs.Picture.{spriteLine}
-use Rattle.pixel.specs.Column.{Tied, backOf, ahead_of, reachOf, marksLeft}
-use Rattle.pixel.proofs.Laws.{tied, end_low, far_at, column-far, column-laid}
+use Rattle.laws.proofs.Bits.{bit_number}
+use Rattle.stand.specs.Stand.{stand_of}
+use Rattle.picture.specs.Picture.{sprite_line}
+use Rattle.pixel.specs.Column.{Tied, back_of, ahead_of, reach_of, marks_left}
+use Rattle.pixel.proofs.Laws.{tied, end_low, far_at, column_far, column_laid}
 use Rattle.pixel.proofs.one_column.sprite_at.Statement.{statement}
 use Rattle.pixel.proofs.one_column.sprite_at.Tie as tie
 
@@ -36,14 +36,14 @@ returns c =
     let at-start = at-smaller.before.before.before in
     let a = at-start.args in
     let h = at a.vram.now a.k in
-    let s = standOf a.screen a.e h in
+    let s = stand_of a.screen a.e h in
     let low : h < 256 = rw c.before.wide.ensures.0 at c.before.wide.ensures.1 in
     let sh = at-start.requires.1.1 in
     let far : 15 - min a.col 7 ≤ (a.col + ahead_of a.screen a.e + 256 - h) % 256 = rw
     (c.before.wide.ensures.0, sh.ahead, at-smaller.smaller.ensures) at c.if1.true in
-    let t : Tied a.shift.off (backOf a.screen s.start) s = rw sh.off (tied a.screen a.e h at-start.requires.1.0.1) in
-    λ f q pe w. column-far a.vram.now a.b s (spriteLine (at a.reg) (at a.vram.now (a.k + 1)) a.d) a.col a.shift.off
-    (backOf a.screen s.start) (end_low a.screen a.e h)
+    let t : Tied a.shift.off (back_of a.screen s.start) s = rw sh.off (tied a.screen a.e h at-start.requires.1.0.1) in
+    λ f q pe w. column_far a.vram.now a.b s (sprite_line (at a.reg) (at a.vram.now (a.k + 1)) a.d) a.col a.shift.off
+    (back_of a.screen s.start) (end_low a.screen a.e h)
     (λ j l. rw sh.off (far_at a.e h a.col j at-start.requires.1.0.1 low at-start.requires.1.0.3 l a.screen far)) f q a.under
     t at-start.requires.1.0.3 pe w
 
@@ -79,14 +79,14 @@ returns-2 c =
     let sh = at-start.requires.1.1 in
     let h = at a.vram.now a.k in
     let s = at-settings.settings.result in
-    let e : s ≡ standOf a.screen a.e h = at-settings.settings.ensures.0 in
+    let e : s ≡ stand_of a.screen a.e h = at-settings.settings.ensures.0 in
     let t : Tied a.shift.off at-weight.weight.result s = rw (at-weight.weight.ensures.0, sh.back s.start, e, sh.off)
     (tied a.screen a.e h at-start.requires.1.0.1) in
     λ f q pe w. rw (← e, ← at-line-at.line_at.ensures.0)
-    (column-laid a.vram.now a.b s at-line-at.line_at.result a.col a.shift.off at-weight.weight.result t
+    (column_laid a.vram.now a.b s at-line-at.line_at.result a.col a.shift.off at-weight.weight.result t
     at-settings.settings.ensures.1.end_low at-start.requires.1.0.3 f q pe a.under w at-marks-near.marks-near.result
-    (λ j l. rw at-marks-near.marks-near.ensures (bit-number (reachOf a.col)
-    (marksLeft a.vram.now a.b s at-line-at.line_at.result a.col a.shift.off) j l)) c.before.colour-with.ensures refl)
+    (λ j l. rw at-marks-near.marks-near.ensures (bit_number (reach_of a.col)
+    (marks_left a.vram.now a.b s at-line-at.line_at.result a.col a.shift.off) j l)) c.before.colour-with.ensures refl)
 
 pub sprite-at-spec : {M : Type 1} → statement M
 sprite-at-spec =

@@ -1,7 +1,7 @@
 -- `raster::Raster::advance` meets its contract: the counter goes up, and line 0 and the jump line do what they do.
 use Rattle.std.proofs.Common.{rules}
 use Rattle.laws.specs.Lists.{at}
-use Rattle.raster.proofs.Counter.{line-0, elsewhere}
+use Rattle.raster.proofs.Counter.{line_0, elsewhere}
 use Rattle.raster.proofs.Raster.advance.Statement.{statement}
 use Rattle.raster.proofs.Raster.advance.Tie as tie
 
@@ -21,7 +21,7 @@ returns : tie.Need-returns
 returns c =
     let at-wrapping-add-u8 = c.before.before in
     let at-start = at-wrapping-add-u8.before in
-    line-0 (at at-start.args.t2) at-start.args.self at-wrapping-add-u8.wrapping-add-u8.ensures c.before.if1.true
+    line_0 (at at-start.args.t2) at-start.args.self at-wrapping-add-u8.wrapping-add-u8.ensures c.before.if1.true
     c.line-interrupt-load-start.ensures
 
 jump-line-requires : tie.Need-jump-line-requires

@@ -1,7 +1,7 @@
 -- `row::points_run::draw` meets its contract: the row drawn into the buffer, and its layers told where they are asked for.
 use borrow.Author.Rules.{rules}
-use Rattle.points.specs.Due.{duePicture, dueLayers}
-use Rattle.row.proofs.Steps.{drawn-none, drawn-one}
+use Rattle.points.specs.Due.{due_picture, due_layers}
+use Rattle.row.proofs.Steps.{drawn_none, drawn_one}
 use Rattle.row.proofs.points_run.draw.Statement.{statement}
 use Rattle.row.proofs.points_run.draw.Tie as tie
 
@@ -14,9 +14,9 @@ enum_told c = search rules
 returns : tie.Need-returns
 returns c =
     let at-start = c.before.before.before.before.before in
-    drawn-none at-start.args.screen at-start.args.colours.now
-    (duePicture at-start.args.screen at-start.args.vram.now at-start.args.reg at-start.args.due)
-    (dueLayers at-start.args.screen at-start.args.vram.now at-start.args.reg at-start.args.due) at-start.args.row.now
+    drawn_none at-start.args.screen at-start.args.colours.now
+    (due_picture at-start.args.screen at-start.args.vram.now at-start.args.reg at-start.args.due)
+    (due_layers at-start.args.screen at-start.args.vram.now at-start.args.reg at-start.args.due) at-start.args.row.now
     at-start.args.layers.now c.enum_told.given.1
 
 render-line-requires : tie.Need-render-line-requires
@@ -36,9 +36,9 @@ returns-2 c =
     let at-render-line = c.before.before.before.before in
     let at-drawn = at-render-line.before.before.before.before in
     let at-start = at-drawn.before.before.before.before.before in
-    drawn-one at-start.args.screen at-start.args.colours.now
-    (duePicture at-start.args.screen at-start.args.vram.now at-start.args.reg at-start.args.due)
-    (dueLayers at-start.args.screen at-start.args.vram.now at-start.args.reg at-start.args.due) at-start.args.row.now
+    drawn_one at-start.args.screen at-start.args.colours.now
+    (due_picture at-start.args.screen at-start.args.vram.now at-start.args.reg at-start.args.due)
+    (due_layers at-start.args.screen at-start.args.vram.now at-start.args.reg at-start.args.due) at-start.args.row.now
     at-start.args.layers.now _ at-drawn.drawn.given.1 at-render-line.render-line.ensures.0.bytes
     at-render-line.render-line.ensures.0.status at-render-line.render-line.ensures.1
 

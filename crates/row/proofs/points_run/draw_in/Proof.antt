@@ -1,9 +1,9 @@
 -- `row::points_run::draw_in` meets its contract: the row drawn at its place in the frame.
 use borrow.Author.Rules.{rules}
 use native.Mathlib.Omega.{arith}
-use Rattle.points.specs.Due.{duePicture, dueLayers}
-use Rattle.points.proofs.Rows.{start_small, row-end, frame_small}
-use Rattle.row.proofs.Steps.{framed-none, framed-one}
+use Rattle.points.specs.Due.{due_picture, due_layers}
+use Rattle.points.proofs.Rows.{start_small, row_end, frame_small}
+use Rattle.row.proofs.Steps.{framed_none, framed_one}
 use Rattle.row.proofs.points_run.draw_in.Statement.{statement}
 use Rattle.row.proofs.points_run.draw_in.Tie as tie
 
@@ -16,9 +16,9 @@ enum_told c = search rules
 returns : tie.Need-returns
 returns c =
     let at-start = c.before.before.before.before.before in
-    framed-none at-start.args.screen at-start.args.colours.now
-    (duePicture at-start.args.screen at-start.args.vram.now at-start.args.reg at-start.args.due)
-    (dueLayers at-start.args.screen at-start.args.vram.now at-start.args.reg at-start.args.due) at-start.args.frame.now
+    framed_none at-start.args.screen at-start.args.colours.now
+    (due_picture at-start.args.screen at-start.args.vram.now at-start.args.reg at-start.args.due)
+    (due_layers at-start.args.screen at-start.args.vram.now at-start.args.reg at-start.args.due) at-start.args.frame.now
     at-start.args.layers.now c.enum_told.given.1
 
 row-size-requires : tie.Need-row-size-requires
@@ -31,14 +31,14 @@ mul-a : tie.Need-overflow-mul-a
 mul-a c =
     let at-drawn = c.before.before in
     let at-start = at-drawn.before.before.before.before.before in
-    rw c.row-size.ensures (omega (arith, start_small at-start.args.screen at-drawn.drawn.given.0.0 (omega (arith, c.before.known-told.given))))
+    rw c.row_size_lem.ensures (omega (arith, start_small at-start.args.screen at-drawn.drawn.given.0.0 (omega (arith, c.before.known-told.given))))
 
 add-e : tie.Need-overflow-add-e
 add-e c =
     let at-drawn = c.before.before in
     let at-start = at-drawn.before.before.before.before.before in
-    let f = at-start.requires _ at-drawn.drawn.given.1 in rw c.row-size.ensures
-    (omega (arith, row-end at-start.args.screen at-drawn.drawn.given.0.0 f.1.1, frame_small at-start.args.screen))
+    let f = at-start.requires _ at-drawn.drawn.given.1 in rw c.row_size_lem.ensures
+    (omega (arith, row_end at-start.args.screen at-drawn.drawn.given.0.0 f.1.1, frame_small at-start.args.screen))
 
 sub-render-line : tie.Need-overflow-sub-render-line
 sub-render-line c = search rules
@@ -50,15 +50,15 @@ part-render-line-end : tie.Need-slice-bounds-render-line-end
 part-render-line-end c =
     let at-drawn = c.before.before in
     let at-start = at-drawn.before.before.before.before.before in
-    let f = at-start.requires _ at-drawn.drawn.given.1 in rw c.row-size.ensures
-    (omega (arith, row-end at-start.args.screen at-drawn.drawn.given.0.0 f.1.1, f.1.0))
+    let f = at-start.requires _ at-drawn.drawn.given.1 in rw c.row_size_lem.ensures
+    (omega (arith, row_end at-start.args.screen at-drawn.drawn.given.0.0 f.1.1, f.1.0))
 
 render-line-requires : tie.Need-render-line-requires
 render-line-requires c κs =
     let at-row-size = c.before.before in
     let at-drawn = at-row-size.before.before in
     let at-start = at-drawn.before.before.before.before.before in
-    let f = at-start.requires _ at-drawn.drawn.given.1 in (f.0, omega (arith, at-row-size.row-size.ensures), f.1.1)
+    let f = at-start.requires _ at-drawn.drawn.given.1 in (f.0, omega (arith, at-row-size.row_size_lem.ensures), f.1.1)
 
 same_length : tie.Need-same-length
 same_length c = search rules
@@ -72,12 +72,12 @@ returns-2 c =
     let at-row-size = at-render-line.before.before.before in
     let at-drawn = at-row-size.before.before in
     let at-start = at-drawn.before.before.before.before.before in
-    let f = at-start.requires _ at-drawn.drawn.given.1 in rw at-row-size.row-size.ensures
-    (framed-one at-start.args.screen at-start.args.colours.now
-    (duePicture at-start.args.screen at-start.args.vram.now at-start.args.reg at-start.args.due)
-    (dueLayers at-start.args.screen at-start.args.vram.now at-start.args.reg at-start.args.due) at-start.args.frame.now
+    let f = at-start.requires _ at-drawn.drawn.given.1 in rw at-row-size.row_size_lem.ensures
+    (framed_one at-start.args.screen at-start.args.colours.now
+    (due_picture at-start.args.screen at-start.args.vram.now at-start.args.reg at-start.args.due)
+    (due_layers at-start.args.screen at-start.args.vram.now at-start.args.reg at-start.args.due) at-start.args.frame.now
     at-start.args.layers.now at-drawn.drawn.given.0.0 at-drawn.drawn.given.1 f.1.1 f.1.0
-    (rw at-row-size.row-size.ensures at at-render-line.render-line.ensures.0.bytes) at-render-line.render-line.ensures.0.status
+    (rw at-row-size.row_size_lem.ensures at at-render-line.render-line.ensures.0.bytes) at-render-line.render-line.ensures.0.status
     at-render-line.render-line.ensures.1)
 
 pub draw-in-spec : {M : Type 1} → statement M

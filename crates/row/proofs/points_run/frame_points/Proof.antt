@@ -2,8 +2,8 @@
 use borrow.Author.Rules.{rules}
 use mathlib.Core.Path.{refl}
 use lib.ListN.{length}
-use Rattle.points.specs.Points.{reading, frameLines}
-use Rattle.row.proofs.Steps.{finished, frame-filled, frame-due-fits}
+use Rattle.points.specs.Points.{reading, frame_lines}
+use Rattle.row.proofs.Steps.{finished, frame-filled, frame_due_fits}
 use Rattle.row.proofs.points_run.frame_points.Statement.{statement}
 use Rattle.row.proofs.points_run.frame_points.Tie as tie
 
@@ -17,7 +17,7 @@ draw-in-requires : tie.Need-draw-in-requires
 draw-in-requires c κs =
     let at-frame-due = c.before.before in
     let at-start = at-frame-due.before.before.before in
-    frame-due-fits at-start.args.screen at-start.args.reg at-start.args.raster at-start.args.vram.now (length at-start.args.frame.now)
+    frame_due_fits at-start.args.screen at-start.args.reg at-start.args.raster at-start.args.vram.now (length at-start.args.frame.now)
     at-frame-due.frame-due.ensures
 
 finish-requires : tie.Need-finish-requires
@@ -32,10 +32,10 @@ returns c =
     let at-frame-due = at-draw-in.before.before.before in
     let at-start = at-frame-due.before.before.before in
     record {
-      answer = finished (frameLines at-start.args.screen at-start.args.vram.now (length at-start.args.frame.now)) at-start.args.screen
+      answer = finished (frame_lines at-start.args.screen at-start.args.vram.now (length at-start.args.frame.now)) at-start.args.screen
           at-start.args.vram.now (reading at-start.args.reg at-start.args.raster at-start.args.status at-start.args.colours.now)
           at-frame-due.frame-due.ensures c.finish.ensures at-draw-in.draw-in.ensures.0;
-      bytes = frame-filled (frameLines at-start.args.screen at-start.args.vram.now (length at-start.args.frame.now)) at-start.args.screen
+      bytes = frame-filled (frame_lines at-start.args.screen at-start.args.vram.now (length at-start.args.frame.now)) at-start.args.screen
           at-start.args.vram.now (reading at-start.args.reg at-start.args.raster at-start.args.status at-start.args.colours.now)
           at-frame-due.frame-due.ensures (λ y e. refl) at-start.args.frame.now at-draw-in.draw-in.ensures.1.0;
     }

@@ -4,8 +4,8 @@ use mathlib.Core.Path.{refl}
 use lib.ListN.{length}
 use Rattle.points.specs.Points.{reading, row_lines}
 use Rattle.picture.specs.Screen.{columns}
-use Rattle.points.specs.Bytes.{alsoLayers}
-use Rattle.row.proofs.Steps.{finished, owned, row-filled, row-layers-fit}
+use Rattle.points.specs.Bytes.{also_layers}
+use Rattle.row.proofs.Steps.{finished, owned, row_filled_lem, row_layers_fit}
 use Rattle.row.proofs.points_run.layer_row_points.Statement.{statement}
 use Rattle.row.proofs.points_run.layer_row_points.Tie as tie
 
@@ -20,7 +20,7 @@ draw-requires c κs =
     let at-layer-due = c.before.before in
     let at-row-due = at-layer-due.before in
     let at-start = at-row-due.before.before.before.before in
-    row-layers-fit at-start.args.screen at-start.args.reg at-start.args.raster at-start.args.vram.now (length at-start.args.row.now)
+    row_layers_fit at-start.args.screen at-start.args.reg at-start.args.raster at-start.args.vram.now (length at-start.args.row.now)
     (columns at-start.args.screen) (length at-start.args.layers.now)
     (at-layer-due.layer-due.ensures.1 (row_lines at-start.args.screen at-start.args.vram.now (length at-start.args.row.now))
     at-start.args.reg at-row-due.row-due.ensures)
@@ -42,13 +42,13 @@ returns c =
     let at-start = at-row-due.before.before.before.before in
     let e = at-layer-due.layer-due.ensures.1 (row_lines at-start.args.screen at-start.args.vram.now (length at-start.args.row.now))
     at-start.args.reg at-row-due.row-due.ensures in
-    let also = (alsoLayers (columns at-start.args.screen) (length at-start.args.layers.now)
+    let also = (also_layers (columns at-start.args.screen) (length at-start.args.layers.now)
     (row_lines at-start.args.screen at-start.args.vram.now (length at-start.args.row.now))) in
     let k = (reading at-start.args.reg at-start.args.raster at-start.args.status at-start.args.colours.now) in
     record {
       points = record {
         answer = finished also at-start.args.screen at-start.args.vram.now k e c.finish.ensures at-draw.draw.ensures.0;
-        bytes = row-filled also at-start.args.screen at-start.args.vram.now k e (λ y z. refl) at-start.args.row.now
+        bytes = row_filled_lem also at-start.args.screen at-start.args.vram.now k e (λ y z. refl) at-start.args.row.now
             at-draw.draw.ensures.1.0;
       };
       owners = owned also at-start.args.screen at-start.args.vram.now k e at-start.args.layers.now

@@ -3,7 +3,7 @@ use borrow.Author.Rules.{rules}
 use mathlib.Core.Path.{refl}
 use lib.ListN.{length}
 use Rattle.points.specs.Points.{reading, row_lines}
-use Rattle.row.proofs.Steps.{finished, row-filled, row-due-fits}
+use Rattle.row.proofs.Steps.{finished, row_filled_lem, row_due_fits}
 use Rattle.row.proofs.points_run.row_points.Statement.{statement}
 use Rattle.row.proofs.points_run.row_points.Tie as tie
 
@@ -17,7 +17,7 @@ draw-requires : tie.Need-draw-requires
 draw-requires c κs =
     let at-row-due = c.before.before in
     let at-start = at-row-due.before.before.before in
-    row-due-fits at-start.args.screen at-start.args.reg at-start.args.raster at-start.args.vram.now (length at-start.args.row.now)
+    row_due_fits at-start.args.screen at-start.args.reg at-start.args.raster at-start.args.vram.now (length at-start.args.row.now)
     at-row-due.row-due.ensures
 
 finish-requires : tie.Need-finish-requires
@@ -35,7 +35,7 @@ returns c =
       answer = finished (row_lines at-start.args.screen at-start.args.vram.now (length at-start.args.row.now)) at-start.args.screen
           at-start.args.vram.now (reading at-start.args.reg at-start.args.raster at-start.args.status at-start.args.colours.now)
           at-row-due.row-due.ensures c.finish.ensures at-draw.draw.ensures.0;
-      bytes = row-filled (row_lines at-start.args.screen at-start.args.vram.now (length at-start.args.row.now)) at-start.args.screen
+      bytes = row_filled_lem (row_lines at-start.args.screen at-start.args.vram.now (length at-start.args.row.now)) at-start.args.screen
           at-start.args.vram.now (reading at-start.args.reg at-start.args.raster at-start.args.status at-start.args.colours.now)
           at-row-due.row-due.ensures (λ y e. refl) at-start.args.row.now at-draw.draw.ensures.1.0;
     }

@@ -46,7 +46,7 @@ use denote.Triple.Table.{entered, cited}
 use denote.Triple.Walked.{says, Stays, stay_none, walk_of, Goes-none, Walks, ends_at, walked, walk_Meets}
 use denote.Exit.{yes}
 use denote.Triple.Clauses.{ensured, lasts}
-use Rattle.trace_record.specs.Record.{recordAt}
+use Rattle.trace_record.specs.Record.{record_at}
 use Rattle.trace_reader.specs.declared.Reader.{Reader}
 use Rattle.trace_record.specs.declared.Record.{Record}
 use Rattle.trace_reader.specs.contracts.Reader as T
@@ -86,7 +86,7 @@ module _ {M : Type 1} {𝓤 : Ura M} (𝓛 : Logic 𝓤) (mem : Memory → SProp
   v = slice_val d.recording.ref_ptr (length d.recording.now)
 
   abbrev there : Record
-  there = recordAt d.recording.now d.at
+  there = record_at d.recording.now d.at
 
   abbrev Post : Val → SProp 𝓤
   Post = (walk_of 𝓛 this.ended stayed (this.clauses 𝓛 mem run)).post (((κ, tt), (q, tt), tt, (d, tt), (mach ∷ [], tt)), tt)
@@ -167,29 +167,29 @@ module _ {M : Type 1} {𝓤 : Ura M} (𝓛 : Logic 𝓤) (mem : Memory → SProp
 module _ {M : Type 1} {𝓤 : Ura M} (𝓛 : Logic 𝓤) (mem : Memory → SProp 𝓤) (run : Routine → Fun 𝓤) where
   open 𝓛 use {H}
 
-  next-record-walks : (C : Calls 𝓤 H) (Λ : Loops 𝓤 H) → FmC 𝓤 H 𝓛.laws C → Triple 𝓤 (C #record·record-at) (RecordAt 𝓛 mem run)
+  next_record_walks : (C : Calls 𝓤 H) (Λ : Loops 𝓤 H) → FmC 𝓤 H 𝓛.laws C → Triple 𝓤 (C #record·record-at) (RecordAt 𝓛 mem run)
       → Walks 𝓛 this.ended stayed (WpFn 𝓤 H C Λ code.function) (this.clauses 𝓛 mem run)
-  next-record-walks C Λ fm known = walked 𝓛 this.ended stayed (this.clauses 𝓛 mem run) (WpFn 𝓤 H C Λ code.function)
+  next_record_walks C Λ fm known = walked 𝓛 this.ended stayed (this.clauses 𝓛 mem run) (WpFn 𝓤 H C Λ code.function)
       (λ κs. (LL.vals (T.the_type (named_lft 1 0 tt κs)) (T'.the_laws (named_lft 1 0 tt κs)), tt))
       (λ κs. (LL.tells (T.the_type (named_lft 1 0 tt κs)) (T'.the_laws (named_lft 1 0 tt κs)), tt))
       (λ κs qs bounds a g are. via 𝓤 _ (fst∗ 𝓤 _ (emp 𝓤))
       (walk 𝓛 mem run κs.0 qs.0 a.0 C Λ fm known
       ((LL.lawful (T.the_type (named_lft 1 0 tt κs)) (T'.the_laws (named_lft 1 0 tt κs)) 𝓛).typed a.0 _ are.0).0))
 
-next-record-meets : {M : Type 1} {𝓤 : Ura M} (𝓛 : Logic 𝓤) (mem : Memory → SProp 𝓤) (run : Routine → Fun 𝓤)
+next_record_meets : {M : Type 1} {𝓤 : Ura M} (𝓛 : Logic 𝓤) (mem : Memory → SProp 𝓤) (run : Routine → Fun 𝓤)
     (𝓣 : Tables 𝓤 𝓛.H)
     → Triple 𝓤 (𝓣.C #record·record-at) (RecordAt 𝓛 mem run)
     → Meets 𝓛 this.signature (WpFn 𝓤 𝓛.H 𝓣.C 𝓣.Λ code.function) (this.spec 𝓛 mem run)
-next-record-meets {𝓤 = 𝓤} 𝓛 mem run 𝓣 known-found =
+next_record_meets {𝓤 = 𝓤} 𝓛 mem run 𝓣 known-found =
     walk_Meets 𝓛 this.ended stayed (Goes-none 𝓛 1 B yes (λ κs x f. refl), tt) (this.clauses 𝓛 mem run)
     (WpFn 𝓤 𝓛.H 𝓣.C 𝓣.Λ code.function) (WpFn-mono 𝓤 𝓛.H 𝓛.laws 𝓣 code.function)
-    (next-record-walks 𝓛 mem run 𝓣.C 𝓣.Λ (fm_of 𝓤 𝓛.H 𝓛.laws 𝓣) known-found)
+    (next_record_walks 𝓛 mem run 𝓣.C 𝓣.Λ (fm_of 𝓤 𝓛.H 𝓛.laws 𝓣) known-found)
 
 pub next-record-spec : {M : Type 1} → stated.statement M
 unfolding code.routine tables_of
 next-record-spec 𝓤 𝓛 𝓜 𝓡 =
     entered 𝓤 𝓛.H (triple_of 𝓛 this.signature (this.spec 𝓛 𝓜.mem 𝓡.run))
     (tables 𝓤 𝓛.H 𝓜 𝓡 code.env).C (tables 𝓤 𝓛.H 𝓜 𝓡 code.env).Λ #record·next-record code.function (code.unfolded 𝓤 𝓛.H 𝓜 𝓡)
-    (next-record-meets 𝓛 𝓜.mem 𝓡.run (tables_of 𝓤 𝓛.H 𝓜 (tables 𝓤 𝓛.H 𝓜 𝓡 code.env))
+    (next_record_meets 𝓛 𝓜.mem 𝓡.run (tables_of 𝓤 𝓛.H 𝓜 (tables 𝓤 𝓛.H 𝓜 𝓡 code.env))
     (cited 𝓤 𝓛.H (RecordAt 𝓛 𝓜.mem 𝓡.run) 𝓜 𝓡 code.env #record·record-at Found-def.routine code.calls-trace-record::record-at
     (found-thm.met 𝓤 𝓛 𝓜 𝓡)))

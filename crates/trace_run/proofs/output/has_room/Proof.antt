@@ -1,6 +1,6 @@
 -- `trace_run::output::has_room` meets its contract: whether a frame is one of this screen, and there is room for its picture.
 use borrow.Author.Rules.{rules}
-use Rattle.trace_run.proofs.Outputs.{no-picture, a-picture}
+use Rattle.trace_run.proofs.Outputs.{no_picture, a_picture}
 use Rattle.trace_run.proofs.output.has_room.Statement.{statement}
 use Rattle.trace_run.proofs.output.has_room.Tie as tie
 
@@ -18,7 +18,7 @@ returns c =
     let at-pixel-count = c.before in
     let at-start = at-pixel-count.before in
     let a = at-start.args in
-    no-picture a.screen a.frame a.out at-pixel-count.pixel-count.ensures.0 c.if1.true
+    no_picture a.screen a.frame a.out at-pixel-count.pixel-count.ensures.0 c.if1.true
 
 mul-result : tie.Need-overflow-mul-result
 mul-result c = search rules
@@ -28,7 +28,7 @@ returns-2 c =
     let at-pixel-count = c.before in
     let at-start = at-pixel-count.before in
     let a = at-start.args in
-    a-picture a.screen a.frame a.out at-pixel-count.pixel-count.ensures.0 c.if1.false
+    a_picture a.screen a.frame a.out at-pixel-count.pixel-count.ensures.0 c.if1.false
 
 pub has-room-spec : {M : Type 1} → statement M
 has-room-spec =

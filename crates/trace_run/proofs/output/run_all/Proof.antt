@@ -4,15 +4,15 @@ use native.Mathlib.Omega.{arith}
 use mathlib.Core.Path.{◌≡◌, refl, ap, ◌∙◌}
 use Prim.Native.Nat.{ℕ, ◌-◌, ◌≤◌}
 use lib.ListN.{length}
-use Rattle.trace_run.specs.Run.{held, start, turnFor, after, ran}
-use Rattle.trace_run.proofs.Outputs.{ran-leaves}
-use Rattle.trace_run.proofs.Runs.{moves-for, ran-small, world-more}
+use Rattle.trace_run.specs.Run.{held, start, turn_for, after, ran}
+use Rattle.trace_run.proofs.Outputs.{ran_leaves}
+use Rattle.trace_run.proofs.Runs.{moves_for, ran_small, world_more}
 use Rattle.trace_run.proofs.output.run_all.Statement.{statement}
 use Rattle.trace_run.proofs.output.run_all.Tie as tie
 
 abbrev invariant-loop : tie.invariant-loop
 invariant-loop shown input vram₀ row₀ frame₀ run₀ i₀ vram row frame run i =
-    (i ≤ length input) × (held run vram row frame ≡ after (turnFor shown) i input (held run₀ vram₀ row₀ frame₀))
+    (i ≤ length input) × (held run vram row frame ≡ after (turn_for shown) i input (held run₀ vram₀ row₀ frame₀))
     × (length vram ≡ length vram₀) × (length row ≡ length row₀) × (length frame ≡ length frame₀)
 
 abbrev decreases-loop : tie.decreases-loop
@@ -32,9 +32,9 @@ turn-requires c κs =
     let a = at-start.args in
     let s = a.input.now in
     let w = start a.device a.vram.now a.row.now a.frame.now in
-    let t = turnFor a.shown in
+    let t = turn_for a.shown in
     let l = at-loop.loop in
-    let g = ran-small (moves-for a.shown) l.i s w l.invariant.1 refl refl in
+    let g = ran_small (moves_for a.shown) l.i s w l.invariant.1 refl refl in
     (omega (arith, g.inside, at-start.requires.0), omega (arith, g.inside, g.counted, at-start.requires.0), omega (arith, at-start.requires.1, l.invariant.4))
 
 add-i : tie.Need-overflow-add-i invariant-loop decreases-loop
@@ -52,11 +52,11 @@ loop-again c =
     let a = at-start.args in
     let s = a.input.now in
     let w = start a.device a.vram.now a.row.now a.frame.now in
-    let t = turnFor a.shown in
+    let t = turn_for a.shown in
     let l = at-loop.loop in
     let k = at_turn.turn in (
       omega (arith, at-loop-test.loop-test.true),
-      world-more t s w l.i l.invariant.1 k.ensures,
+      world_more t s w l.i l.invariant.1 k.ensures,
       k.auto.1.1.1.0 ∙ l.invariant.2,
       k.auto.1.1.1.1.0 ∙ l.invariant.3,
       k.auto.1.1.1.1.1.0 ∙ l.invariant.4,
@@ -78,10 +78,10 @@ returns c =
     let a = at-start.args in
     let s = a.input.now in
     let w = start a.device a.vram.now a.row.now a.frame.now in
-    let t = turnFor a.shown in
+    let t = turn_for a.shown in
     let l = c.before.loop in
     let all : l.i ≡ length s = omega (arith, l.invariant.0, c.loop-test.false) in
-    ran-leaves {x = held l.run l.vram l.row l.frame} (l.invariant.1 ∙ ap (λ (k : ℕ). after t k s w) all)
+    ran_leaves {x = held l.run l.vram l.row l.frame} (l.invariant.1 ∙ ap (λ (k : ℕ). after t k s w) all)
 
 pub run-all-spec : {M : Type 1} → statement M
 run-all-spec =

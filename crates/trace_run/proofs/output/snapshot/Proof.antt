@@ -5,12 +5,12 @@ use native.Mathlib.Omega.{arith}
 use mathlib.Core.Path.{refl, sym, ◌∙◌}
 use lib.Dec.{lit≤}
 use lib.ListN.{length}
-use Rattle.trace_text.specs.Text.{longLine}
-use Rattle.trace_run.specs.Run.{start, turnFor, ran}
-use Rattle.trace_text.proofs.Endings.{drawn-short}
-use Rattle.trace_run.specs.Output.{screenFor}
-use Rattle.trace_run.proofs.Outputs.{snapshot-no-room, snapshot-long, snapshot-whole, snapshot-leaves, same-leaves, roomy, lent, lent-in}
-use Rattle.trace_run.proofs.Runs.{frame-enough}
+use Rattle.trace_text.specs.Text.{long_line}
+use Rattle.trace_run.specs.Run.{start, turn_for, ran}
+use Rattle.trace_text.proofs.Endings.{drawn_short}
+use Rattle.trace_run.specs.Output.{screen_for}
+use Rattle.trace_run.proofs.Outputs.{snapshot_no_room, snapshot_long, snapshot_whole, snapshot_leaves, same_leaves, roomy, lent, lent_in}
+use Rattle.trace_run.proofs.Runs.{frame_enough}
 use Rattle.trace_run.proofs.output.snapshot.Statement.{statement}
 use Rattle.trace_run.proofs.output.snapshot.Tie as tie
 
@@ -29,10 +29,10 @@ returns c =
     let s = a.input.now in
     let o = a.out.now in
     let w = start a.device a.vram.now a.row.now a.frame.now in
-    let t = turnFor a.shown in
+    let t = turn_for a.shown in
     let q = at-screen-for.screen-for.ensures in
     let e = rw q at at-has-room.has_room.ensures in
-    (snapshot-leaves t w (snapshot-no-room t s w o (sym e ∙ not-true _ c.if1.true)), lent 0 o (omega arith))
+    (snapshot_leaves t w (snapshot_no_room t s w o (sym e ∙ not-true _ c.if1.true)), lent 0 o (omega arith))
 
 slice-aggregate-put-all : tie.Need-slice-aggregate-put-all
 slice-aggregate-put-all c = search rules
@@ -52,7 +52,7 @@ same_length : tie.Need-same-length
 same_length c = search rules
 
 returns-2 : tie.Need-returns-2
-unfolding longLine
+unfolding long_line
 returns-2 c =
     let at-put-all = c.before.before in
     let at-if2 = at-put-all.before.before.before in
@@ -64,14 +64,14 @@ returns-2 c =
     let s = a.input.now in
     let o = a.out.now in
     let w = start a.device a.vram.now a.row.now a.frame.now in
-    let t = turnFor a.shown in
+    let t = turn_for a.shown in
     let q = at-screen-for.screen-for.ensures in
     let e = rw q at at-has-room.has_room.ensures in
     let h = sym e ∙ not-false _ at-if1.if1.false in
-    let y = roomy (screenFor a.device.machine) (length a.frame.now) (length o) h in
+    let y = roomy (screen_for a.device.machine) (length a.frame.now) (length o) h in
     let p = at-put-all.put_all_lem in (
-      snapshot-leaves t w (snapshot-long t s w o h at-if2.if2.true p.ensures.0 p.ensures.1),
-      lent-in p.result p.new.0 p.ensures.0 (lit≤ tt) y.long p.auto.0,
+      snapshot_leaves t w (snapshot_long t s w o h at-if2.if2.true p.ensures.0 p.ensures.1),
+      lent_in p.result p.new.0 p.ensures.0 (lit≤ tt) y.long p.auto.0,
     )
 
 run-all-requires : tie.Need-run-all-requires
@@ -84,7 +84,7 @@ run-all-requires c κs =
     let a = at-start.args in
     let e = sym at-has-room.has_room.ensures ∙ not-false _ at-if1.if1.false in
     let y = roomy at-screen-for.screen-for.result (length a.frame.now) (length a.out.now) e in
-    (at-if2.if2.false, frame-enough a.shown (length a.frame.now) y.visible)
+    (at-if2.if2.false, frame_enough a.shown (length a.frame.now) y.visible)
 
 put-picture-requires : tie.Need-put-picture-requires
 put-picture-requires c κs =
@@ -124,17 +124,17 @@ returns-3 c =
     let s = a.input.now in
     let o = a.out.now in
     let w = start a.device a.vram.now a.row.now a.frame.now in
-    let t = turnFor a.shown in
+    let t = turn_for a.shown in
     let q = at-screen-for.screen-for.ensures in
     let e = rw q at at-has-room.has_room.ensures in
     let h = sym e ∙ not-false _ at-if1.if1.false in
-    let y = roomy (screenFor a.device.machine) (length a.frame.now) (length o) h in
+    let y = roomy (screen_for a.device.machine) (length a.frame.now) (length o) h in
     let l = at-run-all.run-all.ensures in
     let f = at-put-picture.put-picture in
     let g = rw (q, l.place, l.picture) at f.ensures in
     let x = ran t s w in (
-      same-leaves l (snapshot-leaves t x (snapshot-whole t s w o h at-if2.if2.false refl g)),
-      lent-in f.result f.new.0 g.0 (drawn-short (screenFor a.device.machine) s x.run.at x.frame) y.room f.auto.0,
+      same_leaves l (snapshot_leaves t x (snapshot_whole t s w o h at-if2.if2.false refl g)),
+      lent_in f.result f.new.0 g.0 (drawn_short (screen_for a.device.machine) s x.run.at x.frame) y.room f.auto.0,
     )
 
 pub snapshot-spec : {M : Type 1} → statement M

@@ -6,19 +6,19 @@ use Prim.Native.Nat.{ℕ, ◌-◌, ◌≤◌}
 use native.Mathlib.Omega.{arith}
 use lib.ListN.{length}
 use Rattle.laws.specs.Lists.{written}
-use Rattle.laws.proofs.Lists.{written-nil}
-use Rattle.trace_text.specs.Text.{longLine}
-use Rattle.trace_run.specs.Run.{held, start, rowTurn, after, lines}
-use Rattle.trace_text.proofs.Endings.{last-short}
-use Rattle.trace_run.proofs.Outputs.{text-whole, trace-no-room, trace-long, trace-whole, trace-leaves, lent, lent-behind}
-use Rattle.trace_run.proofs.Runs.{row-moves, ran-small, place-fits, count_fits, text-fits, line-fits, last_fits, world-more, text-more}
+use Rattle.laws.proofs.Lists.{written_nil}
+use Rattle.trace_text.specs.Text.{long_line}
+use Rattle.trace_run.specs.Run.{held, start, row_turn, after, lines}
+use Rattle.trace_text.proofs.Endings.{last_short}
+use Rattle.trace_run.proofs.Outputs.{text_whole, trace_no_room, trace_long, trace_whole, trace_leaves, lent, lent_behind}
+use Rattle.trace_run.proofs.Runs.{row_moves, ran_small, place_fits, count_fits, text_fits, line_fits, last_fits, world_more, text_more}
 use Rattle.trace_run.proofs.output.trace.Statement.{statement}
 use Rattle.trace_run.proofs.output.trace.Tie as tie
 
 abbrev invariant-loop : tie.invariant-loop
 invariant-loop input vram₀ row₀ out₀ run₀ none₀ len₀ i₀ vram row out run none len i =
-    (i ≤ length input) × (held run vram row none ≡ after rowTurn i input (held run₀ vram₀ row₀ none₀))
-    × (len ≡ length (lines rowTurn i input (held run₀ vram₀ row₀ none₀))) × (out ≡ written out₀ 0 (lines rowTurn i input (held run₀ vram₀ row₀ none₀)))
+    (i ≤ length input) × (held run vram row none ≡ after row_turn i input (held run₀ vram₀ row₀ none₀))
+    × (len ≡ length (lines row_turn i input (held run₀ vram₀ row₀ none₀))) × (out ≡ written out₀ 0 (lines row_turn i input (held run₀ vram₀ row₀ none₀)))
     × (length vram ≡ length vram₀) × (length row ≡ length row₀) × (length out ≡ length out₀) × (length none ≡ 0)
 
 abbrev decreases-loop : tie.decreases-loop
@@ -31,7 +31,7 @@ returns c =
     let s = a.input.now in
     let o = a.out.now in
     let w = start a.device a.vram.now a.row.now [] in
-    (trace-leaves w (trace-no-room s w o c.if1.true), lent 0 o (omega arith))
+    (trace_leaves w (trace_no_room s w o c.if1.true), lent 0 o (omega arith))
 
 slice-aggregate-put-all : tie.Need-slice-aggregate-put-all invariant-loop decreases-loop
 slice-aggregate-put-all c = search rules
@@ -43,7 +43,7 @@ same_length : tie.Need-same-length invariant-loop decreases-loop
 same_length c = search rules
 
 returns-2 : tie.Need-returns-2 invariant-loop decreases-loop
-unfolding longLine
+unfolding long_line
 returns-2 c =
     let at-put-all = c.before.before in
     let at-if2 = at-put-all.before.before.before in
@@ -55,7 +55,7 @@ returns-2 c =
     let w = start a.device a.vram.now a.row.now [] in
     let big : 327700 ≤ length o = at-if1.if1.false in
     let p = at-put-all.put_all_lem.ensures in (
-      trace-leaves w (trace-long s w o big at-if2.if2.true p.0 p.1),
+      trace_leaves w (trace_long s w o big at-if2.if2.true p.0 p.1),
       lent at-put-all.put_all_lem.result at-put-all.put_all_lem.new.0 (omega (arith, p.0, at-put-all.put_all_lem.auto.0)),
     )
 
@@ -70,7 +70,7 @@ loop-holds c =
       omega arith,
       (λ j. held (record { device = a.device; at = 0; count = 0 }) a.vram.now a.row.now []),
       refl,
-      sym (written-nil o 0),
+      sym (written_nil o 0),
       refl,
       refl,
       refl,
@@ -96,8 +96,8 @@ turn-requires c κs =
     let big : 327700 ≤ length o = at-if1.if1.false in
     let l = at-loop.loop in
     let e = l.invariant.1 in
-    let g = ran-small row-moves l.i s w e refl refl in
-    (place-fits short g, count_fits short g, omega arith)
+    let g = ran_small row_moves l.i s w e refl refl in
+    (place_fits short g, count_fits short g, omega arith)
 
 put-answer-requires : tie.Need-put-answer-requires invariant-loop decreases-loop
 put-answer-requires c κs =
@@ -113,8 +113,8 @@ put-answer-requires c κs =
     let big : 327700 ≤ length o = at-if1.if1.false in
     let l = at-loop.loop in
     let e = l.invariant.1 in
-    let g = ran-small row-moves l.i s w e refl refl in
-    line-fits short g big l.invariant.2 l.invariant.6
+    let g = ran_small row_moves l.i s w e refl refl in
+    line_fits short g big l.invariant.2 l.invariant.6
 
 add-i : tie.Need-overflow-add-i invariant-loop decreases-loop
 add-i c = search rules
@@ -139,13 +139,13 @@ loop-again c =
     let big : 327700 ≤ length o = at-if1.if1.false in
     let l = at-loop.loop in
     let e = l.invariant.1 in
-    let g = ran-small row-moves l.i s w e refl refl in
+    let g = ran_small row_moves l.i s w e refl refl in
     let t = at_turn.turn in
     let p = at-put-answer.put-answer in
-    let room = text-fits short g big in
-    let m = text-more rowTurn s w l.i e o t.ensures room l.invariant.2 l.invariant.3 p.ensures in (
+    let room = text_fits short g big in
+    let m = text_more row_turn s w l.i e o t.ensures room l.invariant.2 l.invariant.3 p.ensures in (
       omega (arith, at-loop-test.loop-test.true),
-      world-more rowTurn s w l.i e t.ensures,
+      world_more row_turn s w l.i e t.ensures,
       m.0,
       m.1,
       t.auto.1.1.1.0 ∙ l.invariant.4,
@@ -168,7 +168,7 @@ put-last-requires c κs =
     let big : 327700 ≤ length o = at-if1.if1.false in
     let l = at-loop.loop in
     let e = l.invariant.1 in
-    let g = ran-small row-moves l.i s w e refl refl in
+    let g = ran_small row_moves l.i s w e refl refl in
     last_fits short g big l.invariant.2 l.invariant.6
 
 same-length-2 : tie.Need-same-length-2 invariant-loop decreases-loop
@@ -196,17 +196,17 @@ returns-3 c =
     let big : 327700 ≤ length o = at-if1.if1.false in
     let l = at-loop.loop in
     let e = l.invariant.1 in
-    let g = ran-small row-moves l.i s w e refl refl in
+    let g = ran_small row_moves l.i s w e refl refl in
     let f = at-put-last.put_last in
     let all : l.i ≡ length s = omega (arith, l.invariant.0, at-loop-test.loop-test.false) in
     let x = held l.run l.vram l.row l.none in
-    let ex : x ≡ after rowTurn (length s) s w = e ∙ ap (λ (k : ℕ). after rowTurn k s w) all in
-    let room : length (lines rowTurn (length s) s w) ≤ length o = rw all at (text-fits short g big) in
-    let en = l.invariant.2 ∙ ap (λ (k : ℕ). length (lines rowTurn k s w)) all in
-    let eo = l.invariant.3 ∙ ap (λ (k : ℕ). written o 0 (lines rowTurn k s w)) all in
-    let t = text-whole s w ex o room en eo f.ensures in (
-      trace-leaves x (trace-whole s w o big short ex t),
-      lent-behind f.result f.new.0 l.len f.ensures.0 (last-short s l.run.at l.run.count) (last_fits short g big l.invariant.2 l.invariant.6)
+    let ex : x ≡ after row_turn (length s) s w = e ∙ ap (λ (k : ℕ). after row_turn k s w) all in
+    let room : length (lines row_turn (length s) s w) ≤ length o = rw all at (text_fits short g big) in
+    let en = l.invariant.2 ∙ ap (λ (k : ℕ). length (lines row_turn k s w)) all in
+    let eo = l.invariant.3 ∙ ap (λ (k : ℕ). written o 0 (lines row_turn k s w)) all in
+    let t = text_whole s w ex o room en eo f.ensures in (
+      trace_leaves x (trace_whole s w o big short ex t),
+      lent_behind f.result f.new.0 l.len f.ensures.0 (last_short s l.run.at l.run.count) (last_fits short g big l.invariant.2 l.invariant.6)
           f.auto.0,
     )
 

@@ -1,7 +1,7 @@
 -- `trace_text::end::pixel_count` meets its contract: the pixels of a screen, of which its frame has four bytes each and its picture three.
 use borrow.Author.Rules.{rules}
 use native.Mathlib.Omega.{arith}
-use Rattle.trace_text.specs.End.{pixelCount}
+use Rattle.trace_text.specs.End.{pixel_count}
 use Rattle.trace_text.proofs.end.pixel_count.Statement.{statement}
 use Rattle.trace_text.proofs.end.pixel_count.Tie as tie
 
@@ -18,19 +18,19 @@ enum-told-4 : tie.Need-enum-told-4
 enum-told-4 c = search rules
 
 returns : tie.Need-returns
-unfolding pixelCount
+unfolding pixel_count
 returns c = (rw c.enum_told.given.1, omega arith)
 
 returns-2 : tie.Need-returns-2
-unfolding pixelCount
+unfolding pixel_count
 returns-2 c = (rw c.enum-told2.given.1, omega arith)
 
 returns-3 : tie.Need-returns-3
-unfolding pixelCount
+unfolding pixel_count
 returns-3 c = (rw c.enum-told3.given.1, omega arith)
 
 returns-4 : tie.Need-returns-4
-unfolding pixelCount
+unfolding pixel_count
 returns-4 c = (rw c.enum-told4.given.1, omega arith)
 
 pub pixel-count-spec : {M : Type 1} → statement M

@@ -1,6 +1,6 @@
 -- `trace_text::end::put_last` meets its contract: the last line of a trace: the count of records, or where the recording is bad.
 use borrow.Author.Rules.{rules}
-use Rattle.trace_text.proofs.Endings.{last_end, last-bad}
+use Rattle.trace_text.proofs.Endings.{last_end, last_bad}
 use Rattle.trace_text.proofs.Lines.{put_as}
 use Rattle.trace_text.proofs.end.put_last.Statement.{statement}
 use Rattle.trace_text.proofs.end.put_last.Tie as tie
@@ -37,7 +37,7 @@ returns-2 c =
     let at-if1 = at-put-numbered2.before.before.before in
     let at-start = at-if1.before.before.before in
     let a = at-start.args in
-    put_as a.out.now a.at (last-bad a.input.now a.stopped a.count at-if1.if1.false) at-put-numbered2.put-numbered2.ensures
+    put_as a.out.now a.at (last_bad a.input.now a.stopped a.count at-if1.if1.false) at-put-numbered2.put-numbered2.ensures
 
 pub put-last-spec : {M : Type 1} → statement M
 put-last-spec =

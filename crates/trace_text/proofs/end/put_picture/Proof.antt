@@ -3,7 +3,7 @@ use borrow.Author.Rules.{rules}
 use mathlib.Core.Path.{ap, ◌∙◌}
 use lib.ListN.{length}
 use Rattle.laws.specs.Lists.{written}
-use Rattle.trace_text.proofs.Endings.{drawn-end, drawn-bad}
+use Rattle.trace_text.proofs.Endings.{drawn_end, drawn_bad}
 use Rattle.trace_text.proofs.Lines.{put_as}
 use Rattle.trace_text.specs.End.{drawn}
 use native.Mathlib.Nat.{zero-add}
@@ -22,7 +22,7 @@ returns c =
     let at-if1 = at-put-ppm.before.before in
     let at-start = at-if1.before.before.before.before in
     let a = at-start.args in
-    let q = drawn-end a.screen a.input.now a.stopped a.frame.now at-if1.if1.true in
+    let q = drawn_end a.screen a.input.now a.stopped a.frame.now at-if1.if1.true in
     let p = at-put-ppm.put-ppm.ensures in
     (p.0 ∙ ap length q, p.1 ∙ ap (written a.out.now 0) q)
 
@@ -41,7 +41,7 @@ returns-2 c =
     let at-if1 = at-put-numbered.before.before.before in
     let at-start = at-if1.before.before.before.before in
     let a = at-start.args in
-    let g = put_as a.out.now 0 (drawn-bad a.screen a.input.now a.stopped a.frame.now at-if1.if1.false)
+    let g = put_as a.out.now 0 (drawn_bad a.screen a.input.now a.stopped a.frame.now at-if1.if1.false)
     at-put-numbered.put-numbered.ensures in
     (g.0 ∙ zero-add (length (drawn a.screen a.input.now a.stopped a.frame.now)), g.1)
 

@@ -5,8 +5,8 @@ use Prim.Native.Nat.{ℕ, ◌+◌, ◌-◌, ◌*◌, ◌≤◌}
 use native.Mathlib.Omega.{arith}
 use lib.ListN.{length}
 use Rattle.laws.specs.Lists.{written}
-use Rattle.trace_text.proofs.Endings.{length-header, no-pixel, pixel-more, all-pixels, length-ppm}
-use Rattle.trace_text.specs.End.{pixelCount, pixels}
+use Rattle.trace_text.proofs.Endings.{length-header, no_pixel, pixel_more, all_pixels, length-ppm}
+use Rattle.trace_text.specs.End.{pixel_count, pixels}
 use Rattle.trace_text.proofs.end.put_ppm.Statement.{statement}
 use Rattle.trace_text.proofs.end.put_ppm.Tie as tie
 
@@ -41,7 +41,7 @@ loop-holds c =
     let at-start = at-header-of.before.before.before.before in (
       omega arith,
       omega (arith, at-put-all.put_all_lem.ensures.0, (ap length at-header-of.header_of.ensures ∙ length-header at-start.args.screen)),
-      no-pixel at-put-all.put_all_lem.new.0 at-start.args.frame.now,
+      no_pixel at-put-all.put_all_lem.new.0 at-start.args.frame.now,
       refl,
     )
 
@@ -87,7 +87,7 @@ loop-again c =
     let inside : 4 * l.i + 3 ≤ length a.frame.now = omega (arith, at-start.requires.1) in (
       omega arith,
       omega (arith, p.0),
-      pixel-more o a.frame.now l.i room inside l.invariant.1 l.invariant.2 p.1,
+      pixel_more o a.frame.now l.i room inside l.invariant.1 l.invariant.2 p.1,
       at-put-all2.put-all2.auto.0 ∙ l.invariant.3,
     )
 
@@ -102,10 +102,10 @@ returns c =
     let at-start = at-pixel-count.before.before.before in
     let a = at-start.args in
     let l = c.before.loop in
-    let e : l.i ≡ pixelCount a.screen = omega (arith, at-pixel-count.pixel-count.ensures.0, l.invariant.0, c.loop-test.false) in
+    let e : l.i ≡ pixel_count a.screen = omega (arith, at-pixel-count.pixel-count.ensures.0, l.invariant.0, c.loop-test.false) in
     let o = at-put-all.put_all_lem.new.0 in (
       omega (arith, length-ppm a.screen a.frame.now),
-      all-pixels a.screen a.out.now a.frame.now (omega (arith, at-start.requires.0))
+      all_pixels a.screen a.out.now a.frame.now (omega (arith, at-start.requires.0))
           (at-put-all.put_all_lem.ensures.1 ∙ ap (written a.out.now 0) at-header-of.header_of.ensures)
           (l.invariant.2 ∙ ap (λ (k : ℕ). written o 15 (pixels k a.frame.now)) e),
     )

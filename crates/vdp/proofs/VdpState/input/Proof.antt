@@ -1,6 +1,6 @@
 -- `vdp::VdpState::input` meets its contract: a port read, all of it the front's but for the line counter.
 use borrow.Author.Rules.{rules}
-use Rattle.vdp.specs.Ports.{portRead}
+use Rattle.vdp.specs.Ports.{port_read}
 use Rattle.vdp.proofs.VdpState.input.Statement.{statement}
 use Rattle.vdp.proofs.VdpState.input.Tie as tie
 
@@ -14,7 +14,7 @@ with-front-requires : tie.Need-with-front-requires
 with-front-requires c κs = search rules
 
 returns : tie.Need-returns
-unfolding portRead
+unfolding port_read
 returns c =
     let at_read = c.before.before in
     let at_front = at_read.before in
