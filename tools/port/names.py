@@ -22,12 +22,17 @@ HERE = os.path.dirname(os.path.realpath(__file__))
 
 # Lemmas and constructors of the repository that have the new name of a definition: the lemma gets an ending, the definition another name.
 LEMMAS = "codes_at end_line front_at line_set on_line on_row row_on too_long turn_by".split()
-OTHERWISE = {"rowStep": "row_step_of", "frameStep": "frame_step_of"}
+OTHERWISE = {
+    "rowStep": "row_step_of",
+    "frameStep": "frame_step_of",
+    "by-home-new": "by_home_new",
+    "by-home-new-table": "by_home_new_table",
+}
 
 
 def files(top):
     for folder, folders, names in os.walk(os.path.join(top, "crates")):
-        folders[:] = sorted(f for f in folders if f != "out")
+        folders[:] = sorted(f for f in folders if f != "out" or "proofs" in folder.split(os.sep))
         for name in sorted(names):
             if name.endswith((".antt", ".rt")):
                 yield os.path.join(folder, name)
