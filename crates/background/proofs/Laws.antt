@@ -1,6 +1,7 @@
 -- The laws of a row of background: the columns of one tile, their marks, and where runs of pixels start.
 -- Assumes nothing.
-use Rattle.std.proofs.Common.{◌≡◌, ℕ, ◌+◌, ◌-◌, ◌*◌, ◌/◌, ◌%◌, ◌^◌, ◌<◌, ◌≤◌, min, Bool, true, false, cond, ◌&&◌, ◌||◌, eqb, ltb, ◌≢◌, ◌⊎◌, List, sym, refl, ap, ◌∙◌, inr, ⊎_elim, add_assoc, zero-add, arith, le-ltb, lt-ltb, ne_eqb}
+use Rattle.std.proofs.Common.{◌≡◌, ℕ, ◌+◌, ◌-◌, ◌*◌, ◌/◌, ◌%◌, ◌^◌, ◌<◌, ◌≤◌, min, Bool, true, false, cond, ◌&&◌, ◌||◌, eqb, ltb, ◌≢◌, ◌⊎◌, List, sym, refl, ap}
+use Rattle.std.proofs.Common.{◌∙◌, inr, ⊎_elim, add_assoc, zero-add, arith, le-ltb, lt-ltb, ne_eqb}
 use mathlib.Core.Bool.{and-false, or-false}
 use native.Mathlib.Decide.{dec_lt, ℕ_discrete}
 use lib.Pow.{field, mod-mod-pow}

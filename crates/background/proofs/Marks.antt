@@ -1,6 +1,7 @@
 -- A row of whole tiles' marks, laid into the mask together: byte k + 1 of the marks is the tile from place 8 k + s on.
 -- Assumes nothing.
-use Rattle.std.proofs.Common.{◌≡◌, ℕ, ◌+◌, ◌-◌, ◌*◌, ◌/◌, ◌%◌, ◌^◌, ◌<◌, ◌≤◌, Bool, ◌&&◌, ◌||◌, ltb, ◌≢◌, List, length, get_or, set, replicate, sym, ap, ◌∙◌, ap₂, arith, length-set, get_or-set_other, get_or-set_same, le-ltb, lt-ltb}
+use Rattle.std.proofs.Common.{◌≡◌, ℕ, ◌+◌, ◌-◌, ◌*◌, ◌/◌, ◌%◌, ◌^◌, ◌<◌, ◌≤◌, Bool, ◌&&◌, ◌||◌, ltb, ◌≢◌, List, length, get_or, set, replicate, sym, ap, ◌∙◌}
+use Rattle.std.proofs.Common.{ap₂, arith, length-set, get_or-set_other, get_or-set_same, le-ltb, lt-ltb}
 use mathlib.Core.Bool.{or-false}
 use native.Mathlib.Decide.{dec_lt, ℕ_discrete}
 use lib.ListN.{length-replicate, get_or-replicate, get_or-eq_default}

@@ -1,4 +1,6 @@
 // The background of a row (R5.1), tile by tile, with the priority mask that its tiles mark (R5.5).
+#![tactic(auto)]
+
 ghost use Rattle.std.specs.Prelude.{◌≡◌, ◌+◌, ◌-◌, ◌*◌, ◌/◌, ◌%◌, ◌<◌, ◌≤◌, ◌||◌, ◌⊎◌, length, if◌then◌else◌};
 ghost use Rattle.laws.specs.Bits.{bit, number};
 ghost use Rattle.laws.specs.Lists.{at};

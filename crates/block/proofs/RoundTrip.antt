@@ -1,4 +1,4 @@
--- A device that is stored in a block is read back, and a well_formed_lem block of bytes is the block of the device that it holds.
+-- A device that is stored in a block is read back, and a well-formed block of bytes is the block of the device that it holds.
 -- Assumes nothing.
 use mathlib.Core.Path.{◌≡◌, refl, sym, ap, ◌∙◌}
 use mathlib.Core.Bool.{true, ◌&&◌}
@@ -164,7 +164,7 @@ module _ (n : ℕ) (s : VdpState) (g : Shape s) where
         byte_ok s.cram_byte1,
       ))
 
--- ---- a well_formed_lem block is the block of its device
+-- ---- a well-formed block is the block of its device
 number_in : (x : ℕ) → x ≤ 1 → line_table_number (line_table_from x) ≡ x
 number_in zero h = refl
 number_in (suc zero) h = refl

@@ -1,4 +1,4 @@
--- A fresh device of either table has the shape that the block asks, so has that of a well_formed_lem block, and every port call keeps it.
+-- A fresh device of either table has the shape that the block asks, so has that of a well-formed block, and every port call keeps it.
 -- Assumes nothing.
 use Prim.Native.Nat.{ℕ, zero, suc, ◌+◌, ◌-◌, ◌%◌, ◌≤◌, ◌<◌}
 use mathlib.Core.Path.{◌≡◌, refl, ap, ◌∙◌}
@@ -45,7 +45,7 @@ made_shape t =
       colour = λ i. rw (zeros 32 i) (omega arith);
     }
 
--- and so has the device of a well_formed_lem block
+-- and so has the device of a well-formed block
 module _ (b : List ℕ) (w : well_formed b ≡ true) (bytes : (i : ℕ) → at b i < 256) where
   part_byte : (n k i : ℕ) → at (take n (drop k b)) i < 256
   part_byte n k i =

@@ -1,4 +1,6 @@
 // The state block (R7.5): a device as 219 or 220 bytes, and back.
+#![tactic(auto)]
+
 ghost use Rattle.std.specs.Prelude.{◌≡◌, ◌≤◌, ◌<◌, length};
 ghost use Rattle.laws.specs.Lists.{at};
 ghost use Rattle.block.specs.Block.{old_size, mark_of, fits, fresh_in, state_of, well_formed};

@@ -1,4 +1,6 @@
 // The parts that either machine's state block has, each read or stored by itself, at the places that the machine tells.
+#![tactic(auto)]
+
 ghost use Rattle.std.specs.Prelude.{◌≡◌, ◌+◌, ◌≤◌, ◌<◌, length, drop, replicate};
 ghost use Rattle.laws.specs.Lists.{at};
 ghost use Rattle.std.proofs.Math.Seq.{paste};

@@ -28,7 +28,7 @@ pub front_stored_lem : (n : ℕ) (s : VdpState) (f : Front) → Sized s → fron
 unfolding block_of head small last
 front_stored_lem n s f g = in_block.front_put _ _ _ s.reg _ _ _ g.registers _ _ _ _ _ _ _ f
 
--- so it is in a well_formed_lem block
+-- so it is in a well-formed block
 module _ (b : List ℕ) (w : well_formed b ≡ true) (bytes : (i : ℕ) → at b i < 256) (g : Sized (state_of b)) where
   pub stored_front : (f : Front) {b' : List ℕ} → b' ≡ front_stored f b → b' ≡ block_of (length b) (with_front (state_of b) f)
   stored_front f e = e ∙ ap (front_stored f) (sym (block_back b w bytes)) ∙ front_stored_lem (length b) (state_of b) f g

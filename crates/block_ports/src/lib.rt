@@ -1,5 +1,7 @@
 // The handheld's ports on its state block, in place: the front's, which are those of either machine, and its own palette: 64 bytes from 27 on, the byte
 // that waits at 23 and 24, the dirty flag at 26.
+#![tactic(auto)]
+
 ghost use Rattle.std.specs.Prelude.{◌≡◌, true, ℕ, ◌≤◌, ◌<◌, length};
 ghost use Rattle.laws.specs.Sizes.{cram_size};
 ghost use Rattle.vdp.specs.declared.VdpState.{VdpState};
@@ -36,7 +38,7 @@ fn write_palette(block: &mut [u8], val: u8) -> Refusal
     Refusal::Accepted
 }
 
-// A port write on the device of a well_formed_lem block.
+// A port write on the device of a well-formed block.
 pub fn out(block: &mut [u8], vram: &mut [u8], port: u16, val: u8) -> Refusal
     requires { well_formed block.old ≡ true }
     ensures { OutInPlace block.old vram.old port val result block.new vram.new }

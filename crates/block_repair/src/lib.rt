@@ -1,4 +1,6 @@
 // Salvage (R17.1 to R17.5): a damaged state block, mended in the caller's buffer, and the offsets that changed.
+#![tactic(auto)]
+
 ghost use Rattle.std.specs.Prelude.{◌≡◌, Bool, ◌+◌, ◌*◌, ◌≤◌, ◌<◌, length, take};
 ghost use Rattle.laws.specs.Lists.{at};
 ghost use Rattle.vdp.specs.Refusals.{size};
@@ -16,7 +18,7 @@ use small::VRAM_ADDRESSES;
 use vdp::CRAM_SIZE;
 
 // What a repair answers: the refusal, and how many offsets have changed.
-#[derive(Drop)]
+#[derive(Clone, Copy)]
 pub struct Repaired {
     pub refusal: Refusal,
     pub count: usize,

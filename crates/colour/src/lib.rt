@@ -1,4 +1,6 @@
 // Colours: one from two palette bytes, and the 32 of the whole palette; and those of the home machine, one from each palette byte.
+#![tactic(auto)]
+
 ghost use Rattle.std.specs.Prelude.{◌≡◌, ◌*◌, ◌/◌, ◌%◌};
 ghost use Rattle.colour.specs.Colour.{colour, colours_of};
 ghost use Rattle.colour.specs.Home.{shade, home_colour, home_colours_of};

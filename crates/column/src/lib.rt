@@ -1,10 +1,12 @@
 // What becomes of a sprite's columns (R5.11, R15.1): marked, drawn, held back by priority; and which layer owns a column then.
+#![tactic(auto)]
+
 ghost use Rattle.std.specs.Prelude.{◌≡◌, ◌-◌, ◌<◌};
 ghost use Rattle.std.specs.Int.Bits.{bit_and};
 ghost use Rattle.picture.specs.Layers.{owner};
 
 // What became of a sprite's eight columns, a bit for each: marked, drawn, and held back by priority.
-#[derive(Drop)]
+#[derive(Clone, Copy)]
 pub struct Columns {
     pub marks: u8,
     pub drawn: u8,

@@ -38,7 +38,8 @@ use Rattle.points.specs.declared.VdpInt.TheVariants.{InterruptGenerated}
 use Rattle.points.specs.declared.DisplayRefresh.{DisplayRefresh}
 use Rattle.points.specs.declared.DisplayRefresh.TheVariants.{NoDisplay}
 use Rattle.points.specs.declared.DrawnRow.TheVariants.{Drawn}
-use Rattle.step.specs.Step.{register, line_of, reading_of, counter_up, row_on, stepped, refused_step, row_lines, frame_lines, step_with, row_step_of, frame_step_of}
+use Rattle.step.specs.Step.{register, line_of, reading_of, counter_up, row_on, stepped, refused_step, row_lines, frame_lines, step_with, row_step_of}
+use Rattle.step.specs.Step.{frame_step_of}
 use Rattle.step.specs.Frame.{frame_after, FrameStepLeaves}
 use Rattle.points.specs.Bytes.{also_layers}
 use Rattle.dump.specs.Sheet.{dump_lines}

@@ -100,7 +100,7 @@ use Rattle.look.proofs.dump_tileset
 use Rattle.look.proofs.pixel_at
 use Rattle.home.proofs.HomeState.new as home-new
 use Rattle.home.proofs.HomeState.with_table as home-with-table
-use Rattle.home.proofs.HomeState.out as Home-out
+use Rattle.home.proofs.HomeState.out as home-out
 use Rattle.home.proofs.HomeState.input as home-input
 use Rattle.home.proofs.row_step as home-row-step
 use Rattle.home.proofs.frame_step as home-frame-step
@@ -508,7 +508,7 @@ home_new_once κs a q z z' w w' e f = (e ∙ sym f, refl)
 pub home_with_table_once : OneOutcome 0 home-with-table.Kinds.ps home-with-table.Kinds.r home-with-table.Reads.Asked home-with-table.Reads.Learnt
 home_with_table_once κs a q z z' w w' e f = (e ∙ sym f, refl)
 
-pub home_out_once : OneOutcome 1 Home-out.Kinds.ps Home-out.Kinds.r Home-out.Reads.Asked Home-out.Reads.Learnt
+pub home_out_once : OneOutcome 1 home-out.Kinds.ps home-out.Kinds.r home-out.Reads.Asked home-out.Reads.Learnt
 home_out_once κs a q z z' w w' e f = (e.answer ∙ sym f.answer, λ i. (tt, ((e.memory ∙ sym f.memory) i, w.1.1)))
 
 pub home_input_once : OneOutcome 1 home-input.Kinds.ps home-input.Kinds.r home-input.Reads.Asked home-input.Reads.Learnt

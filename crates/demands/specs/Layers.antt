@@ -105,7 +105,8 @@ pub record Aside (a : RenderArea) (vram : List ℕ) (d : VdpState) (pixels layer
   pub frame_answer : columns a ≤ length layers
       → step_with (also_layers (columns a) (length layers) (frame_lines a vram (length pixels))) a vram d ≡ frame_step_of a vram (length pixels) d
   pub frame_pixels : columns a ≤ length layers
-      → under (also_layers (columns a) (length layers) (frame_lines a vram (length pixels))) (λ r. pixels) (frame_filled (screen_of a) vram (reading_of d) pixels)
+      → under (also_layers (columns a) (length layers) (frame_lines a vram (length pixels))) (λ r. pixels)
+      (frame_filled (screen_of a) vram (reading_of d) pixels)
       ≡ frame_after a vram d pixels
   -- without room it is refused: by 16 exactly where the step without layers is accepted, else as that one is
   pub row_short : length layers < columns a → first (row_lines a vram (length pixels)) ≡ Accepted

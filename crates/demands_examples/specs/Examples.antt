@@ -120,6 +120,7 @@ pub table :
     ∷ (9 ∷ 0 ∷ [])
     ∷ []
 unfolding examples steps_on interrupt_lines port_write port_read front_write front_read after answer answers after_all start colour colours_of table_from
-    table_of jumps starts advanced line_interrupt counted bit row_on bits_of ended_by report_by interrupt_by points_of stepped step_with visible_end visible_seen
+    table_of jumps starts advanced line_interrupt counted bit row_on bits_of ended_by report_by interrupt_by points_of stepped step_with visible_end
+    visible_seen
     visible_stand solid held_back marked struck drawn laid bare any
 table = refl

@@ -27,8 +27,8 @@ use Rattle.home.proofs.Laws.{step_exact}
 use Rattle.home_block.specs.HomeBlock.{block_size, state_of, well_formed}
 use Rattle.face.specs.HomePixel.{pixel_call}
 use Rattle.face.proofs.HomePixels.{pixel_call_exact}
-use Rattle.face.specs.Home.{on_block, new_table_call, out_on, out_call, input_on, input_call, step_word, step_on, step_call, row_step_on, row_step_call, dump_on}
-use Rattle.face.specs.Home.{dump_call}
+use Rattle.face.specs.Home.{on_block, new_table_call, out_on, out_call, input_on, input_call, step_word, step_on, step_call, row_step_on, row_step_call}
+use Rattle.face.specs.Home.{dump_on, dump_call}
 use Rattle.face.specs.HomeLayers.{layer_lines, layer_on, layer_call}
 use Rattle.demands.specs.Home.{Call, out, input, frame_step, row_step, dump_tileset, refusal_of, home}
 use Rattle.passes.proofs.Lawful.{Aimed}

@@ -37,7 +37,7 @@ module _ (b : List ℕ) (bytes : (i : ℕ) → at b i < 256) where
   unchanged : (c : HomeCall) → (home_called c b).block ≡ b → Keeps home_face c b
   unchanged c e = record { version = ap length e; table = ap (λ (x : List ℕ). (state_of x).raster.table) e }
 
-  -- a well_formed_lem block stands for its own device, and a call keeps its table
+  -- a well-formed block stands for its own device, and a call keeps its table
   by_device : (c : HomeCall) → well_formed b ≡ true → Does home HomeStands b (state_of b) (home_called c b).block → Keeps home_face c b
   by_device c w (stays e) = unchanged c e
   by_device c w (does x s) =

@@ -39,13 +39,14 @@ use Rattle.home.proofs.Laws.{step_exact, step_accepted, step_either, step_left, 
 use Rattle.home_block.specs.HomeBlock.{block_size, block_of, state_of, well_formed, Shape}
 use Rattle.home_block.proofs.RoundTrip.{state_back, good_block}
 use Rattle.home_block.proofs.Shapes.{made_shape, write_shape, read_shape, carried}
-use Rattle.face.specs.Home.{on_block, new_table_call, out_on, out_call, input_on, input_call, stepped_to, step_on, step_call, row_step_on, row_step_call, dump_call}
+use Rattle.face.specs.Home.{on_block, new_table_call, out_on, out_call, input_on, input_call, stepped_to, step_on, step_call, row_step_on, row_step_call}
+use Rattle.face.specs.Home.{dump_call}
 use Rattle.face.specs.HomeLayers.{layer_lines, layer_on, layer_call}
 use Rattle.demands.specs.Home.{Call, out, input, frame_step, row_step, after, home}
 use Rattle.demands_face.specs.Face.{makes, steps, Refused}
 use Rattle.demands_face.specs.HomeCalls.{HomeCall, vdp_home_new, vdp_home_new_table, vdp_home_out, vdp_home_input, vdp_home_step, vdp_home_row_step}
 use Rattle.demands_face.specs.HomeCalls.{vdp_home_layer_step, vdp_home_layer_row_step, vdp_home_dump_tileset, vdp_home_pixel, home_called, MadeHomeBlock}
-use Rattle.demands_face.specs.HomeCalls.{by-home_new, by-home_new_table, home_face}
+use Rattle.demands_face.specs.HomeCalls.{by_home_new, by_home_new_table, home_face}
 use Rattle.demands_face.proofs.Lawful.{Begun, Does, stays, does, Quietly, stays_so as leaves, does_so}
 use Rattle.demands_face.proofs.Words.{layers_fit}
 
@@ -107,8 +108,8 @@ started b t =
     (λ _ _. record { shape = made_shape (line_table_from t); is = refl }) (λ _ z. absurd (omega arith))
 
 pub made_stands : (t : LineTable) (b : List ℕ) → MadeHomeBlock t b → HomeStands b (made t)
-made_stands t b (by-home_new x e) = started x 1 e
-made_stands t b (by-home_new_table x n e) = started x n e
+made_stands t b (by_home_new x e) = started x 1 e
+made_stands t b (by_home_new_table x n e) = started x n e
 
 pub in_block : {b : List ℕ} {h : HomeState} → HomeStands b h → state_of b ≡ h
 in_block {b} {h} s = ap state_of s.is ∙ state_back h s.shape
@@ -252,8 +253,8 @@ new_word b t =
 
 pub begun : (c : HomeCall) (b : List ℕ) → makes home_face c ≡ true → refusal_in (home_called c b).word ≡ 0 → Begun home_face (home_called c b).block
 unfolding home_called
-begun vdp_home_new b e z = record { table = Steps262; made = by-home_new b (new_word b 1 z) }
-begun (vdp_home_new_table t) b e z = record { table = line_table_from t; made = by-home_new_table b t (new_word b t z) }
+begun vdp_home_new b e z = record { table = Steps262; made = by_home_new b (new_word b 1 z) }
+begun (vdp_home_new_table t) b e z = record { table = line_table_from t; made = by_home_new_table b t (new_word b t z) }
 begun (vdp_home_out m p v byte) b e z = clash (sym e)
 begun (vdp_home_input m p) b e z = clash (sym e)
 begun (vdp_home_step m x) b e z = clash (sym e)

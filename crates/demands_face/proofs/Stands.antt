@@ -35,8 +35,8 @@ use Rattle.block_repair.specs.Salvaged.{nothing_wrong}
 use Rattle.block_repair.proofs.Salvaged.{stays_so}
 use Rattle.step.specs.Step.{row_lines, frame_lines, step_with}
 use Rattle.step.proofs.Laws.{step_left}
-use Rattle.face.specs.Face.{Called, step_word, refused, on_area, new_table_call, out_on, out_call, input_on, input_call, step_on, step_call, row_step_on, row_step_call}
-use Rattle.face.specs.Face.{dump_call}
+use Rattle.face.specs.Face.{Called, step_word, refused, on_area, new_table_call, out_on, out_call, input_on, input_call, step_on, step_call, row_step_on}
+use Rattle.face.specs.Face.{row_step_call, dump_call}
 use Rattle.face.specs.Layers.{layer_lines, layer_on, layer_call, row_table, row_fills, frame_table, frame_fills}
 use Rattle.face.specs.Repair.{repair_call}
 use Rattle.face.specs.Refused.{refusal_in}

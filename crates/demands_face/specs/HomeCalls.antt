@@ -45,8 +45,8 @@ home_called (vdp_home_pixel m y x) b = record { word = pixel_call b m y x; block
 
 -- a block that a call has made, of whatever 186 bytes it was lent, with its table
 pub data MadeHomeBlock : LineTable → List ℕ → Type 0 where
-  by-home_new : (b : List ℕ) → (new_call b).word ≡ 0 → MadeHomeBlock Steps262 (new_call b).block
-  by-home_new_table : (b : List ℕ) (t : ℕ) → (new_table_call b t).word ≡ 0 → MadeHomeBlock (line_table_from t) (new_table_call b t).block
+  by_home_new : (b : List ℕ) → (new_call b).word ≡ 0 → MadeHomeBlock Steps262 (new_call b).block
+  by_home_new_table : (b : List ℕ) (t : ℕ) → (new_table_call b t).word ≡ 0 → MadeHomeBlock (line_table_from t) (new_table_call b t).block
 
 abbrev pub home_kind : HomeCall → Kind
 home_kind vdp_home_new = making

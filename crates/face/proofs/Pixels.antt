@@ -55,7 +55,8 @@ module _ (b m : List ℕ) (n y x : ℕ) {q : ℕ} (eq : q ≡ refusal_number (fi
   pixel_asked h = eq ∙ split (well_formed b) (λ e. split (leb n 2) (λ f. absurd (h (eq ∙ rw (e, f)))) (λ f. rw (e, f))) (λ e. rw e)
 
   pub pixel_done :
-      q ≡ 0 → {z : Screen} {reg : List ℕ} {raster : Raster} {s : Spot} {c r : ℕ} → z ≡ screen_of (area_from n) → reg ≡ (state_of b).reg → raster ≡ (state_of b).raster
+      q ≡ 0 → {z : Screen} {reg : List ℕ} {raster : Raster} {s : Spot} {c r : ℕ} → z ≡ screen_of (area_from n) → reg ≡ (state_of b).reg →
+      raster ≡ (state_of b).raster
       → s ≡ spot_of z reg raster.vertical_scroll m y x → c ≡ cond s.there (at (colours_now (state_of b)) s.colour) 0
       → r ≡ refusal_number s.refusal + pixel_bits s.there c → r ≡ pixel_call b m n y x
   unfolding pixel_call pixel_of

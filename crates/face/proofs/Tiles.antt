@@ -12,7 +12,8 @@ use lib.ListN.{length}
 use Rattle.laws.proofs.Tests.{same_cond}
 use Rattle.refusal.specs.declared.Refusal.{Refusal}
 use Rattle.refusal.specs.Refusals.{refusal_number, first}
-use Rattle.tile_codes.specs.Calls.{read_tile_lines, write_tile_lines, read_tile_refusal, write_tile_refusal, unless, tile_written, tile_read, WriteLeaves, ReadLeaves}
+use Rattle.tile_codes.specs.Calls.{read_tile_lines, write_tile_lines, read_tile_refusal, write_tile_refusal, unless, tile_written, tile_read, WriteLeaves}
+use Rattle.tile_codes.specs.Calls.{ReadLeaves}
 use Rattle.face.specs.Face.{Leaves}
 use Rattle.face.specs.Refused.{refusal_in, LeftBehind}
 use Rattle.face.specs.Tiles.{write_tile_call, read_tile_call}

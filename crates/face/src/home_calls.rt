@@ -17,8 +17,7 @@ use refusal::Refusal;
 use row::points_run;
 
 // A fresh device of this table into the block.
-#[unsafe(no_mangle)]
-pub extern "C" fn vdp_home_new_table(state: &mut [u8], table: u8) -> u32
+pub fn vdp_home_new_table(state: &mut [u8], table: u8) -> u32
     ensures { Leaves (new_table_call state.old table) result state.new [] }
 {
     if !small::both(table <= 1, state.len() == home_block::BLOCK_SIZE) {
@@ -29,8 +28,7 @@ pub extern "C" fn vdp_home_new_table(state: &mut [u8], table: u8) -> u32
 }
 
 // The same with no table named: the chart's.
-#[unsafe(no_mangle)]
-pub extern "C" fn vdp_home_new(state: &mut [u8]) -> u32
+pub fn vdp_home_new(state: &mut [u8]) -> u32
     ensures { Leaves (new_call state.old) result state.new [] }
 {
     vdp_home_new_table(state, raster::unnamed_table())
@@ -44,8 +42,7 @@ fn asked(state: &[u8]) -> u32
 }
 
 // A port write.
-#[unsafe(no_mangle)]
-pub extern "C" fn vdp_home_out(state: &mut [u8], vram: &mut [u8], port: u16, value: u8) -> u32
+pub fn vdp_home_out(state: &mut [u8], vram: &mut [u8], port: u16, value: u8) -> u32
     ensures { Leaves (out_call state.old vram.old port value) result state.new vram.new }
 {
     let refused = asked(state);
@@ -56,8 +53,7 @@ pub extern "C" fn vdp_home_out(state: &mut [u8], vram: &mut [u8], port: u16, val
 }
 
 // A port read; its byte is in bits 8 to 15 of the answer.
-#[unsafe(no_mangle)]
-pub extern "C" fn vdp_home_input(state: &mut [u8], vram: &[u8], port: u16) -> u32
+pub fn vdp_home_input(state: &mut [u8], vram: &[u8], port: u16) -> u32
     ensures { Leaves (input_call state.old vram.now port) result state.new [] }
 {
     let refused = asked(state);
@@ -85,8 +81,7 @@ fn colours_of(state: &[u8], due: Due) -> [u32; 32]
 }
 
 // A step, whose row goes to its place in the frame.
-#[unsafe(no_mangle)]
-pub extern "C" fn vdp_home_step(state: &mut [u8], vram: &[u8], frame: &mut [u8]) -> u32
+pub fn vdp_home_step(state: &mut [u8], vram: &[u8], frame: &mut [u8]) -> u32
     ensures { Leaves (step_call state.old vram.now frame.old) result state.new frame.new }
 {
     let view: &[u8] = state;
@@ -107,8 +102,7 @@ pub extern "C" fn vdp_home_step(state: &mut [u8], vram: &[u8], frame: &mut [u8])
 }
 
 // A step, whose row goes to the first bytes of the row buffer.
-#[unsafe(no_mangle)]
-pub extern "C" fn vdp_home_row_step(state: &mut [u8], vram: &[u8], row: &mut [u8]) -> u32
+pub fn vdp_home_row_step(state: &mut [u8], vram: &[u8], row: &mut [u8]) -> u32
     ensures { Leaves (row_step_call state.old vram.now row.old) result state.new row.new }
 {
     let view: &[u8] = state;
@@ -129,8 +123,7 @@ pub extern "C" fn vdp_home_row_step(state: &mut [u8], vram: &[u8], row: &mut [u8
 }
 
 // The step on a frame, with the layers of the row's columns, which go to the first bytes of the layer buffer.
-#[unsafe(no_mangle)]
-pub extern "C" fn vdp_home_layer_step(
+pub fn vdp_home_layer_step(
     state: &mut [u8],
     vram: &[u8],
     frame: &mut [u8],
@@ -156,8 +149,7 @@ pub extern "C" fn vdp_home_layer_step(
 }
 
 // The same of the step on a row buffer.
-#[unsafe(no_mangle)]
-pub extern "C" fn vdp_home_layer_row_step(
+pub fn vdp_home_layer_row_step(
     state: &mut [u8],
     vram: &[u8],
     row: &mut [u8],
@@ -183,8 +175,7 @@ pub extern "C" fn vdp_home_layer_row_step(
 }
 
 // All tiles into the pixels; the block is only read.
-#[unsafe(no_mangle)]
-pub extern "C" fn vdp_home_dump_tileset(state: &[u8], vram: &[u8], pixels: &mut [u8]) -> u32
+pub fn vdp_home_dump_tileset(state: &[u8], vram: &[u8], pixels: &mut [u8]) -> u32
     ensures { Leaves (dump_call state.now vram.now pixels.old) result state.now pixels.new }
 {
     let refused = asked(state);
@@ -211,8 +202,7 @@ fn shown(state: &[u8], there: bool, n: usize) -> u32
 }
 
 // One pixel of the row as it would be drawn now, the fill among it; the block is only read.
-#[unsafe(no_mangle)]
-pub extern "C" fn vdp_home_pixel(state: &[u8], vram: &[u8], row: u32, column: u32) -> u64
+pub fn vdp_home_pixel(state: &[u8], vram: &[u8], row: u32, column: u32) -> u64
     ensures { result ≡ pixel_call state.now vram.now row column }
 {
     let refused = asked(state);

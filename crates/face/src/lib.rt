@@ -1,4 +1,6 @@
 // The C face (R7.4): the device's calls over a state block, and answers by R7.7. A slice passes as a pointer and a length.
+#![tactic(auto)]
+
 ghost use Rattle.std.specs.Prelude.{[], ◌≡◌, cond, ℕ, ◌+◌, ◌*◌, ◌≤◌, ◌<◌, length};
 ghost use Rattle.refusal.specs.Refusals.{refusal_number, first};
 ghost use Rattle.laws.specs.Lists.{at};
@@ -28,8 +30,7 @@ use row::points_run;
 use trace_record::{Record, Recorded};
 
 // A fresh device of this table into the block, in the version that the block's length tells.
-#[unsafe(no_mangle)]
-pub extern "C" fn vdp_new_table(state: &mut [u8], table: u8) -> u32
+pub fn vdp_new_table(state: &mut [u8], table: u8) -> u32
     ensures { Leaves (new_table_call state.old table) result state.new [] }
 {
     let named = raster::table_from(table);
@@ -41,8 +42,7 @@ pub extern "C" fn vdp_new_table(state: &mut [u8], table: u8) -> u32
 }
 
 // The same with no table named: the chart's.
-#[unsafe(no_mangle)]
-pub extern "C" fn vdp_new(state: &mut [u8]) -> u32
+pub fn vdp_new(state: &mut [u8]) -> u32
     ensures { Leaves (new_call state.old) result state.new [] }
 {
     vdp_new_table(state, raster::unnamed_table())
@@ -56,8 +56,7 @@ fn asked(state: &[u8], area: u8) -> u32
 }
 
 // A port write.
-#[unsafe(no_mangle)]
-pub extern "C" fn vdp_out(state: &mut [u8], vram: &mut [u8], port: u16, value: u8) -> u32
+pub fn vdp_out(state: &mut [u8], vram: &mut [u8], port: u16, value: u8) -> u32
     ensures { Leaves (out_call state.old vram.old port value) result state.new vram.new }
 {
     let refused = asked(state, 0);
@@ -68,8 +67,7 @@ pub extern "C" fn vdp_out(state: &mut [u8], vram: &mut [u8], port: u16, value: u
 }
 
 // A port read; its byte is in bits 8 to 15 of the answer.
-#[unsafe(no_mangle)]
-pub extern "C" fn vdp_input(state: &mut [u8], vram: &[u8], port: u16) -> u32
+pub fn vdp_input(state: &mut [u8], vram: &[u8], port: u16) -> u32
     ensures { Leaves (input_call state.old vram.now port) result state.new [] }
 {
     let refused = asked(state, 0);
@@ -137,8 +135,7 @@ fn screen_from(area: u8) -> Screen
 }
 
 // A step, whose row goes to its place in the frame.
-#[unsafe(no_mangle)]
-pub extern "C" fn vdp_step(state: &mut [u8], vram: &[u8], frame: &mut [u8], area: u8) -> u32
+pub fn vdp_step(state: &mut [u8], vram: &[u8], frame: &mut [u8], area: u8) -> u32
     ensures { Leaves (step_call state.old vram.now frame.old area) result state.new frame.new }
 {
     let view: &[u8] = state;
@@ -159,8 +156,7 @@ pub extern "C" fn vdp_step(state: &mut [u8], vram: &[u8], frame: &mut [u8], area
 }
 
 // A step, whose row goes to the first bytes of the row buffer.
-#[unsafe(no_mangle)]
-pub extern "C" fn vdp_row_step(state: &mut [u8], vram: &[u8], row: &mut [u8], area: u8) -> u32
+pub fn vdp_row_step(state: &mut [u8], vram: &[u8], row: &mut [u8], area: u8) -> u32
     ensures { Leaves (row_step_call state.old vram.now row.old area) result state.new row.new }
 {
     let view: &[u8] = state;
@@ -181,8 +177,7 @@ pub extern "C" fn vdp_row_step(state: &mut [u8], vram: &[u8], row: &mut [u8], ar
 }
 
 // The step on a frame, with the layers of the row's columns, which go to the first bytes of the layer buffer.
-#[unsafe(no_mangle)]
-pub extern "C" fn vdp_layer_step(
+pub fn vdp_layer_step(
     state: &mut [u8],
     vram: &[u8],
     frame: &mut [u8],
@@ -209,8 +204,7 @@ pub extern "C" fn vdp_layer_step(
 }
 
 // The same of the step on a row buffer.
-#[unsafe(no_mangle)]
-pub extern "C" fn vdp_layer_row_step(
+pub fn vdp_layer_row_step(
     state: &mut [u8],
     vram: &[u8],
     row: &mut [u8],
@@ -237,8 +231,7 @@ pub extern "C" fn vdp_layer_row_step(
 }
 
 // All tiles into the pixels; the block is only read.
-#[unsafe(no_mangle)]
-pub extern "C" fn vdp_dump_tileset(state: &[u8], vram: &[u8], pixels: &mut [u8]) -> u32
+pub fn vdp_dump_tileset(state: &[u8], vram: &[u8], pixels: &mut [u8]) -> u32
     ensures { Leaves (dump_call state.now vram.now pixels.old) result state.now pixels.new }
 {
     let refused = asked(state, 0);
@@ -250,24 +243,21 @@ pub extern "C" fn vdp_dump_tileset(state: &[u8], vram: &[u8], pixels: &mut [u8])
 }
 
 // The number of this face.
-#[unsafe(no_mangle)]
-pub extern "C" fn vdp_version() -> u32
+pub fn vdp_version() -> u32
     ensures { result ≡ version }
 {
     263680
 }
 
 // The tile of these 64 codes into video memory; no device is asked.
-#[unsafe(no_mangle)]
-pub extern "C" fn vdp_write_tile(vram: &mut [u8], tile: u16, codes: &[u8]) -> u32
+pub fn vdp_write_tile(vram: &mut [u8], tile: u16, codes: &[u8]) -> u32
     ensures { Leaves (write_tile_call vram.old tile codes.now) result [] vram.new }
 {
     word::number(tile_codes::write_tile(vram, tile, codes))
 }
 
 // The 64 codes of a tile; video memory is only read.
-#[unsafe(no_mangle)]
-pub extern "C" fn vdp_read_tile(vram: &[u8], tile: u16, codes: &mut [u8]) -> u32
+pub fn vdp_read_tile(vram: &[u8], tile: u16, codes: &mut [u8]) -> u32
     ensures { Leaves (read_tile_call vram.now tile codes.old) result [] codes.new }
 {
     word::number(tile_codes::read_tile(vram, tile, codes))
@@ -294,8 +284,7 @@ fn shown(state: &[u8], there: bool, n: usize) -> u32
 }
 
 // One pixel of the row as it would be drawn now; the block is only read.
-#[unsafe(no_mangle)]
-pub extern "C" fn vdp_pixel(state: &[u8], vram: &[u8], area: u8, row: u32, column: u32) -> u64
+pub fn vdp_pixel(state: &[u8], vram: &[u8], area: u8, row: u32, column: u32) -> u64
     ensures { result ≡ pixel_call state.now vram.now area row column }
 {
     let refused = asked(state, area);
@@ -317,8 +306,7 @@ pub extern "C" fn vdp_pixel(state: &[u8], vram: &[u8], area: u8, row: u32, colum
 }
 
 // A damaged block mended, and the changed offsets at the start of the list.
-#[unsafe(no_mangle)]
-pub extern "C" fn vdp_repair(state: &mut [u8], list: &mut [u8]) -> u32
+pub fn vdp_repair(state: &mut [u8], list: &mut [u8]) -> u32
     ensures { Leaves (repair_call state.old list.old) result state.new list.new }
 {
     let repaired = block_repair::repair(state, list);
@@ -337,24 +325,21 @@ fn recorded_word(recorded: Recorded) -> u32
 }
 
 // A port write as a record, into the bytes from `used` on.
-#[unsafe(no_mangle)]
-pub extern "C" fn vdp_record_out(recording: &mut [u8], used: usize, port: u8, value: u8) -> u32
+pub fn vdp_record_out(recording: &mut [u8], used: usize, port: u8, value: u8) -> u32
     ensures { Leaves (record_call recording.old used (Write port value)) result [] recording.new }
 {
     recorded_word(trace_record::put_record(recording, used, Record::Write(port, value)))
 }
 
 // A port read.
-#[unsafe(no_mangle)]
-pub extern "C" fn vdp_record_input(recording: &mut [u8], used: usize, port: u8) -> u32
+pub fn vdp_record_input(recording: &mut [u8], used: usize, port: u8) -> u32
     ensures { Leaves (record_call recording.old used (Read port)) result [] recording.new }
 {
     recorded_word(trace_record::put_record(recording, used, Record::Read(port)))
 }
 
 // A step.
-#[unsafe(no_mangle)]
-pub extern "C" fn vdp_record_step(recording: &mut [u8], used: usize, area: u8) -> u32
+pub fn vdp_record_step(recording: &mut [u8], used: usize, area: u8) -> u32
     ensures { Leaves (record_step_call recording.old used area) result [] recording.new }
 {
     if picture::LAST_AREA < area {
@@ -372,8 +357,7 @@ fn bytes_word(a: u8, b: u8, c: u8, d: u8) -> u32
 }
 
 // What stands at an offset of a recording: which kind of record, its port or area, its value and its length.
-#[unsafe(no_mangle)]
-pub extern "C" fn vdp_record_next(recording: &[u8], at: usize) -> u32
+pub fn vdp_record_next(recording: &[u8], at: usize) -> u32
     ensures { result ≡ next_call recording.now at }
 {
     match trace_record::record_at(recording, at) {

@@ -38,7 +38,7 @@ front_stored f b =
     ∷ latch_byte f.cmd_byte1
     ∷ drop front_end b))
 
--- its bytes are those of a front: what is asked of them in a well_formed_lem block (R7.6)
+-- its bytes are those of a front: what is asked of them in a well-formed block (R7.6)
 pub record FrontFormed (b : List ℕ) : Type 0 where
   pub long : front_end ≤ length b
   pub low : at b 17 < 256

@@ -1,5 +1,7 @@
 // The small fields of a device where they stand in a state block: read, and stored; the places are the same in either machine's block. A slip in a store is
 // refused here, where little has to be proved again.
+#![tactic(auto)]
+
 ghost use Rattle.std.specs.Prelude.{◌≡◌, ◌+◌, ◌≤◌, ◌<◌, length, set};
 ghost use Rattle.laws.specs.Lists.{at};
 ghost use Rattle.fields.specs.Fields.{flag_of, latch_from};

@@ -1,4 +1,6 @@
 // The front of a device: the part that the port calls work on, whatever its palette is (R3.3 to R3.6, R3.8 to R3.10). Video memory is lent by the caller.
+#![tactic(auto)]
+
 ghost use Rattle.std.specs.Prelude.{◌≡◌, ◌<◌, length};
 ghost use Rattle.laws.specs.Sizes.{vram_size};
 ghost use Rattle.front.specs.Front.{fresh_front, with_command, choosing, command_write, data_write, data_read, status_read};
@@ -17,7 +19,7 @@ pub const VCOUNTER_READ: u16 = 0x7E;
 pub const HCOUNTER_READ: u16 = 0x7F;
 
 // The memory that the data port reads and writes.
-#[derive(Drop)]
+#[derive(Clone, Copy)]
 pub enum WriteDest {
     None,
     Vram,
@@ -25,14 +27,14 @@ pub enum WriteDest {
 }
 
 // A byte that waits for the one after it.
-#[derive(Drop)]
+#[derive(Clone, Copy)]
 pub enum Latch {
     Empty,
     Held(u8),
 }
 
 // The part of a device that the ports work on, whatever its palette is.
-#[derive(Drop)]
+#[derive(Clone, Copy)]
 pub struct Front {
     pub status: u8,
     pub reg: [u8; 11],
@@ -43,7 +45,7 @@ pub struct Front {
 }
 
 // What a port write leaves of a front; `palette` where the byte is for the machine's own palette, which has still to take it.
-#[derive(Drop)]
+#[derive(Clone, Copy)]
 pub struct FrontWritten {
     pub refusal: Refusal,
     pub palette: bool,
@@ -51,7 +53,7 @@ pub struct FrontWritten {
 }
 
 // What a port read gives and leaves of a front.
-#[derive(Drop)]
+#[derive(Clone, Copy)]
 pub struct FrontRead {
     pub refusal: Refusal,
     pub byte: u8,

@@ -1,5 +1,7 @@
 // The home machine (R20.8): a record of its own kind, the front of a device with a palette of 32 bytes. Its ports are the front's, but for the palette; its
 // step is the five points for the home screen. Video memory is lent by the caller. (What else is asked of its record: crate `look`.)
+#![tactic(auto)]
+
 ghost use Rattle.std.specs.Prelude.{◌≡◌, ◌<◌};
 ghost use Rattle.home.specs.Home.{palette_size, made, fresh};
 ghost use Rattle.home.specs.Ports.{palette_write, WriteLeaves, port_read};
@@ -16,7 +18,7 @@ use row::points_run;
 pub const PALETTE_SIZE: u16 = 32;
 
 // The device: what the ports work on, the raster, the palette and the cached colours.
-#[derive(Drop)]
+#[derive(Clone, Copy)]
 pub struct HomeState {
     pub front: Front,
     pub raster: Raster,
@@ -26,14 +28,14 @@ pub struct HomeState {
 }
 
 // What a port write leaves.
-#[derive(Drop)]
+#[derive(Clone, Copy)]
 pub struct HomeWritten {
     pub refusal: Refusal,
     pub home: HomeState,
 }
 
 // What a port read gives and leaves.
-#[derive(Drop)]
+#[derive(Clone, Copy)]
 pub struct HomeRead {
     pub refusal: Refusal,
     pub byte: u8,
@@ -41,7 +43,7 @@ pub struct HomeRead {
 }
 
 // What a step answers, with the device that it leaves.
-#[derive(Drop)]
+#[derive(Clone, Copy)]
 pub struct HomeStepped {
     pub refusal: Refusal,
     pub interrupt: VdpInt,

@@ -1,4 +1,4 @@
--- A device that is stored in a block is read back, and a well_formed_lem block of bytes is the block of the device that it holds.
+-- A device that is stored in a block is read back, and a well-formed block of bytes is the block of the device that it holds.
 -- Assumes nothing.
 use mathlib.Core.Path.{◌≡◌, refl, sym, ap, ◌∙◌}
 use mathlib.Core.Bool.{true}
@@ -132,7 +132,7 @@ module _ (h : HomeState) (g : Shape h) where
         number_ok h.raster.table,
       ))
 
--- ---- a well_formed_lem block is the block of its device
+-- ---- a well-formed block is the block of its device
 module _ (b : List ℕ) (w : well_formed b ≡ true) (bytes : (i : ℕ) → at b i < 256) where
   head_in : head (state_of b) ≡ take 3 (drop 0 b)
   unfolding head state_of front_in table_from

@@ -1,5 +1,7 @@
 // The home machine's state block (R21.2): a device as 186 bytes, its parts read and stored where they stand, and its ports: the front's, which are those of
 // either machine, and a palette of its own.
+#![tactic(auto)]
+
 ghost use Rattle.std.specs.Prelude.{◌≡◌, true, ◌≤◌, ◌<◌, length};
 ghost use Rattle.laws.specs.Lists.{at};
 ghost use Rattle.fields.specs.Stored.{address_in};
@@ -107,7 +109,7 @@ fn write_palette(block: &mut [u8], val: u8)
     fields::store_address(block, (addr + 1) % PALETTE_SIZE);
 }
 
-// A port write on the device of a well_formed_lem block.
+// A port write on the device of a well-formed block.
 pub fn out(block: &mut [u8], vram: &mut [u8], port: u16, val: u8) -> Refusal
     requires { well_formed block.old ≡ true }
     ensures { OutInPlace block.old vram.old port val result block.new vram.new }

@@ -1,6 +1,8 @@
 // The ports in place: the front of a device where it stands in a state block, bytes 2 to 13 and 17 to 22, which are the same in either machine's block (crate
 // `fields`).
 // A call reads and stores the bytes that it needs. Of the palette it knows the size; the byte for it is stored by the machine whose block it is.
+#![tactic(auto)]
+
 ghost use Rattle.std.specs.Prelude.{◌≡◌, ◌%◌, ◌<◌, length};
 ghost use Rattle.laws.specs.Lists.{at};
 ghost use Rattle.laws.specs.Sizes.{vram_size};
@@ -15,14 +17,14 @@ use refusal::Refusal;
 use small::VRAM_ADDRESSES;
 
 // What a port write answers; `palette` where the byte is for the machine's own palette, which has still to take it.
-#[derive(Drop)]
+#[derive(Clone, Copy)]
 pub struct Sent {
     pub refusal: Refusal,
     pub palette: bool,
 }
 
 // What a port read answers.
-#[derive(Drop)]
+#[derive(Clone, Copy)]
 pub struct Got {
     pub refusal: Refusal,
     pub byte: u8,

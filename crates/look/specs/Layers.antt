@@ -18,4 +18,5 @@ FrameLayerPointsLeave s vram k frame layers r frame' layers' =
 
 abbrev pub FrameLayersLeave : ℕ → RenderArea → List ℕ → VdpState → List ℕ → List ℕ → Stepped → List ℕ → List ℕ → Type 0
 FrameLayersLeave least a vram d frame layers r frame' layers' =
-    LayersLeave least (frame_lines (screen_of a) vram (length frame)) a vram d frame (frame_filled (screen_of a) vram (reading_of d) frame) layers r frame' layers'
+    LayersLeave least (frame_lines (screen_of a) vram (length frame)) a vram d frame
+    (frame_filled (screen_of a) vram (reading_of d) frame) layers r frame' layers'

@@ -1,5 +1,7 @@
 // What an author or a debugger asks of a machine that is held as a record: a row of a frame, a step on a frame with its layers, the sheet of all tiles, and
 // one pixel. Here of the handheld, in home_look.rt of the home machine. No program and no call for C goes by it.
+#![tactic(auto)]
+
 ghost use Rattle.std.specs.Prelude.{◌≡◌, cond};
 ghost use Rattle.picture.specs.Screen.{columns};
 ghost use Rattle.picture.specs.Area.{screen_of};

@@ -1,4 +1,6 @@
 // The rules of the picture are in specs/. Here is what the code and the rules share.
+#![tactic(auto)]
+
 ghost use Rattle.std.specs.Prelude.{◌≡◌};
 ghost use Rattle.picture.specs.Area.{area_from, screen_of};
 
@@ -47,7 +49,7 @@ pub const SCROLL_FRAME_SIZE: usize = SCROLL_PIXEL_HEIGHT * SCROLL_ROW_SIZE;
 pub const HOME_FRAME_SIZE: usize = HOME_PIXEL_HEIGHT * HOME_ROW_SIZE;
 
 // What a step draws: the part that the screen shows, all that the chip makes, or the part that the screen shows with its edges by true columns.
-#[derive(Drop)]
+#[derive(Clone, Copy)]
 pub enum RenderArea {
     VisibleOnly,
     EffectiveArea,
@@ -68,7 +70,7 @@ pub fn area_from(n: u8) -> RenderArea
 }
 
 // What a row is drawn for: the screens of the handheld's areas, and that of the home machine.
-#[derive(Drop)]
+#[derive(Clone, Copy)]
 pub enum Screen {
     VisibleOnly,
     EffectiveArea,
@@ -89,7 +91,7 @@ pub fn screen_of(area: RenderArea) -> Screen
 
 // Where a sprite stands on a row: its column c shows tile pixel start + c, below end, at screen column x + c. Column c is tested for priority at
 // bit prio + c of the priority mask, and marked at bit mark + c of the sprite mask, both around the circle. An unseen one draws nothing.
-#[derive(Drop)]
+#[derive(Clone, Copy)]
 pub struct Stand {
     pub seen: bool,
     pub x: usize,

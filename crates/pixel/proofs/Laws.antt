@@ -1,6 +1,7 @@
 -- One column of a sprite laid on a canvas, and the list of sprites on one column.
 -- Assumes nothing.
-use Rattle.std.proofs.Common.{◌≡◌, ℕ, zero, suc, ◌+◌, ◌-◌, ◌%◌, ◌<◌, ◌≤◌, min, Bool, true, false, cond, not, ◌&&◌, ◌||◌, ltb, leb, ◌⊎◌, List, take, sym, refl, ap, ◌∙◌, subst, inl, inr, ⊎_elim, add-zero, zero-add, arith, ltb-false, ltb-true, le-ltb, lt-ltb, ne_eqb, le-leb, leb-true}
+use Rattle.std.proofs.Common.{◌≡◌, ℕ, zero, suc, ◌+◌, ◌-◌, ◌%◌, ◌<◌, ◌≤◌, min, Bool, true, false, cond, not, ◌&&◌, ◌||◌, ltb, leb, ◌⊎◌, List, take, sym, refl}
+use Rattle.std.proofs.Common.{ap, ◌∙◌, subst, inl, inr, ⊎_elim, add-zero, zero-add, arith, ltb-false, ltb-true, le-ltb, lt-ltb, ne_eqb, le-leb, leb-true}
 use native.Mathlib.Decide.{dec_lt}
 use lib.Bits.{bit_or, or_zero_r}
 use borrow.Author.Tests.{lt-leb}
@@ -13,8 +14,8 @@ use Rattle.picture.specs.declared.Screen.{Screen}
 use Rattle.picture.specs.declared.Screen.TheVariants.{VisibleOnly, EffectiveArea, TrueEdges, Home}
 use Rattle.picture.specs.Tile.{code_at, names_at, map_colour}
 use Rattle.picture.specs.View.{View, early, cut_mark, visible, visible_stand, visible_seen, visible_end, effective_stand, true_edges, edge_stand, home}
-use Rattle.picture.specs.Picture.{Canvas, front, solid, held_back, marked, struck, drawn, laid, bare, table_at, top_of, tall, on_line, listed, with_sprites, picture}
-use Rattle.picture.specs.Picture.{fills, filled, back as map_at}
+use Rattle.picture.specs.Picture.{Canvas, front, solid, held_back, marked, struck, drawn, laid, bare, table_at, top_of, tall, on_line, listed, with_sprites}
+use Rattle.picture.specs.Picture.{picture, fills, filled, back as map_at}
 use Rattle.picture.specs.Screen.{columns, picture_of}
 use Rattle.background.specs.Background.{back_colour, prio_to, cut_of, home_column, home_last}
 use Rattle.background.proofs.Views.{back_at, front_at_lem, visible_x, effective_mark}

@@ -1,6 +1,7 @@
 -- One pixel in its colours: on the screen, outside, refused, and beside the bytes of its row.
 -- Assumes nothing.
-use Rattle.std.proofs.Common.{◌≡◌, ℕ, ◌+◌, ◌*◌, ◌<◌, ◌≤◌, Bool, true, false, cond, ltb, ◌≢◌, ◌⊎◌, List, ◌++◌, length, take, sym, refl, ap, ◌∙◌, ⊎_elim, arith, get_or-take, le-ltb, lt-ltb, eq-eqb, ne_eqb}
+use Rattle.std.proofs.Common.{◌≡◌, ℕ, ◌+◌, ◌*◌, ◌<◌, ◌≤◌, Bool, true, false, cond, ltb, ◌≢◌, ◌⊎◌, List, ◌++◌, length, take, sym, refl, ap, ◌∙◌, ⊎_elim, arith}
+use Rattle.std.proofs.Common.{get_or-take, le-ltb, lt-ltb, eq-eqb, ne_eqb}
 use mathlib.Core.Bool.{and-false}
 use lib.ListN.{get_or-append}
 use Rattle.laws.specs.Lists.{at}

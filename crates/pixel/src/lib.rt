@@ -1,4 +1,6 @@
 // One pixel on its own (R16.1 to R16.4): the screen's column of its row (one_column.rt). No row is drawn.
+#![tactic(auto)]
+
 ghost use Rattle.std.specs.Prelude.{◌≡◌, ℕ, ◌<◌, length};
 ghost use Rattle.laws.specs.Sizes.{vram_size};
 ghost use Rattle.picture.specs.declared.Screen.TheVariants.{VisibleOnly, EffectiveArea, Home};
@@ -99,7 +101,7 @@ fn colour_number(
 }
 
 // A pixel: whether there is one, and its colour number; 0 where there is none.
-#[derive(Drop)]
+#[derive(Clone, Copy)]
 pub struct Spot {
     pub refusal: Refusal,
     pub there: bool,
@@ -154,7 +156,7 @@ pub fn spot_at(
 }
 
 // The same in its colours: whether there is a pixel, and its colour, 0 where there is none.
-#[derive(Drop)]
+#[derive(Clone, Copy)]
 pub struct Pixel {
     pub refusal: Refusal,
     pub there: bool,

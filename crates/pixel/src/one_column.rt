@@ -16,7 +16,7 @@ use picture::{GG_VISIBLE_AREA_START_X, HOME_LOCKED_X, Screen, Stand};
 
 // The map as a row shows it: where its entries start, the map's pixel (sx, y) that column 0 shows, the map's line that the columns from 192 on show,
 // how far to the left the first tile marks, and the row's width. Only at home is `last` another line than y, and there the first tile marks its own places.
-#[derive(Drop)]
+#[derive(Clone, Copy)]
 pub struct Scene {
     pub names: usize,
     pub sx: usize,
@@ -27,7 +27,7 @@ pub struct Scene {
 }
 
 // A pixel of the map: its colour number, and whether it stands in front of sprites.
-#[derive(Drop)]
+#[derive(Clone, Copy)]
 struct Ground {
     colour: usize,
     front: bool,
@@ -88,7 +88,7 @@ fn in_front(vram: &[u8], b: Scene, place: usize) -> bool
 
 // What the sprites so far leave of a column: its colour number, and their marks at the column's own place of the mask (bit 0) and at those to the
 // left of it, where a sprite that the left edge cuts is tested.
-#[derive(Drop)]
+#[derive(Clone, Copy)]
 struct Column {
     colour: usize,
     taken: u8,
@@ -173,7 +173,7 @@ fn colour_with(
 
 // How a screen's sprites that are seen stand to their columns: how far to the right of them their mark and their X byte are, and whether one that the
 // left edge cuts is tested and marked to the left of its column's own place, by as much as is cut.
-#[derive(Drop)]
+#[derive(Clone, Copy)]
 struct Shift {
     off: usize,
     ahead: usize,

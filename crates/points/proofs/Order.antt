@@ -8,7 +8,6 @@ use Prim.Native.Nat.{ℕ, ◌<◌, ◌≤◌}
 use native.Mathlib.Omega.{arith}
 use borrow.Author.Tests.{eq-eqb, ne_eqb, le-ltb, lt-ltb}
 use lib.ListN.{length}
-use Rattle.laws.specs.Lists.{at}
 use Rattle.picture.specs.declared.Screen.{Screen}
 use Rattle.picture.specs.Screen.{row_size, frame_size}
 use Rattle.raster.specs.declared.Raster.{Raster}

@@ -1,4 +1,6 @@
 // The five points of a step but for the drawing of its row: what the coming step is to do, its row or its refusal; the screen's end, the interrupt and the line count.
+#![tactic(auto)]
+
 ghost use Rattle.std.specs.Prelude.{◌≡◌, cond, ◌&&◌, List, ℕ, ◌-◌, ◌<◌, leb, ltb};
 ghost use Rattle.picture.specs.Screen.{columns, rows, row_size};
 ghost use Rattle.refusal.specs.Refusals.{Line};
@@ -24,14 +26,14 @@ const HOME_PIXEL_HEIGHT: u8 = picture::HOME_PIXEL_HEIGHT as u8;
 const SCREEN_END: u8 = 0xC1;
 
 // Whether a step asks the processor for an interrupt.
-#[derive(Drop)]
+#[derive(Clone, Copy)]
 pub enum VdpInt {
     NoInterrupt,
     InterruptGenerated,
 }
 
 // Whether a step ends the screen, and whether the screen is on.
-#[derive(Drop)]
+#[derive(Clone, Copy)]
 pub enum DisplayRefresh {
     NoDisplay,
     ScreenDone,
@@ -61,14 +63,14 @@ pub fn report_number(report: DisplayRefresh) -> u8
 }
 
 // The row that a step draws, if it draws one.
-#[derive(Drop)]
+#[derive(Clone, Copy)]
 pub enum DrawnRow {
     NoRow,
     Drawn(u8),
 }
 
 // What the five points of a step answer, and what they leave of status and raster.
-#[derive(Drop)]
+#[derive(Clone, Copy)]
 pub struct Points {
     pub refusal: Refusal,
     pub interrupt: VdpInt,
@@ -161,7 +163,7 @@ pub fn row_size(screen: Screen) -> usize
 
 // What the coming step is to do on its buffers, known before any colour is asked for: whether it is taken, or by which refusal not; the row that it
 // draws, if it draws one; and the raster with its counter up, which a refused step leaves as it was.
-#[derive(Drop)]
+#[derive(Clone, Copy)]
 pub struct Due {
     pub good: bool,
     pub refusal: Refusal,

@@ -1,2 +1,3 @@
 -- What the contracts of `program` cite.
+pub mod Counts
 pub mod Same

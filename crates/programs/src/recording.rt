@@ -25,6 +25,13 @@ fn fresh(on: u8) -> Device {
     Device::handheld(VdpState::new())
 }
 
+// Room for the longest recording and one byte more.
+fn trace_room() -> [u8; 65_536]
+    ensures { 65536 ≡ length result }
+{
+    [0; 65_536]
+}
+
 // Room for the text of any recording. The contract gives its length, which the caller's check then need not compute.
 fn text_room() -> [u8; 327_700]
     ensures { 327700 ≡ length result }
@@ -34,8 +41,8 @@ fn text_room() -> [u8; 327_700]
 
 // The largest frame of them, zeroed.
 fn largest_frame() -> [u8; HOME_FRAME_SIZE]
-    ensures value { result ≡ replicate 196608 0 }
-    ensures value_2 { 196608 ≡ length result }
+    ensures zeros { result ≡ replicate 196608 0 }
+    ensures size { 196608 ≡ length result }
 {
     [0; HOME_FRAME_SIZE]
 }
@@ -60,13 +67,13 @@ fn frame_size(on: u8) -> usize
 
 // One of these programs, on its device: the picture of what a frame shows, or, where it shows nothing, the text. Its video memory and its row buffer come first
 // (R11.3), then its input.
-fn at_work(shown: Shown, device: Device, size: usize, name: &[u8], help: &[u8])
+fn at_work(rt: &HostRuntime, shown: Shown, device: Device, size: usize, name: &[u8], help: &[u8])
     requires { size ≤ 196608 }
 {
     let mut vram = [0u8; 16384];
     let mut row = [0u8; 1024];
-    let mut input = io::large_buffer();
-    let taken = program::input(name, help, &mut input);
+    let mut input = trace_room();
+    let taken = program::input(rt, name, help, &mut input);
     if taken.ready {
         let n = taken.len;
         let Shown::Nothing = shown else {
@@ -81,17 +88,17 @@ fn at_work(shown: Shown, device: Device, size: usize, name: &[u8], help: &[u8])
                 &mut frame[..size],
                 &mut picture,
             );
-            program::output(name, &picture[..k]);
+            program::output(rt, name, &picture[..k]);
             return;
         };
         let mut text = text_room();
         let k = trace_run::output::trace(device, &input[..n], &mut vram, &mut row, &mut text);
-        program::output(name, &text[..k]);
+        program::output(rt, name, &text[..k]);
     }
 }
 
 // The same, with its device made. It answers that it has run.
-pub fn run(shown: Shown, on: u8, name: &[u8], help: &[u8]) -> bool {
-    at_work(shown, fresh(on), frame_size(on), name, help);
+pub fn run(rt: &HostRuntime, shown: Shown, on: u8, name: &[u8], help: &[u8]) -> bool {
+    at_work(rt, shown, fresh(on), frame_size(on), name, help);
     true
 }

@@ -1,8 +1,6 @@
 // The program that mends a damaged state block, or says `bad`; each byte that changes is told on standard error.
 ghost use Rattle.std.specs.Prelude.{◌≡◌, ◌≤◌, length};
 
-use libc::STDERR_FILENO;
-
 // Where the name of what stands at an offset that a repair may change ends in the names below, of which each has a row of 24 bytes.
 fn name_end(at: usize) -> usize
     ensures { result ≤ 288 }
@@ -23,8 +21,13 @@ fn name_end(at: usize) -> usize
     }
 }
 
-// What stands there; answers as write_all does.
-fn tell_field(at: usize) -> bool {
+// Writes these bytes to standard error, and answers whether it could.
+fn say(rt: &HostRuntime, bytes: &[u8]) -> bool {
+    rt.stderr().write_all(bytes).is_ok()
+}
+
+// What stands there; answers as `say` does.
+fn tell_field(rt: &HostRuntime, at: usize) -> bool {
     let to = name_end(at);
     let from = to / 24 * 24;
     let names = *b"mark                    \
@@ -39,7 +42,7 @@ fn tell_field(at: usize) -> bool {
             dirty flag              \
             table                   \
             other                   ";
-    io::write_all(STDERR_FILENO, &names[from..to])
+    say(rt, &names[from..to])
 }
 
 // A hexadecimal digit, as the trace programs print it.
@@ -49,9 +52,9 @@ fn hex_digit(d: u8) -> u8 {
 }
 
 // The byte before and after, in two of them each.
-fn tell_bytes(old: u8, new: u8) -> bool {
-    io::write_all(
-        STDERR_FILENO,
+fn tell_bytes(rt: &HostRuntime, old: u8, new: u8) -> bool {
+    say(
+        rt,
         &[
             b':',
             b' ',
@@ -69,16 +72,16 @@ fn tell_bytes(old: u8, new: u8) -> bool {
 }
 
 // One byte that has changed, on a line: its offset in decimal, then what stands there, and the byte before and after in hexadecimal.
-fn tell_change(at: usize, old: u8, new: u8) {
-    io::write_all(STDERR_FILENO, b"repair: byte ");
-    io::print_decimal(STDERR_FILENO, at as u64);
-    io::write_all(STDERR_FILENO, b", ");
-    tell_field(at);
-    tell_bytes(old, new);
+fn tell_change(rt: &HostRuntime, at: usize, old: u8, new: u8) {
+    say(rt, b"repair: byte ");
+    let _ = rt.eprint(at);
+    say(rt, b", ");
+    tell_field(rt, at);
+    tell_bytes(rt, old, new);
 }
 
 // Each offset at which the two differ, in rising order: those of a repair's list.
-fn tell_changes(old: &[u8], new: &[u8])
+fn tell_changes(rt: &HostRuntime, old: &[u8], new: &[u8])
     requires { length old.now ≡ length new.now }
 {
     let mut i = 0;
@@ -86,7 +89,7 @@ fn tell_changes(old: &[u8], new: &[u8])
         let was = old[i];
         let is = new[i];
         if was != is {
-            tell_change(i, was, is);
+            tell_change(rt, i, was, is);
         }
         i += 1;
     }
@@ -101,28 +104,29 @@ fn mended(block: &mut [u8]) -> bool {
 }
 
 // The program at work: it writes the block mended, and tells what has changed; where it cannot be written, that alone is told. It answers that it has run.
-fn run(name: &[u8], help: &[u8]) -> bool {
+fn run(rt: &HostRuntime, name: &[u8], help: &[u8]) -> bool {
     // Room for the longest block and one byte more: where that is filled, there is too much, and nothing that follows could change it.
     let mut block = [0u8; 221];
-    let taken = program::input(name, help, &mut block);
+    let taken = program::input(rt, name, help, &mut block);
     if taken.ready {
         let n = taken.len;
         let old = block;
         if !mended(&mut block[..n]) {
-            program::output(name, b"bad\n");
+            program::output(rt, name, b"bad\n");
             return true;
         }
-        if program::output(name, &block[..n]) {
-            tell_changes(&old[..n], &block[..n]);
+        if program::output(rt, name, &block[..n]) {
+            tell_changes(rt, &old[..n], &block[..n]);
         }
     }
     true
 }
 
 // Answers whether it is the one that is called so; it has then run.
-pub fn repair(called: &[u8]) -> bool {
+pub fn repair(rt: &HostRuntime, called: &[u8]) -> bool {
     if program::same(called, b"repair") {
         return run(
+            rt,
             called,
             b"usage: repair [FILE]\n\
                 Reads a state block of 219 or 220 bytes from FILE, or from standard input (no FILE, or -), and writes it mended (docs/SAVES.md).\n\

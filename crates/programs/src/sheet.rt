@@ -16,22 +16,23 @@ fn blank() -> [u8; 8_192]
 }
 
 // The program at work. It answers that it has run.
-fn run(name: &[u8], help: &[u8]) -> bool {
+fn run(rt: &HostRuntime, name: &[u8], help: &[u8]) -> bool {
     let mut input = room();
     let mut out = blank();
-    let taken = program::input(name, help, &mut input);
+    let taken = program::input(rt, name, help, &mut input);
     if taken.ready {
         let n = taken.len;
         let k = tile_codes::sheet(&input[..n], &mut out);
-        program::output(name, &out[..k]);
+        program::output(rt, name, &out[..k]);
     }
     true
 }
 
 // Answers whether it is the one that is called so; it has then run.
-pub fn sheet(called: &[u8]) -> bool {
+pub fn sheet(rt: &HostRuntime, called: &[u8]) -> bool {
     if program::same(called, b"sheet") {
         return run(
+            rt,
             called,
             b"usage: sheet [FILE]\n\
                 Reads a sheet of 1 to 256 tiles from FILE, or from standard input (no FILE, or -): 64 codes a tile, row by row, one byte a code, 0 to 15.\n\

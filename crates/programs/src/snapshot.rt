@@ -4,9 +4,10 @@ use crate::recording::{HOME, STEPS_261, STEPS_262};
 use trace_run::Shown;
 
 // Each answers whether it is the one that is called so; it has then run.
-pub fn snapshot(called: &[u8]) -> bool {
+pub fn snapshot(rt: &HostRuntime, called: &[u8]) -> bool {
     if program::same(called, b"snapshot") {
         return crate::recording::run(
+            rt,
             Shown::Colours,
             STEPS_262,
             called,
@@ -20,9 +21,10 @@ pub fn snapshot(called: &[u8]) -> bool {
     false
 }
 
-pub fn snapshot_261(called: &[u8]) -> bool {
+pub fn snapshot_261(rt: &HostRuntime, called: &[u8]) -> bool {
     if program::same(called, b"snapshot-261") {
         return crate::recording::run(
+            rt,
             Shown::Colours,
             STEPS_261,
             called,
@@ -36,9 +38,10 @@ pub fn snapshot_261(called: &[u8]) -> bool {
     false
 }
 
-pub fn home_snapshot(called: &[u8]) -> bool {
+pub fn home_snapshot(rt: &HostRuntime, called: &[u8]) -> bool {
     if program::same(called, b"home-snapshot") {
         return crate::recording::run(
+            rt,
             Shown::Colours,
             HOME,
             called,
@@ -52,9 +55,10 @@ pub fn home_snapshot(called: &[u8]) -> bool {
     false
 }
 
-pub fn layers(called: &[u8]) -> bool {
+pub fn layers(rt: &HostRuntime, called: &[u8]) -> bool {
     if program::same(called, b"layers") {
         return crate::recording::run(
+            rt,
             Shown::Layers,
             STEPS_262,
             called,

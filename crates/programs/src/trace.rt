@@ -4,9 +4,10 @@ use crate::recording::{HOME, STEPS_261, STEPS_262};
 use trace_run::Shown;
 
 // Each answers whether it is the one that is called so; it has then run.
-pub fn trace_261(called: &[u8]) -> bool {
+pub fn trace_261(rt: &HostRuntime, called: &[u8]) -> bool {
     if program::same(called, b"trace-261") {
         return crate::recording::run(
+            rt,
             Shown::Nothing,
             STEPS_261,
             called,
@@ -20,9 +21,10 @@ pub fn trace_261(called: &[u8]) -> bool {
     false
 }
 
-pub fn home_trace(called: &[u8]) -> bool {
+pub fn home_trace(rt: &HostRuntime, called: &[u8]) -> bool {
     if program::same(called, b"home-trace") {
         return crate::recording::run(
+            rt,
             Shown::Nothing,
             HOME,
             called,
@@ -37,8 +39,9 @@ pub fn home_trace(called: &[u8]) -> bool {
 }
 
 // The one that runs by any other name.
-pub fn trace() {
+pub fn trace(rt: &HostRuntime) {
     crate::recording::run(
+        rt,
         Shown::Nothing,
         STEPS_262,
         b"trace",

@@ -1,17 +1,19 @@
 // The raster: the line counter with its jump, the latched scroll, and the count of lines to the next line interrupt.
+#![tactic(auto)]
+
 ghost use Rattle.std.specs.Prelude.{◌≡◌};
 ghost use Rattle.laws.specs.Lists.{at};
 ghost use Rattle.raster.specs.declared.LineTable.TheVariants.{Steps262};
 ghost use Rattle.raster.specs.Raster.{fresh_raster, jump_line, line_table_number, line_table_from, advanced, line_count, line_interrupt, counted};
 
 // The table that the counter goes by: how many steps a pass has.
-#[derive(Drop)]
+#[derive(Clone, Copy)]
 pub enum LineTable {
     Steps261,
     Steps262,
 }
 
-#[derive(Drop)]
+#[derive(Clone, Copy)]
 pub struct Raster {
     pub v_counter: u8,
     pub v_counter_jumped: bool,

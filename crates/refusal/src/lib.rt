@@ -1,9 +1,11 @@
 // The refusals (R2.1): why a call is refused, and the number of each.
+#![tactic(auto)]
+
 ghost use Rattle.std.specs.Prelude.{◌≡◌, ◌<◌};
 ghost use Rattle.refusal.specs.Refusals.{refusal_number};
 
 // Why a call is refused, or that it is not (R2.1).
-#[derive(Drop)]
+#[derive(Clone, Copy)]
 pub enum Refusal {
     Accepted,
     UnknownPort,

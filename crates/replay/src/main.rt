@@ -1,10 +1,14 @@
 // Replays the published Rust's answers on standard input, record by record: each call is made on a device of ours, and what it gives is held to what the
 // Rust gave. oracle/VECTORS.md has the form of the list.
-ghost use Rattle.std.specs.Prelude.{◌≡◌, ◌+◌, ◌*◌, ◌≤◌, ◌<◌, length};
+#![tactic(auto)]
+
+ghost use Rattle.std.specs.Prelude.{◌≡◌, ◌+◌, ◌*◌, ◌≤◌, ◌<◌, length, take};
 ghost use Rattle.replay.specs.Replay.{sum_of, row_sum, agreed, world, turn, turned, replayed};
 
+use std::io::Read;
+
 // How many answers agree before the first that does not, and whether all do.
-#[derive(Drop)]
+#[derive(Clone, Copy)]
 struct Tally {
     count: usize,
     same: bool,
@@ -120,19 +124,33 @@ fn room() -> [u8; 2_097_152]
     [0; 2_097_152]
 }
 
-fn main() {
+// Reads until buf is full, the input ends or a read fails, and answers how many bytes it has put at the start of buf.
+fn read_full(reader: &mut impl Read, buf: &mut [u8]) -> usize
+    ensures { (result ≤ length buf.new) × (result ≡ length (take result buf.new)) }
+{
+    let mut done = 0;
+    while done < buf.len() {
+        match reader.read(&mut buf[done..]) {
+            Ok(0) | Err(_) => return done,
+            Ok(more) => done += more,
+        }
+    }
+    done
+}
+
+fn main(rt: HostRuntime) {
     let mut state = [0u8; 219];
     let mut vram = [0u8; 16384];
     let mut row = [0u8; 1024];
     let mut list = room();
-    let n = io::read_full(0, &mut list);
+    let n = read_full(&mut rt.stdin(), &mut list);
     let tally = replay(&list[..n], &mut state, &mut vram, &mut row);
     if tally.same {
-        io::print_decimal(1, tally.count as u64);
-        io::write_all(1, b" answers, 0 differ\n");
+        let _ = rt.print(tally.count);
+        let _ = rt.write_all(b" answers, 0 differ\n");
     } else {
-        io::write_all(1, b"record ");
-        io::print_decimal(1, tally.count as u64);
-        io::write_all(1, b" differs\n");
+        let _ = rt.write_all(b"record ");
+        let _ = rt.print(tally.count);
+        let _ = rt.write_all(b" differs\n");
     }
 }

@@ -1,4 +1,6 @@
 // One row of a screen, drawn into a lent row buffer by the picture of sections 5, 18 and 20, and the layers of its columns (section 15).
+#![tactic(auto)]
+
 ghost use Rattle.std.specs.Prelude.{◌≡◌, cond, ◌&&◌, ℕ, ◌+◌, ◌%◌, ◌<◌, ◌≤◌, length, ltb};
 ghost use Rattle.laws.specs.Lists.{at};
 ghost use Rattle.laws.specs.Paint.{painted};
@@ -23,7 +25,7 @@ use sprites::Line;
 const LAYER_FILLED: u8 = 2;
 
 // What the background of a row leaves: its priority mask, the row's columns, the line that its sprites go by, and whether the fill comes over all.
-#[derive(Drop)]
+#[derive(Clone, Copy)]
 struct Back {
     prio: Bitmap,
     width: usize,

@@ -1,4 +1,6 @@
 // Numbers, sizes and tests that every layer uses.
+#![tactic(auto)]
+
 ghost use Rattle.std.specs.Prelude.{◌≡◌, ◌&&◌, ℕ, ◌+◌, ◌*◌, ◌<◌, ◌≤◌, min, length};
 ghost use Rattle.laws.specs.Bits.{bit, digit};
 ghost use Rattle.laws.specs.Paint.{four_at};

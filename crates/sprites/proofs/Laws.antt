@@ -1,6 +1,7 @@
 -- A sprite's line of bytes and marks shows the sprite laid on the canvas.
 -- Assumes nothing.
-use Rattle.std.proofs.Common.{◌≡◌, ℕ, ◌+◌, ◌-◌, ◌*◌, ◌%◌, ◌<◌, ◌≤◌, Bool, true, false, cond, not, ◌&&◌, ◌||◌, eqb, ltb, leb, List, length, sym, refl, ap, ◌∙◌, lt_of_le_of_lt, arith, ltb-true, le-ltb, lt-ltb, le-leb}
+use Rattle.std.proofs.Common.{◌≡◌, ℕ, ◌+◌, ◌-◌, ◌*◌, ◌%◌, ◌<◌, ◌≤◌, Bool, true, false, cond, not, ◌&&◌, ◌||◌, eqb, ltb, leb, List, length, sym, refl, ap, ◌∙◌}
+use Rattle.std.proofs.Common.{lt_of_le_of_lt, arith, ltb-true, le-ltb, lt-ltb, le-leb}
 use mathlib.Core.Bool.{and-true, and-false, and_comm}
 use native.Mathlib.Decide.{dec_lt}
 use lib.Bits.{bit_and, and_le_r}

@@ -1,6 +1,7 @@
 -- The list of sprites on a line, one at a time.
 -- Assumes nothing.
-use Rattle.std.proofs.Common.{◌≡◌, ℕ, suc, ◌+◌, ◌-◌, ◌*◌, ◌/◌, ◌%◌, ◌^◌, ◌<◌, ◌≤◌, Bool, true, false, cond, ◌&&◌, eqb, ltb, leb, ◌≢◌, List, [], ◌∷◌, length, take, set, sym, refl, ap, ◌∙◌, subst, add-one, arith, get_or-set_other, ltb-false, ltb-true, le-ltb, lt-ltb, le-leb}
+use Rattle.std.proofs.Common.{◌≡◌, ℕ, suc, ◌+◌, ◌-◌, ◌*◌, ◌/◌, ◌%◌, ◌^◌, ◌<◌, ◌≤◌, Bool, true, false, cond, ◌&&◌, eqb, ltb, leb, ◌≢◌, List, [], ◌∷◌, length}
+use Rattle.std.proofs.Common.{take, set, sym, refl, ap, ◌∙◌, subst, add-one, arith, get_or-set_other, ltb-false, ltb-true, le-ltb, lt-ltb, le-leb}
 use native.Mathlib.Decide.{dec_lt}
 use lib.Dec.{leb-suc-suc}
 use lib.Bits.{bit_or}

@@ -1,6 +1,7 @@
 -- The sprites of a line, as the code goes through them, and what they leave in a row's bytes and in the marks.
 -- Assumes nothing.
-use Rattle.std.specs.Prelude.{◌≡◌, ℕ, ◌+◌, ◌-◌, ◌*◌, ◌/◌, ◌%◌, ◌^◌, ◌<◌, ◌≤◌, Bool, cond, not, ◌||◌, List, [], ◌∷◌, length, take, ◌==◌, bit_and, bit_or, nat_le, nat_lt}
+use Rattle.std.specs.Prelude.{◌≡◌, ℕ, ◌+◌, ◌-◌, ◌*◌, ◌/◌, ◌%◌, ◌^◌, ◌<◌, ◌≤◌, Bool, cond, not, ◌||◌, List, [], ◌∷◌, length, take, ◌==◌, bit_and, bit_or, nat_le}
+use Rattle.std.specs.Prelude.{nat_lt}
 use Rattle.laws.specs.Bits.{byte_of}
 use Rattle.laws.specs.Lists.{at}
 use Rattle.laws.specs.Paint.{painted, overlaid}

@@ -1,4 +1,6 @@
 // The sprites of a line, over its background: which are on it (R5.6, R5.7), and what their pixels meet (R5.11, R5.12).
+#![tactic(auto)]
+
 ghost use Rattle.std.specs.Prelude.{◌≡◌, ℕ, ◌+◌, ◌-◌, ◌*◌, ◌/◌, ◌%◌, ◌^◌, ◌<◌, ◌≤◌, Bool, not, ◌||◌, List, length, if◌then◌else◌, ◌==◌, bit_and, bit_or};
 ghost use Rattle.laws.specs.Lists.{at};
 ghost use Rattle.laws.specs.Paint.{painted};
@@ -16,14 +18,14 @@ use column::Columns;
 use picture::{Screen, Stand};
 
 // The next sprite of the list that is on a line, and the line of it that is shown there; number 64 where there is none.
-#[derive(Drop)]
+#[derive(Clone, Copy)]
 pub struct Next {
     pub n: usize,
     pub d: usize,
 }
 
 // What the registers say of the sprites: where their table starts, the lines of each, and what the early clock takes off X.
-#[derive(Drop)]
+#[derive(Clone, Copy)]
 struct Table {
     start: usize,
     lines: usize,
@@ -31,7 +33,7 @@ struct Table {
 }
 
 // What a sprite's turn leaves: the two bytes of the mask with its marks, whether two pixels have met, and how many sprites the line has with it.
-#[derive(Drop)]
+#[derive(Clone, Copy)]
 struct Turn {
     low: u8,
     high: u8,
@@ -40,7 +42,7 @@ struct Turn {
 }
 
 // What the sprites of a line leave: their mask, whether a pixel met it, and whether there was a ninth.
-#[derive(Drop)]
+#[derive(Clone, Copy)]
 struct Marks {
     mask: Bitmap,
     hit: bool,
@@ -48,7 +50,7 @@ struct Marks {
 }
 
 // What a whole line of sprites tells: whether two pixels met, and whether there was a ninth.
-#[derive(Drop)]
+#[derive(Clone, Copy)]
 pub struct Line {
     pub hit: bool,
     pub ninth: bool,

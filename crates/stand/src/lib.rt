@@ -1,4 +1,6 @@
 // Where a sprite stands on each screen (R5.9, R5.10, R18.2, R20.7): the columns of it that are shown, and where the masks have them.
+#![tactic(auto)]
+
 ghost use Rattle.std.specs.Prelude.{◌≡◌, ◌+◌, ◌-◌, ◌<◌, ◌≤◌, min};
 ghost use Rattle.picture.specs.View.{visible_end, visible_stand, effective_stand, edge_stand};
 ghost use Rattle.stand.specs.Stand.{stand_of, Fits};

@@ -1,4 +1,6 @@
 // The handheld's step, by the five points, into a row buffer or into a frame. (What else is asked of its record: crate `look`.)
+#![tactic(auto)]
+
 ghost use Rattle.std.specs.Prelude.{◌≡◌};
 ghost use Rattle.picture.specs.Screen.{columns};
 ghost use Rattle.picture.specs.Area.{screen_of};
@@ -13,7 +15,7 @@ use row::points_run;
 use vdp::VdpState;
 
 // What a step answers, with the device that it leaves.
-#[derive(Drop)]
+#[derive(Clone, Copy)]
 pub struct Stepped {
     pub refusal: Refusal,
     pub interrupt: VdpInt,

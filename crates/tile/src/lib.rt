@@ -1,4 +1,6 @@
 // One line of a tile, drawn into a row of pixels: as background, and as a sprite.
+#![tactic(auto)]
+
 ghost use Rattle.std.specs.Prelude.{◌≡◌, true, cond, ℕ, ◌+◌, ◌-◌, ◌*◌, ◌%◌, ◌^◌, ◌<◌, ◌≤◌, length, set, ltb};
 ghost use Rattle.std.specs.Int.Bits.{bit_or};
 ghost use Rattle.laws.specs.Bits.{bit, number, byte_of};
@@ -15,14 +17,14 @@ ghost use Rattle.tile.specs.Line.{colour_bytes, colours_in, line_colour, line_so
 use column::Columns;
 
 // A tile's line: the codes of its eight pixels, a byte of one number to each, and a bit for each that is not 0, the leftmost pixel's lowest.
-#[derive(Drop)]
+#[derive(Clone, Copy)]
 struct TileLine {
     codes: u64,
     solids: u8,
 }
 
 // Four colours, of pixels side by side.
-#[derive(Drop)]
+#[derive(Clone, Copy)]
 struct Four {
     a: u32,
     b: u32,

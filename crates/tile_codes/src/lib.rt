@@ -1,4 +1,6 @@
 // Tiles in and out: the 64 codes that an author draws, row by row, as the 32 bytes that video memory holds, and back; and a sheet of many tiles.
+#![tactic(auto)]
+
 ghost use Rattle.std.specs.Prelude.{◌≡◌, ◌+◌, ◌-◌, ◌*◌, ◌<◌, ◌≤◌, length, take};
 ghost use Rattle.laws.specs.Bits.{bit, digit, byte_of};
 ghost use Rattle.laws.specs.Lists.{at, written};
@@ -130,7 +132,8 @@ pub fn sheet(input: &[u8], out: &mut [u8]) -> usize
         return 0;
     }
     if !is_sheet(input) {
-        return bytes::copy(b"bad\n", out);
+        out[..4].copy_from_slice(b"bad\n");
+        return 4;
     }
     let tiles = input.len() / 64;
     let mut n = 0;

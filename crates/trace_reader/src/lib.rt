@@ -1,4 +1,6 @@
 // A reader of a recording (R19.3), which goes from one record to the next: what an author's own program goes by. The programs here go by offsets.
+#![tactic(auto)]
+
 ghost use Rattle.std.specs.Prelude.{◌≡◌, length, leb};
 ghost use Rattle.trace_record.specs.Record.{record_at};
 ghost use Rattle.trace_record.specs.Reader.{past};
@@ -21,7 +23,7 @@ pub fn at_end(s: &[u8], at: usize) -> bool
 }
 
 // R19.3: a recording and a place in it.
-#[derive(Drop)]
+#[derive(Clone, Copy)]
 pub struct Reader<'a> {
     pub recording: &'a [u8],
     pub at: usize,

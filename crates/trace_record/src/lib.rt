@@ -1,4 +1,6 @@
 // The records of a recording (R7.9): what stands at an offset, and a record put behind those that are there. (A reader of them: crate `trace_reader`.)
+#![tactic(auto)]
+
 ghost use Rattle.std.specs.Prelude.{◌≡◌, ◌+◌, ◌≤◌, length, take, leb};
 ghost use Rattle.laws.specs.Lists.{written};
 ghost use Rattle.trace_record.specs.Record.{record_at, marked};
@@ -9,7 +11,7 @@ use picture::RenderArea;
 use refusal::Refusal;
 
 // What stands at an offset of a recording.
-#[derive(Drop)]
+#[derive(Clone, Copy)]
 pub enum Record {
     Write(u8, u8),
     Read(u8),
@@ -60,7 +62,7 @@ pub fn record_at(s: &[u8], at: usize) -> Record
 // ---- a record as a machine takes it
 
 // The machines that a recording can be for: the handheld, and the home machine that the dock shows.
-#[derive(Drop)]
+#[derive(Clone, Copy)]
 pub enum Machine {
     Handheld,
     Home,
@@ -97,7 +99,7 @@ pub fn record_on(machine: Machine, s: &[u8], at: usize) -> Record
 // ---- a record behind the others
 
 // What the writer answers: whether there was room, and how many bytes the record took.
-#[derive(Drop)]
+#[derive(Clone, Copy)]
 pub struct Recorded {
     pub refusal: Refusal,
     pub count: u8,

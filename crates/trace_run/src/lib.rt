@@ -1,4 +1,6 @@
 // A recording of port calls and steps, and what it does: a device of either machine, and each record's call on it.
+#![tactic(auto)]
+
 ghost use Rattle.std.specs.Prelude.{◌≡◌, List, [], ℕ, ◌-◌, ◌<◌, ◌≤◌, length};
 ghost use Rattle.laws.specs.Lists.{at};
 ghost use Rattle.picture.specs.declared.RenderArea.TheVariants.{VisibleOnly};
@@ -20,7 +22,7 @@ use trace_text::Answer;
 use vdp::VdpState;
 
 // Which machine it is, and a state of each: the calls go to its own, and the other stays as it is.
-#[derive(Drop)]
+#[derive(Clone, Copy)]
 pub struct Device {
     pub machine: Machine,
     pub vdp: VdpState,
@@ -51,7 +53,7 @@ impl Device {
 }
 
 // The device, the place in the recording, and the records so far.
-#[derive(Drop)]
+#[derive(Clone, Copy)]
 pub struct Run {
     pub device: Device,
     pub at: usize,
@@ -59,7 +61,7 @@ pub struct Run {
 }
 
 // What a frame shows of the steps of the visible size: nothing, since they go into the row buffer; the picture; or which layer owns each pixel.
-#[derive(Drop)]
+#[derive(Clone, Copy)]
 pub enum Shown {
     Nothing,
     Colours,
@@ -67,7 +69,7 @@ pub enum Shown {
 }
 
 // What a record's call answers, and the run after it.
-#[derive(Drop)]
+#[derive(Clone, Copy)]
 pub struct Turned {
     pub answer: Answer,
     pub run: Run,

@@ -1,4 +1,6 @@
 // Numbers and lines as text (R7.10, R7.11).
+#![tactic(auto)]
+
 ghost use Rattle.std.specs.Prelude.{◌≡◌, [], ◌∷◌, ◌+◌, ◌/◌, ◌≤◌, ◌<◌, length};
 ghost use Rattle.laws.specs.Lists.{written};
 ghost use Rattle.trace_text.specs.Text.{digit_of, decimal, hex_digit, numbered, told, line_of};
@@ -9,7 +11,7 @@ use points::{DisplayRefresh, VdpInt};
 use trace_record::put_all;
 
 // What a call answers, and its line says: first the number of its refusal.
-#[derive(Drop)]
+#[derive(Clone, Copy)]
 pub enum Answer {
     Wrote(u8),
     Gave(u8, u8),

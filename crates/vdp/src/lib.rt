@@ -1,4 +1,6 @@
 // The handheld: its record (R3.1), and its port calls, the front's but for the palette. Video memory is lent by the caller.
+#![tactic(auto)]
+
 ghost use Rattle.std.specs.Prelude.{◌≡◌, ◌+◌, ◌-◌, ◌%◌, ◌<◌};
 ghost use Rattle.laws.specs.Sizes.{cram_size};
 ghost use Rattle.vdp.specs.Device.{made, fresh, front_of, with_front, with_palette_byte};
@@ -12,7 +14,7 @@ use refusal::Refusal;
 pub const CRAM_SIZE: u16 = 0x40;
 
 // The device: registers, palette, cached colours and the small fields.
-#[derive(Drop)]
+#[derive(Clone, Copy)]
 pub struct VdpState {
     pub status: u8,
     pub reg: [u8; 11],
@@ -28,14 +30,14 @@ pub struct VdpState {
 }
 
 // What a port write leaves.
-#[derive(Drop)]
+#[derive(Clone, Copy)]
 pub struct Written {
     pub refusal: Refusal,
     pub vdp: VdpState,
 }
 
 // What a port read gives and leaves.
-#[derive(Drop)]
+#[derive(Clone, Copy)]
 pub struct ReadBack {
     pub refusal: Refusal,
     pub byte: u8,

@@ -1,4 +1,6 @@
 // The answer word of the C face (R7.7): which bits say what.
+#![tactic(auto)]
+
 ghost use Rattle.std.specs.Prelude.{◌≡◌, ◌+◌, ◌≤◌, ◌<◌, cond};
 ghost use Rattle.refusal.specs.Refusals.{refusal_number, first};
 ghost use Rattle.points.specs.Points.{interrupt_number, report_number};

@@ -1,0 +1,34 @@
+-- `block_ports::out` meets its contract: a port write on the device of a well-formed block.
+use native.Mathlib.Omega.{arith}
+use lib.ListN.{length}
+use Rattle.block.proofs.Whole.{long}
+use Rattle.block_ports.proofs.Front.{formed}
+use Rattle.block_ports.proofs.Calls.{left, left_sized, left_in, aimed, by_palette, by_front}
+use Rattle.block_ports.proofs.out.Goals as goal
+
+pub write-sent-requires-clause-front_formed : goal.write-sent-requires-clause-front_formed
+write-sent-requires-clause-front_formed c = formed c.args.block.now c.requires (λ i. omega (arith, c.slice_known-1.given i))
+
+pub write_palette-requires : goal.write_palette-requires
+write_palette-requires c = (
+  omega (arith, c.write-sent.auto.block, long c.args.block.now c.requires),
+  aimed c.args.block.now c.requires
+      (λ i. omega (arith, c.slice_known-1.given i)) c.args.vram.now c.args.port c.args.val
+      c.write-sent.ensures.sent_in_place c.write-sent.ensures.vram_after c.if-sent.true,
+)
+
+pub returns-then-sent : goal.returns-then-sent
+returns-then-sent c =
+    by_palette c.args.block.now c.requires (λ i. omega (arith, c.slice_known-1.given i)) c.args.vram.now
+    c.args.port c.args.val c.write-sent.ensures.sent_in_place c.write-sent.ensures.vram_after c.if-sent.true
+    (c.write_palette.ensures (length c.args.block.now)
+    (left c.args.block.now c.requires (λ i. omega (arith, c.slice_known-1.given i)) c.args.vram.now
+    c.args.port c.args.val) (left_sized c.args.block.now c.requires
+    (λ i. omega (arith, c.slice_known-1.given i)) c.args.vram.now c.args.port c.args.val)
+    (left_in c.args.block.now c.requires (λ i. omega (arith, c.slice_known-1.given i)) c.args.vram.now
+    c.args.port c.args.val c.write-sent.ensures.sent_in_place c.write-sent.ensures.vram_after))
+
+pub returns : goal.returns
+returns c =
+    by_front c.args.block.now c.requires (λ i. omega (arith, c.slice_known-1.given i)) c.args.vram.now
+    c.args.port c.args.val c.write-sent.ensures.sent_in_place c.write-sent.ensures.vram_after c.if-sent.false

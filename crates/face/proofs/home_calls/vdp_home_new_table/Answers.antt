@@ -1,0 +1,12 @@
+-- `face::home_calls::vdp_home_new_table` meets its contract: a fresh device of this table into the block.
+use Rattle.face.proofs.HomeLaws.{new_ten, new_done}
+use Rattle.face.proofs.home_calls.vdp_home_new_table.Goals as goal
+
+pub returns-then-not-both : goal.returns-then-not-both
+returns-then-not-both c =
+    new_ten c.args.state.now c.args.table c.both.ensures c.if-not-both.true c.number.ensures.0
+
+pub returns : goal.returns
+returns c =
+    new_done c.args.state.now c.args.table c.both.ensures c.if-not-both.false
+    c.table_from.ensures c.fresh.ensures

@@ -1,0 +1,37 @@
+-- `trace_text::end::put_picture` meets its contract: what is written of a run that stopped: its picture, or where the recording is bad.
+use mathlib.Core.Path.{ap, ◌∙◌}
+use lib.ListN.{length}
+use Rattle.laws.specs.Lists.{written}
+use Rattle.trace_text.proofs.Endings.{drawn_end, drawn_bad}
+use Rattle.trace_text.proofs.Lines.{put_as}
+use Rattle.trace_text.specs.End.{drawn}
+use native.Mathlib.Nat.{zero-add}
+use Rattle.trace_text.proofs.end.put_picture.Goals as goal
+
+pub returns-then-input-stopped-clause-value : goal.returns-then-input-stopped-clause-value
+returns-then-input-stopped-clause-value c =
+    let a = c.args in
+    let q = drawn_end a.screen a.input.now a.stopped a.frame.now c.if-input-stopped.true in
+    let p = c.put_ppm.ensures in
+    p.value ∙ ap length q
+
+pub returns-then-input-stopped-clause-out_after : goal.returns-then-input-stopped-clause-out_after
+returns-then-input-stopped-clause-out_after c =
+    let a = c.args in
+    let q = drawn_end a.screen a.input.now a.stopped a.frame.now c.if-input-stopped.true in
+    let p = c.put_ppm.ensures in
+    p.out_after ∙ ap (written a.out.now 0) q
+
+pub returns-clause-value : goal.returns-clause-value
+returns-clause-value c =
+    let a = c.args in
+    let g = put_as a.out.now 0 (drawn_bad a.screen a.input.now a.stopped a.frame.now c.if-input-stopped.false)
+    (c.put_numbered.ensures.value, c.put_numbered.ensures.out_after) in
+    g.0 ∙ zero-add (length (drawn a.screen a.input.now a.stopped a.frame.now))
+
+pub returns-clause-out_after : goal.returns-clause-out_after
+returns-clause-out_after c =
+    let a = c.args in
+    let g = put_as a.out.now 0 (drawn_bad a.screen a.input.now a.stopped a.frame.now c.if-input-stopped.false)
+    (c.put_numbered.ensures.value, c.put_numbered.ensures.out_after) in
+    g.1
