@@ -30,7 +30,7 @@ build/bin/desk: desk/desk | setup
 
 # A file is made again where a source of it, or the toolchain, has changed. The crate of the programs is proved by a plan, which leaves its LLVM module
 # (tools/modules.sh); where that stays as it was nothing is compiled again.
-PROVE := OF="programs face" bash tools/prove.sh
+PROVE := OF="programs face_c" bash tools/prove.sh
 build/modules/programs: $(shell sh tools/sources.sh programs) build/toolchain tools/modules.sh | setup
 	@$(PROVE) programs programs
 	@touch $@
@@ -42,24 +42,24 @@ $(BINS) &: build/modules/programs.ll tools/native-program.sh tools/program.c $(C
 	@TARGET= sh tools/native-program.sh $< $(BINS)
 	@echo "$(BINS) compiled for this machine"
 
-build/modules/face.ll build/libvdp.a &: $(shell sh tools/sources.sh face) build/toolchain tools/modules.sh | setup
-	@$(PROVE) library face
-	@cp target/staticlib/libface.a build/libvdp.a
+build/modules/face_c.ll build/libvdp.a &: $(shell sh tools/sources.sh face_c) build/toolchain tools/modules.sh | setup
+	@$(PROVE) library face_c
+	@cp crates/face_c/out/libface_c.a build/libvdp.a
 
 # From nothing the library is proved with the programs, by one plan; later each by itself, where it has changed.
 together: build/toolchain | setup
-	@[ -e build/modules/programs ] || [ -e build/modules/face.ll ] || { $(PROVE) both face programs && cp target/staticlib/libface.a build/libvdp.a && touch build/modules/programs; }
+	@[ -e build/modules/programs ] || [ -e build/modules/face_c.ll ] || { $(PROVE) both face_c programs && cp crates/face_c/out/libface_c.a build/libvdp.a && touch build/modules/programs; }
 
 build/toolchain: FORCE | setup
 	@[ "$$(rt version)" = "$$(cat $@ 2> /dev/null)" ] || rt version > $@
 
 native: $(if $(TARGET),build/cross/$(TARGET)/libvdp.a,$(NATIVE)) ## the library for this machine, build/native/libvdp.a and libvdp.so; TARGET= for another: aarch64, x86_64, riscv64 or armv7, as it is for Linux, with -none for bare metal
 
-$(NATIVE) &: build/modules/face.ll include/vdp.h tools/native-lib.sh $(COMPILE)
+$(NATIVE) &: build/modules/face_c.ll include/vdp.h tools/native-lib.sh $(COMPILE)
 	@TARGET= sh tools/native-lib.sh $< build/native
 	@echo "build/native/libvdp.a and libvdp.so compiled for this machine"
 
-build/cross/%/libvdp.a: build/modules/face.ll include/vdp.h tools/native-lib.sh tools/calls.awk tools/memory.c $(COMPILE)
+build/cross/%/libvdp.a: build/modules/face_c.ll include/vdp.h tools/native-lib.sh tools/calls.awk tools/memory.c $(COMPILE)
 	@TARGET=$* sh tools/native-lib.sh $< build/cross/$*
 	@echo "build/cross/$*/libvdp.a compiled for $*"
 
@@ -68,9 +68,9 @@ page: build/desk.html ## the desk as a page: build/desk.html, one file that open
 	@echo "build/desk.html is the desk as a page: open it in a browser (docs/PAGE.md)"
 
 # The same module once more, as WebAssembly.
-build/native/vdp.wasm: build/modules/face.ll tools/wasm-module.sh tools/toolchain.sh
+build/native/vdp.wasm: build/modules/face_c.ll tools/wasm-module.sh tools/toolchain.sh
 	@mkdir -p build/native
-	@sh tools/wasm-module.sh build/modules/face.ll $@
+	@sh tools/wasm-module.sh build/modules/face_c.ll $@
 
 build/desk.html: build/native/vdp.wasm build/native/libvdp.so $(wildcard page/* desk/*) include/vdp.h docs/scripts/split-old.desk
 	@python3 page/build.py build/native/vdp.wasm $@
@@ -140,7 +140,7 @@ setup-page: # and to try the page in a browser
 	@sh tools/setup.sh page
 
 clean: ## remove what was built
-	rm -rf build target
+	rm -rf build target crates/*/out
 
 help: ## this list
 	@awk -F ':.*## ' '/^[a-z]+:.*## / { printf "make %-9s %s\n", $$1, $$2 }' Makefile

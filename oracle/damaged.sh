@@ -45,7 +45,7 @@ damage "a block of the first version has table 1 and not 0" block::table_byte 's
 damage "the list of sprites ends at D1 and not at D0" sprites::next_on 's/(icmp eq i8 %[ar][0-9]+), -48$/\1, -47/'
 damage "status bit 7 is set at C2 and not at C1" points::ended 's/(icmp eq i8 %[ar][0-9]+), -63$/\1, -62/'
 damage "the screen's end is reported at C2 and not at C1" points::report_of 's/(icmp ne i8 %[ar][0-9]+), -63$/\1, -62/'
-damage "a sprite's layer is 65 + n and not 64 + n" column::owner_of 's/(add nuw i64) 64,/\1 65,/'
+damage "a sprite's layer is 65 + n and not 64 + n" column::owner_of 's/(add i64) 64,/\1 65,/'
 damage "a pixel that is held back takes its column from a sprite that was drawn there" column::owner_of 's/icmp eq i8 (%[ar][0-9]+), 0$/icmp ne i8 \1, 1/'
 damage "159 bytes are enough for the layers of any row" points::layer_due 's/udiv i64 %r[0-9]+, 4$/udiv i64 639, 4/'
 
@@ -54,7 +54,7 @@ beside=docks-here
 compared "the library as it is, at home" build/native/libvdp.a
 [ $status -eq 0 ] || failed=1
 damage "the sideways lock holds row 16 too" background::home_column 's/(icmp ult i64 %a1), 16$/\1, 17/'
-damage "one pixel on its own: the fill is nine columns wide" pixel::home_number 's/(icmp ult i64 %a4), 8$/\1, 9/'
+damage "one pixel on its own: the fill is nine columns wide" pixel::home_number 's/(icmp ult i64 %a5), 8$/\1, 9/'
 damage "a ninth column has layer 2" row::cover 's/(icmp ult i64 %r[0-9]+), 8$/\1, 9/'
 damage "a filled column has layer 3 and not 2" row::cover 's/store i8 2,/store i8 3,/'
 damage "the fill's colour is register 7 mod 8" row::fill_over 's/(urem i64 %r[0-9]+), 16$/\1, 8/'

@@ -13,35 +13,35 @@ trap 'rm -rf "$work"' EXIT
 chmod 755 "$work"
 copy="$work/a place with spaces"
 mkdir "$copy" "$work/bin"
-tar -c --exclude=./build --exclude=./target --exclude=./.git . | tar -x -C "$copy"
-. tools/toolchain.sh
-export RATTLE_HOME=$kit
-# As rt, it is called for one crate in a folder of its own (tools/plan.sh), and passes over one that has not changed: whose stamp is of this toolchain and newer
-# than its files and the stamps below it. A library for C is built each time. The module of a program, or of the library, is handed out with it, as a clang that
-# keeps modules leaves it (tools/modules.sh). $work/stuck names a crate that never ends.
+copied "$copy"
+stand_in "$work/kit"
+export RATTLE_HOME=$work/kit
+# As rt, it is called in the folder of one crate, in a project of its own (tools/plan.sh), and passes over one that has not changed: whose stamp is of this toolchain
+# and newer than its files and the stamps below it. A library for C is built each time. A program is run. $work/stuck names a crate that never ends.
 cat >"$work/bin/rt" <<END
 #!/bin/sh
-verb=\$1 name=\${2-}
+verb=\$1 name=\${PWD##*/}
 case \$verb in
 version) cat "$work/version"; exit ;;
-check | staticlib) echo "\$verb \$name" >>"$work/calls" ;;
+lib | run) echo "\$verb \$name" >>"$work/calls" ;;
 *) echo "\$verb" >>"$work/calls"; exit 1 ;;
 esac
+stamp=out/rlib/stamp
+[ \$verb = lib ] || stamp=out/\$name.stamp
 changed() {
-    [ "\$verb" = check ] && [ "\$(cat target/stamp/\$name 2>/dev/null)" = "\$(cat "$work/version")" ] || return 0
-    [ -z "\$(find crates/\$name -newer target/stamp/\$name)" ] || return 0
-    for dep in \$(sed -n "s/^\$name://p" crates.txt); do [ ! target/stamp/\$dep -nt target/stamp/\$name ] || return 0; done
+    [ "\$(sed 1q \$stamp 2>/dev/null)" = "\$(cat "$work/version")" ] || return 0
+    [ -z "\$(find . -newer \$stamp ! -path './out*' ! -path .)" ] || return 0
+    for dep in ../*; do [ ! \$dep/out/rlib/stamp -nt \$stamp ] || return 0; done
     return 1
 }
-if ! changed; then
-    echo "rt: \$name proved (unchanged since it was last proved)"
-    exit
+if changed; then
+    echo \$name >>"$work/proved"
+    if [ "\$(cat "$work/stuck")" = \$name ]; then sleep 300; fi
+    echo "logic=proved functions=1" >&2
+    mkdir -p out/rlib
+    if [ \$name = face_c ]; then cp "$PWD/build/libvdp.a" out/libface_c.a; else { cat "$work/version"; echo \$\$; } >\$stamp; fi
 fi
-echo \$name >>"$work/proved"
-if [ "\$(cat "$work/stuck")" = \$name ]; then sleep 300; fi
-[ ! -e "$PWD/build/modules/\$name.bc" ] || cp "$PWD/build/modules/\$name.bc" "$copy/build/modules/"
-if [ \$verb = staticlib ]; then cp "$PWD/build/libvdp.a" target/staticlib/libface.a; else cat "$work/version" >target/stamp/\$name; fi
-echo "rt: \$name proved (0 s)"
+[ \$verb = lib ] || { echo "rt: running out/\$name" >&2; cat "$copy/crates/\$name/stdout"; }
 END
 chmod +x "$work/bin/rt"
 echo one >"$work/version"
@@ -50,8 +50,8 @@ echo one >"$work/version"
 # calls_of PLAN: how rt is called for the programs, for the library, or for both in one plan: for each crate once.
 calls_of() {
     local names
-    case $1 in programs) names=programs ;; library) names=face ;; both) names='face programs' ;; esac
-    sh tools/crates.sh $names | sed 's/^/check /; s/^check face$/staticlib face/' | sort
+    case $1 in programs) names=programs ;; library) names=face_c ;; both) names='face_c programs' ;; esac
+    sh tools/crates.sh $names | sed 's/^/lib /; s/^lib programs$/run programs/' | sort
 }
 # called PLAN..: rt was called for these plans, one after the other, and for nothing else.
 called() {
@@ -65,7 +65,7 @@ called() {
 }
 # anew CRATE..: these were proved again, each once, and no other; `all` are those of both plans.
 anew() {
-    [ "$*" != all ] || set -- $(sh tools/crates.sh face programs)
+    [ "$*" != all ] || set -- $(sh tools/crates.sh face_c programs)
     [ "$(sort "$work/proved")" = "$(printf '%s\n' "$@" | sort)" ]
 }
 # made NAME PLANS CRATES WORDS..: make with these words calls rt for these plans, which prove these crates, and leaves what a user takes away.
@@ -110,11 +110,11 @@ made "after a change below both: all that stands on it is made" "programs librar
 later crates/programs/src/trace.rt
 made "after a change of a program: the library stays" programs programs build
 later crates/face/specs/Face.antt
-made "after a change of the library: the programs stay" library face build
+made "after a change of the library: the programs stay" library "face face_c" build
 later crates/passes/specs/Pass.antt
 made "after a change of neither: nothing is made" "" "" build
 later crates.txt
-made "after a change of crates.txt: rt looks at each crate" "programs library" face build
+made "after a change of crates.txt: rt looks at each crate" "programs library" face_c build
 echo two >"$work/version"
 made "with another toolchain" "programs library" all build
 rm "$copy/build/bin/snapshot-261"
@@ -122,8 +122,8 @@ made "a program that was removed is made again, of the module that is there" "" 
 rm "$copy/build/modules/programs.ll"
 made "the text of a module that was removed is made again, of the module" programs "" build
 rm "$copy/build/modules/programs.bc" "$copy/build/modules/programs.ll"
-made "a module that was removed is made again" programs programs build
-echo >>"$copy/target/stamp/programs"
+made "a module that was removed is made again" programs "" build
+echo >>"$copy/crates/programs/out/programs.stamp"
 later crates/programs/src/trace.rt
 made "so is one of other sources than rt's stamp tells of" programs programs build
 later include/vdp.h
@@ -134,13 +134,13 @@ made "make -j4" "" "" -j4 all
 made "make -j4 clean all" both all -j4 clean all
 
 # Ended in the middle: what was proved is not proved again, nor are the programs, where their module was kept. (The library is built each time.)
-for stuck in programs face; do
-    rm -rf "$copy/build" "$copy/target"
+for stuck in programs face_c; do
+    rm -rf "$copy/build" "$copy/target" "$copy"/crates/*/out
     echo $stuck >"$work/stuck"
     : >"$work/calls"
     : >"$work/proved"
-    again='face programs' other=face
-    [ $stuck = programs ] || again=face other=programs
+    again='face_c programs' other=face_c
+    [ $stuck = programs ] || again=face_c other=programs
     set -m
     (cd "$copy" && PATH="$work/bin:$PATH" RT_JOBS=2 exec make --no-print-directory build </dev/null) >"$work/said" 2>&1 &
     group=$!
@@ -191,7 +191,7 @@ chmod +x "$work/few"/dpkg "$work/few"/apt-get
 printf '#!/bin/sh\nexec "$@"\n' >"$work/few/sudo"
 chmod +x "$work/few/sudo"
 : >"$work/calls"
-(cd "$copy" && PATH="$work/bin:$work/few" make --no-print-directory PROGRAMS=trace build) >"$work/said" 2>&1 && grep -q staticlib "$work/calls"
+(cd "$copy" && PATH="$work/bin:$work/few" make --no-print-directory PROGRAMS=trace build) >"$work/said" 2>&1 && grep -qx 'lib face_c' "$work/calls"
 status=$?
 [ "$status" -eq 0 ] || cat "$work/said"
 tell "make asks for no more than that: not for rustc" $status

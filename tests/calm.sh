@@ -9,72 +9,64 @@
 work=$(mktemp -d)
 trap 'rm -rf "$work"' EXIT
 copy=$work/copy
-mkdir -p "$copy/target/stamp" "$copy/target/log" "$work/bin"
-tar -c --exclude=./build --exclude=./target --exclude=./.git . | tar -x -C "$copy"
+mkdir -p "$copy" "$work/bin"
+copied "$copy"
 # In $work/waits stand crates with another, which has to begin first (but for 20 seconds at most), in $work/takes crates with the seconds that they take then;
 # $work/stuck, $work/wrong and $work/misran name those that never end, that are not proved, or whose run fails. All that it starts is noted, when it begins and
-# when it ends, and what it finds in its folder. As rt does, it goes by the crates.txt there, writes target/log/CRATE.out and .res of each crate in it, says
-# what it finds proved, and names files from the folder's top. It calls few commands, since it is called often.
+# when it ends, and what it finds in its folder. As rt does, it works on the crate of the folder that it is called in, goes by the crates.txt above it, leaves in
+# out/ what it makes, and names files from the crate's folder. It calls few commands, since it is called often.
 cat >"$work/bin/rt" <<END
 #!/bin/sh
-case \$1 in version) echo stand-in; exit ;; check | staticlib) verb=\$1; shift ;; *) exit 2 ;; esac
+case \$1 in version) echo stand-in; exit ;; lib | run | all) verb=\$1 words=\$* ;; *) exit 2 ;; esac
 # in_list FILE NAME: the rest of its line is in more
 in_list() {
-    while read -r one more; do [ "\$one" != "\$2" ] || return 0; done <"$work/\$1"
+    while read -r one more; do [ "\${one%:}" != "\$2" ] || return 0; done <"\$1"
     return 1
 }
-# unproved DEP..: notes those crates that have no stamp
-unproved() { for dep; do [ ! -d crates/\$dep ] || [ -e target/stamp/\$dep ] || echo "\$name before \$dep" >>"$work/early"; done; }
-# one: the crate that is in name, with its line's rest in deps
-one() {
-    if [ -e target/stamp/\$name ] && [ "\$verb \$name" != "staticlib \$asked" ]; then
-        echo "rt: \$name proved (unchanged since it was last proved)"
-        echo proved >target/log/\$name.res
-        return
-    fi
+# proved: what there is to prove of the crate that is in name
+proved() {
     echo \$name >>"$work/proved"
     echo begin \$name >>"$work/journal"
-    unproved \$deps
+    while read -r dep more; do
+        dep=\${dep%:}
+        [ "\$dep" = \$name ] || [ -e ../\$dep/out/rlib/stamp ] || echo "\$name before \$dep" >>"$work/early"
+    done <../../crates.txt
     echo "fn \$name::something: proved"
-    ! in_list waits \$name || for _ in \$(seq 200); do ! grep -qx "begin \$more" "$work/journal" || break; sleep 0.1; done
-    ! in_list takes \$name || sleep \$more
-    ! in_list stuck \$name || sh -c 'echo \$\$ >>"$work/started"; exec sleep 300'
+    ! in_list "$work/waits" \$name || for _ in \$(seq 200); do ! grep -qx "begin \$more" "$work/journal" || break; sleep 0.1; done
+    ! in_list "$work/takes" \$name || sleep \$more
+    ! in_list "$work/stuck" \$name || sh -c 'echo \$\$ >>"$work/started"; exec sleep 300'
     echo end \$name >>"$work/journal"
-    if in_list wrong \$name; then
-        echo "\$(pwd -P)/crates/\$name/proofs/Wrong.antt:7:1: error: it does not hold"
-        echo "rt: \$name NOT PROVED (exit 1, 0 s)"
-        return
+    if in_list "$work/wrong" \$name; then
+        echo "./proofs/Wrong.antt:7:1: error: it does not hold"
+        exit 1
     fi
-    echo "rt: \$name proved (0 s)"
-    if in_list misran \$name; then
-        echo 'it went wrong' >target/log/\$name.stderr
-        echo "rt: \$name: the program ended with status 1 (target/log/\$name.stderr has what it said)"
-        echo "rt: \$name proved, and its run FAILED (0 s)"
-        return
-    fi
-    [ \$verb = staticlib ] || : >target/stamp/\$name
-    echo proved >target/log/\$name.res
+    echo "logic=proved functions=1"
 }
 echo \$\$ >>"$work/started"
-asked=\${1-} status=0
-if [ -n "\$asked" ]; then
-    echo "\$verb \$*" >>"$work/calls"
-    for file in target/log/*; do [ ! -e "\$file" ] || echo "\$asked" >>"$work/met"; done
-    while read -r line; do echo "\$line"; done <crates.txt >"$work/found/\$asked"
-elif [ -e crates/stray.rt ]; then
-    echo 'rt: in no crate that crates.txt lists, so nothing proves it: crates/stray.rt'
-    echo 'rt: FAILED: lost-files'
-    exit 1
+if [ \$verb = all ]; then
+    [ ! -e crates/stray.rt ] || { echo "rt: no check reads \$PWD/crates/stray.rt: a .rt file goes in src/"; exit 2; }
+    exit
 fi
-while IFS=: read -r name deps; do
-    echo failed >target/log/\$name.res
-    one >target/log/\$name.out 2>&1 &
-    wait
-    while read -r line; do echo "\$line"; done <target/log/\$name.out
-    read -r word <target/log/\$name.res
-    [ \$word = proved ] || { echo "rt: FAILED: \$name"; status=1; }
-done <crates.txt
-exit \$status
+name=\${PWD##*/}
+echo "\$words \$name" >>"$work/calls"
+for crate in ../*; do in_list ../../crates.txt "\${crate#../}" || echo "\$name met \${crate#../}" >>"$work/met"; done
+while read -r line; do echo "\$line"; done <../../crates.txt >"$work/found/\$name"
+if [ \$verb = lib ]; then
+    [ ! -e out/rlib/stamp ] || exit 0
+    proved &
+    wait \$! || exit
+    [ -d out/rlib ] || mkdir -p out/rlib
+    case \$words in *--cpu*) echo \$name >out/lib\$name.a ;; *) echo \$name >out/rlib/stamp ;; esac
+    exit
+fi
+if [ ! -e out/\$name.stamp ]; then
+    proved >&2 &
+    wait \$! || exit
+    echo \$name >out/\$name.stamp
+fi
+echo "rt: running out/\$name; to give it other input, run that file yourself" >&2
+! in_list "$work/misran" \$name || { echo 'it went wrong' >&2; exit 1; }
+[ ! -e "$copy/crates/\$name/stdout" ] || cat "$copy/crates/\$name/stdout"
 END
 printf '#!/bin/sh\ncat "%s"\n' "$work/processors" >"$work/bin/nproc"
 chmod +x "$work/bin"/*
@@ -87,8 +79,8 @@ export TMPDIR=$work/tmp
 mkdir "$TMPDIR"
 cd "$copy"
 # Some of the crates are as good as all here.
-awk -F: -v kept=' laws bitmap small picture column stand tile background sprites dump program programs demands face io os libc ' '
-    function has(name) { return index(kept, " " name " ") }
+awk -F: -v kept=' laws bitmap small picture column stand tile background sprites dump program programs demands face face_c ' '
+    function has(name) { sub(/ .*/, "", name); return index(kept, " " name " ") }
     has($1) {
         line = $1 ":"
         count = split($2, deps, " ")
@@ -98,11 +90,13 @@ awk -F: -v kept=' laws bitmap small picture column stand tile background sprites
 mv "$work/crates.txt" crates.txt
 all=$(sh tools/crates.sh | wc -l)
 
+# stamps: how many crates are proved, each with a stamp of its own, or, where it is one for C, with what is made of it.
+stamps() { find crates -path '*/out/*' \( -name stamp -o -name '*.stamp' -o -name '*.a' \) | wc -l; }
 # anew WORDS..: nothing is proved, there are two processors, and the stand-in goes by these words: a file and its lines.
 anew() {
     local name
-    rm -rf target/stamp target/log "$work/found"
-    mkdir -p target/stamp target/log "$work/found"
+    rm -rf crates/*/out target/log "$work/found"
+    mkdir -p target/log "$work/found"
     for name in takes waits stuck wrong misran started proved journal early met calls; do : >"$work/$name"; done
     [ $# -eq 0 ] || printf '%s\n' "${@:2}" >"$work/$1"
     echo 2 >"$work/processors"
@@ -127,16 +121,16 @@ tell "all else is in the log" $?
 [ ! -s "$work/early" ]
 tell "none begins before those below it are proved" $?
 [ ! -s "$work/met" ] && [ -z "$(ls -A "$TMPDIR")" ]
-tell "none finds another's logs in its folder, and no folder is left" $?
+tell "none finds another's crates in its folder, and no folder is left" $?
 bash tools/prove.sh all >"$work/said" 2>&1 && [ ! -s "$work/said" ]
 tell "where all is proved it says nothing" $?
-rm target/stamp/tile target/stamp/demands
+rm crates/tile/out/rlib/stamp crates/demands/out/rlib/stamp
 bash tools/prove.sh all >"$work/said" 2>&1 && [ "$(sed 's/, .*//' "$work/said" | sort | tr '\n' ' ')" = 'demands proved tile proved ' ]
 tell "of two that have changed it says two lines" $?
-rm target/stamp/tile
+rm crates/tile/out/rlib/stamp
 : >crates/stray.rt
 bash tools/prove.sh all >"$work/said" 2>&1
-[ $? -eq 1 ] && grep -q '^tile proved, ' "$work/said" && grep -qx 'rt: FAILED: lost-files' "$work/said"
+[ $? -eq 1 ] && grep -q '^tile proved, ' "$work/said" && grep -q "^rt: no check reads $copy/crates/stray.rt: " "$work/said"
 tell "the last word on the whole is rt's: a file that stands in no crate" $?
 rm crates/stray.rt
 
@@ -176,29 +170,33 @@ above tile >"$work/above"
     ! grep -qxFf "$work/above" "$work/proved"
 tell "what stands on a crate that is not proved is not tried" $?
 free=$((all - 1 - $(wc -l <"$work/above")))
-[ "$(cat "$work/proved" "$work/above" | sort)" = "$(sh tools/crates.sh | sort)" ] && [ "$(ls target/stamp | wc -l)" -eq $free ]
+[ "$(cat "$work/proved" "$work/above" | sort)" = "$(sh tools/crates.sh | sort)" ] && [ "$(stamps)" -eq $free ]
 tell "and all others are" $?
 anew misran programs
 bash tools/prove.sh all >"$work/said" 2>&1
 [ $? -eq 1 ] && grep -qx 'programs is proved, and its run FAILED' "$work/said" && ! grep -q NOT "$work/said" &&
-    [ "$(cat target/log/programs.stderr)" = 'it went wrong' ]
+    grep -qx 'it went wrong' target/log/programs.out
 tell "a program whose run fails is told, and what it said is where rt says" $?
 
 # The plan by itself.
 anew
-bash tools/plan.sh face.a programs >"$work/said" 2>&1
-[ $? -eq 0 ] && [ "$(sort "$work/calls")" = "$(sh tools/crates.sh face programs | sed 's/^/check /; s/^check face$/staticlib face/' | sort)" ] &&
+bash tools/plan.sh face_c programs >"$work/said" 2>&1
+[ $? -eq 0 ] && [ "$(sort "$work/calls")" = "$(sh tools/crates.sh face_c programs | sed 's/^/lib --jobs 1 /; s/1 face_c$/1 --cpu x86-64 face_c/; s/^lib \(.*\) programs$/run \1 programs/' | sort)" ] &&
     [ ! -s "$work/early" ]
 tell "a library is built for C, once those below it are proved; each crate has one run of rt" $?
 others=
-for name in $(sh tools/crates.sh face programs); do
+for name in $(sh tools/crates.sh face_c programs); do
     [ "$(grep '::something: proved' "target/log/$name.out")" = "fn $name::something: proved" ] || others="$others $name"
 done
 [ -z "$others" ] || echo "not the log of the crate:$others"
 [ -z "$others" ]
 tell "each has a log, with what rt said of it" $?
-grep '^tile:' crates.txt | cmp - "$work/found/tile" && [ "$(grep -E '^(programs|program):' crates.txt | sort)" = "$(sort "$work/found/programs")" ]
-tell "rt finds the crate's line alone, and of those below it only the ones that lead to a library of the kit" $?
+status=0
+for name in tile programs face_c; do
+    [ "$(grep -E "^($(sh tools/crates.sh $name | paste -sd '|'))( staticlib)?:" crates.txt | sort)" = "$(sort "$work/found/$name")" ] || status=1
+done
+[ $status -eq 0 ] && [ "$(wc -l <"$work/found/tile")" -gt 1 ]
+tell "rt finds the crate's line, those of all that it stands on, and no others" $?
 small=$work/small
 mkdir -p "$small/target"
 cp -R tools "$small/"
@@ -215,7 +213,7 @@ anew
 RT_JOBS=1 bash "$small/tools/plan.sh" >"$work/said" 2>&1 && [ "$(tr '\n' ' ' <"$work/proved")" = 'base deep deeper deepest wide shown short ' ]
 tell "the longest way above it comes first, by the functions that are there, in all files of a crate" $?
 echo 'short 30' >"$small/tools/seconds.txt"
-rm -rf "$small/target/stamp"
+rm -rf "$small"/crates/*/out
 anew
 RT_JOBS=1 bash "$small/tools/plan.sh" >"$work/said" 2>&1 && [ "$(tr '\n' ' ' <"$work/proved")" = 'base deep deeper short deepest wide shown ' ]
 tell "and by the seconds that a crate has taken, where they are known, and a third of those of the crates right below it" $?
@@ -233,8 +231,10 @@ refused() {
 refused "a crate that is not there" "plan: crates.txt: none is not listed" bash "$small/tools/plan.sh" wide none
 refused "RT_JOBS that is no number" "plan: RT_JOBS is a number, 1 or more" env RT_JOBS=two bash "$small/tools/plan.sh"
 refused "RT_JOBS=0" "plan: RT_JOBS is a number, 1 or more" env RT_JOBS=0 bash "$small/tools/plan.sh"
+sed -i 's/^deepest:/deepest staticlib:/' "$small/crates.txt"
 refused "a library for C that another crate stands on" "plan: crates.txt: deepest is to be built for C alone, and shown stands on it" \
-    bash "$small/tools/plan.sh" shown deepest.a
+    bash "$small/tools/plan.sh" shown
+sed -i 's/^deepest staticlib:/deepest:/' "$small/crates.txt"
 echo 'more base' >>"$small/crates.txt"
 refused "a line of crates.txt that is none" "plan: crates.txt: line 8: expected NAME: DEP DEP ..." bash "$small/tools/plan.sh" wide
 sed -i '8s/.*/wide: deep/' "$small/crates.txt"
@@ -268,7 +268,7 @@ ends() {
     group=$!
     set +m
     # all that does not wait for it is proved
-    stuck() { [ "$(ls target/stamp | wc -l)" -eq "$free" ] && ! none_alive; }
+    stuck() { [ "$(stamps)" -eq "$free" ] && ! none_alive; }
     soon stuck || soon stuck || soon stuck
     status=$?
     kill -"$signal" -- "-$group"
@@ -279,7 +279,7 @@ ends() {
     tell "$name: all that was started ends with it" $status
     # what was proved until then is not proved again
     : >"$work/stuck"
-    [ "$(ls target/stamp | wc -l)" -eq "$free" ] && "$@" >"$work/said" 2>&1 && [ "$(sort "$work/proved" | uniq -c | awk '$1 > 1 { print $2 }')" = tile ] && [ "$(sort -u "$work/proved" | wc -l)" -eq "$all" ]
+    [ "$(stamps)" -eq "$free" ] && "$@" >"$work/said" 2>&1 && [ "$(sort "$work/proved" | uniq -c | awk '$1 > 1 { print $2 }')" = tile ] && [ "$(sort -u "$work/proved" | wc -l)" -eq "$all" ]
     tell "$name: the next run goes on from there" $?
 }
 ends 'Ctrl-C' INT 130 bash tools/prove.sh all

@@ -43,19 +43,19 @@ theorems=$(for file in crates/passes/proofs/*.antt crates/demands*/proofs/*.antt
 proved() { grep -qE "^pub $1 : .*→ $2 " <<<"$theorems"; }
 
 # The theorems by which 7 is struck.
-for both in 'never-seven NeverSeven' 'face-never-seven FaceNeverSeven' 'never-seven-home NeverSeven' 'face-never-seven-home FaceNeverSeven'; do
+for both in 'never_seven NeverSeven' 'face_never_seven FaceNeverSeven' 'never_seven_home NeverSeven' 'face_never_seven_home FaceNeverSeven'; do
     read -r theorem statement <<<"$both"
     grep -q "\`$theorem\`" $book && proved "$theorem" "$statement" && grep -q "^ *pub record $statement " crates/passes/specs/Seven.antt crates/demands*/specs/Seven.antt
     tell "$theorem is proved by that name" $?
 done
 
 # When a write shows: what stands in brackets on that part of the page is a theorem, a field of one, or a definition.
-for both in 'write-shows-visible WriteShows' 'count-waits CountWaits'; do
+for both in 'write_shows-visible WriteShows' 'count_waits CountWaits'; do
     read -r theorem statement <<<"$both"
     grep -q "(\`$theorem\`" $book && proved "$theorem" "$statement" && grep -q "^pub record $statement " crates/passes/specs/Shows.antt
     tell "$theorem is proved by that name" $?
 done
-names=$(sed -n '/^## When does each write show/,/^## On other players/p' $book | grep -oE '\([^()]*`[^()]*\)' | grep -oE '`[A-Za-z0-9-]+`' | tr -d '`' | sort -u)
+names=$(sed -n '/^## When does each write show/,/^## On other players/p' $book | grep -oE '\([^()]*`[^()]*\)' | grep -oE '`[A-Za-z0-9_-]+`' | tr -d '`' | sort -u)
 status=0
 for name in $names; do
     grep -rqE --include='*.antt' "^ *((unfoldable|abbrev) )?pub $name( |\$)" crates/*/specs crates/passes/proofs crates/demands/proofs || { echo "no such theorem or definition: $name"; status=1; }

@@ -6,24 +6,29 @@
 # is short and CHANGELOG.md begins with the number of the face.
 . "$(dirname "$0")/begin.sh"
 
-rt fmt --check
+# (In out/ rt keeps what it has made.)
+sources() { find crates -mindepth 2 -path 'crates/*/out' -prune -o -name "$@" -print; }
+. tools/toolchain.sh
+"$kit/bin/rattle" fmt --check $(sources '*.rt') $(sources '*.antt')
 tell "the sources are in the toolchain's layout" $?
 
 # The answers of a proof are written by hand in a file that the toolchain prints: what it prints for the time of the work does not stay.
 if command -v python3 >/dev/null; then
-    python3 tools/tidy.py --check $(find crates -name '*.antt')
+    python3 tools/tidy.py --check $(sources '*.antt')
     tell "no file brings in what it does not use, and no line of a proof or a definition is longer than 160 characters" $?
 else
     skip 'imports and long lines' 'no python3 here'
 fi
-bare=$(for proof in $(find crates -name Proof.antt); do head -n 1 "$proof" | grep -q '^-- `' || echo "$proof"; done)
+# Those of the function F stand in proofs/F; beside such folders stand files of laws.
+proofs=$(for name in Proof Invariants Answers; do sources $name.antt; done | grep -E '/proofs/.+/')
+bare=$(for proof in $proofs; do head -n 1 "$proof" | grep -q '^-- `' || echo "$proof"; done)
 [ -z "$bare" ] || printf '%s\n' "$bare"
-[ -z "$bare" ]
+[ -n "$proofs" ] && [ -z "$bare" ]
 tell "every proof says in its first line of which function it is, and what it shows" $?
-! grep -rnE --include=Proof.antt '^ *-- (src/)?[a-z_]+\.rt:[0-9]+' crates
+! grep -nE '^ *-- (src/)?[a-z_]+\.rt:[0-9]+' $proofs
 tell "no proof names a place of the source by its line" $?
 
-bare=$(grep -L '^-- .*Assumes nothing' $(find crates -path '*/specs/*.antt' ! -name Lib.antt))
+bare=$(grep -L '^-- .*Assumes nothing' $(sources '*.antt' | grep '/specs/' | grep -v '/Lib\.antt$'))
 [ -z "$bare" ] || printf '%s\n' "$bare"
 [ -z "$bare" ]
 tell "every definition file says what it assumes" $?
@@ -36,9 +41,9 @@ twice=$(printf '%s\n' "$rules" | sort | uniq -d)
 [ -n "$rules" ] && [ -z "$twice" ]
 tell "every rule has a number of its own" $?
 
-unknown=$(grep -rIhowE 'R[0-9]+\.[0-9]+' $texts | sort -u | grep -vxF "$rules")
+unknown=$(grep -rIhowE --exclude-dir=out 'R[0-9]+\.[0-9]+' $texts | sort -u | grep -vxF "$rules")
 for rule in $unknown; do
-    printf 'no such rule: %s in %s\n' "$rule" "$(grep -rIlwF "$rule" $texts | tr '\n' ' ')"
+    printf 'no such rule: %s in %s\n' "$rule" "$(grep -rIlwF --exclude-dir=out "$rule" $texts | tr '\n' ' ')"
 done
 [ -z "$unknown" ]
 tell "every rule that is cited is there" $?
@@ -52,21 +57,41 @@ done
 [ -n "$rules" ] && [ -z "$bare" ]
 tell "every rule is cited by a definition, or by the file that it names" $?
 
-grep -rInE 'document 0[0-9]|the[ ]papers?\b|scope[ ](paper|document)' $texts
+grep -rInE --exclude-dir=out 'document 0[0-9]|the[ ]papers?\b|scope[ ](paper|document)' $texts
 [ $? -eq 1 ]
 tell "no text is cited that is not here" $?
 
-# A library's public functions: those of src/lib.rt, those that it hands on from modules of its own, and those of the modules that are public.
+# exports FILE: the functions that this file has for C.
+exports() { sed -nE 's/^pub extern "C" fn ([a-z0-9_]+).*/\1/p' "$1"; }
+# promise NAME FILE: how this public function is declared there, with its clauses, up to its body, and whether or not for C.
+promise() { awk -v name="$1" '
+    $0 ~ "^pub (extern \"C\" )?fn " name "[(<]" { on = 1; sub(/extern "C" /, "") }
+    on && /^\{/ { exit }
+    on { all = all " " $0 }
+    on && / \{$/ { exit }
+    END { gsub(/[ \t]+/, " ", all); gsub(/\( /, "(", all); gsub(/,? \)/, ")", all); print all }' "$2"; }
+
+# A library's public functions: those of src/lib.rt, those that it hands on from modules of its own, and those of the modules that are public. A static library,
+# face_c, is no crate's to name: each of its functions calls the one of this name in face, and promises what that one promises.
 bare=
 for lib in crates/*/src/lib.rt; do
     crate=$(basename "$(dirname "$(dirname "$lib")")")
+    if grep -qE "^$crate +staticlib" crates.txt; then
+        for file in crates/"$crate"/src/*.rt; do
+            for f in $(exports "$file"); do
+                of=$(grep -lE "^pub fn $f\\b" crates/"${crate%_c}"/src/*.rt) && grep -qE "\\b$f\\(" <(grep -v '^pub ' "$file") &&
+                    cmp <(promise $f "$file") <(promise $f "$of") || bare="$bare $crate::$f"
+            done
+        done
+        continue
+    fi
     for file in "$lib" $(sed -nE "s|^pub mod ([a-z_]+);|${lib%lib.rt}\1.rt|p" "$lib"); do
         in='([A-Za-z]+\.)?'
         [ "$file" = "$lib" ] || in="($(basename "$file" .rt)\.)"
         for f in $(sed -nE 's/^ *pub (extern "C" )?fn ([a-z0-9_]+).*/\2/p; s/^pub use [a-z_]+::([a-z0-9_]+);/\1/p' "$file"); do
             grep -q "^Exceptions: .*\`$crate::$f\`" docs/CONTRACTS.md && continue
-            name=$(sed -nE "s/^use Rattle·$crate\.proofs\.$in$f( as ([a-z_-]+))?\$/\3/p" crates/demands/proofs/Outcome*.antt)
-            grep -qE "^use Rattle·$crate\.proofs\.$in$f( |\$)" crates/demands/proofs/Outcome*.antt &&
+            name=$(sed -nE "s/^use Rattle\.$crate\.(proofs|specs\.contracts)\.$in$f( as ([a-z_-]+))?\$/\4/p" crates/demands/proofs/Outcome*.antt)
+            grep -qE "^use Rattle\.$crate\.(proofs|specs\.contracts)\.$in$f( |\$)" crates/demands/proofs/Outcome*.antt &&
                 grep -qE " ${name:-$f}\.(Reads\.Learnt|clauses )" crates/demands/proofs/Outcome*.antt || bare="$bare $crate::$f"
         done
     done
@@ -76,7 +101,7 @@ done
 tell "every public function has its theorem of one outcome, or is an exception of docs/CONTRACTS.md" $?
 
 # `make` proves what it builds. (The marks that a bitmap has are asked for by nobody yet; it is the Rust's, and small.)
-idle=$(for crate in $(sh tools/crates.sh programs face); do find "crates/$crate/src" -name '*.rt'; done | xargs awk '
+idle=$(for crate in $(sh tools/crates.sh programs face_c); do find "crates/$crate/src" -name '*.rt'; done | xargs awk '
     { sub(/\/\/.*/, "") }
     match($0, /pub fn [a-z0-9_]+/) { public[substr($0, RSTART + 7, RLENGTH - 7)] }
     {
@@ -100,7 +125,7 @@ tell "docs/CONTRACTS.md has two wrong answers for each function that it tells of
 
 # The calls that refusal 7 is shown never to come from: the constructors of `Call`, `FaceCall` and `HomeCall`, each with the name of its function.
 # constructors FILE TYPE: those of a data type, as the code writes them. named FILE WORDS: the names behind `-- WORDS: `, up to the full stop.
-constructors() { awk -v type="$2" '/^[^ ]/ { on = $0 ~ "^pub data " type " " } on && /^  [a-z]/ { print $1 }' "$1" | tr - _; }
+constructors() { awk -v type="$2" '/^[^ ]/ { on = $0 ~ "^pub data " type " " } on && /^  [a-z]/ { sub(/_lem$/, "", $1); print $1 }' "$1"; }
 named() { sed -nE "s/^-- $2: ([a-z0-9_, ]+)\..*/\1/p" "$1" | tr -d ' ' | tr , '\n'; }
 # calls_of MACHINE FILE...: what is public in these files, each as CRATE/FILE, is a call of this machine, or is named in its file as none.
 calls_of() {
@@ -121,7 +146,7 @@ face_calls() {
     local calls
     calls=$(constructors "crates/demands_face/specs/$1.antt" "$2")
     shift 2
-    [ -n "$calls" ] && diff <(sed -nE 's/^pub extern "C" fn ([a-z0-9_]+).*/\1/p' crates/face/src/*.rt | grep "$@" | sort) <(printf '%s\n' "$calls" | sort)
+    [ -n "$calls" ] && diff <(for file in crates/face_c/src/*.rt; do exports "$file"; done | grep "$@" | sort) <(printf '%s\n' "$calls" | sort)
 }
 face_calls Calls FaceCall -v ^vdp_home_
 tell "and of every function of the C face" $?
@@ -165,31 +190,32 @@ newest=$(grep -m 1 -oE '^## [0-9]+\.[0-9]+\.[0-9]+$' CHANGELOG.md)
 tell "CHANGELOG.md begins with the number of the face" $?
 
 # Every edit was tried, and is refused for a fact: one that only makes a proof unfit for the code shows nothing of the contract.
-# (The suite `proofs` leaves a log for each.)
+# (The suite `proofs` leaves a line for each in its log.)
+log=build/test/proofs.log
 edits=0 untried= unfit=
 for edit in crates/*/must-fail/*.edit; do
     [ -e "$edit" ] || continue
     edits=$((edits + 1))
     crate=${edit#crates/}
-    log=target/must-fail/${crate%%/*}/$(basename "$edit" .edit)/.log
-    if [ ! -s "$log" ]; then
+    # how it went, behind the colon, with the first error
+    said=$(grep -aF "rt: must-fail ${crate%%/*}/$(basename "$edit"): " $log 2>/dev/null | head -n 1)
+    if [ -z "$said" ]; then
         untried="$untried $edit"
         continue
     fi
-    # The first error, with the lines that it goes on by; a hint among them may speak of a scope.
-    first=$(awk '/: error: / { if (on++) exit; print; next } on { if (!/^  /) exit; print }' "$log")
-    case ${first%%$'\n'*} in
-    *'that can be named from here'* | *'is not in scope'* | *'expected type `tie.'* | *'was not admitted'* | '') unfit="$unfit $log" ;;
-    *) case $first in *'has no field'*) unfit="$unfit $log" ;; esac ;;
+    case $said in
+    *'refused, as it must be (only '* | *'that can be named from here'* | *'is not in scope'* | *'has no field'* | *'was not admitted'*) unfit="$unfit $edit" ;;
+    *': refused, as it must be: '*) ;;
+    *) unfit="$unfit $edit" ;;
     esac
 done
 [ -z "$untried" ] || printf 'not tried:%s\n' "$untried"
-logs=$(find target/must-fail -mindepth 3 -maxdepth 3 -name .log 2>/dev/null | wc -l)
-[ "$edits" -eq "$logs" ] || printf '%s edits, %s logs\n' "$edits" "$logs"
-[ "$edits" -gt 0 ] && [ "$edits" -eq "$logs" ] && [ -z "$untried" ]
+logs=$(grep -c '^rt: must-fail ' $log 2>/dev/null)
+[ "$edits" -eq "${logs:-0}" ] || printf '%s edits, %s tried\n' "$edits" "${logs:-0}"
+[ "$edits" -gt 0 ] && [ "$edits" -eq "${logs:-0}" ] && [ -z "$untried" ]
 tell "every edit that must fail was tried, and there are some" $?
 [ -z "$unfit" ] || printf 'refused for its shape:%s\n' "$unfit"
-[ "$logs" -gt 0 ] && [ -z "$unfit" ]
+[ "${logs:-0}" -gt 0 ] && [ -z "$unfit" ]
 tell "every edit that must fail is refused for a fact" $?
 
 total

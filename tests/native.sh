@@ -1,6 +1,6 @@
 #!/usr/bin/env bash
-# native.sh: the programs for the machine at hand, build/bin, beside the x86-64 one that rt itself compiles and links, target/bin/programs, under each of their names: what both print of every
-# test trace, of sheets and of blocks is the same. And the same programs for the other of the two machines that the project is built on, by an emulator.
+# native.sh: the programs for the machine at hand, build/bin, beside the x86-64 one that rt itself compiles and links, crates/programs/out/programs, under each of their names: what both
+# print of every test trace, of sheets and of blocks is the same. And the same programs for the other of the two machines that the project is built on, by an emulator.
 # And what tools/ say where a toolchain has another shape than they know.
 . "$(dirname "$0")/begin.sh"
 needs build
@@ -8,8 +8,9 @@ programs=$(cd build/bin && ls | grep -vx desk)
 # rt's own goes by the word that it is started by: a name alone.
 root=$PWD
 mkdir $work/rt
-[ -x target/bin/programs ] || rt check programs >/dev/null || exit 1
-for name in $programs; do cp target/bin/programs $work/rt/$name; done
+own=crates/programs/out/programs
+[ -x $own ] || (cd crates/programs && rt run <stdin >/dev/null) || exit 1
+for name in $programs; do cp $own $work/rt/$name; done
 
 # kind FILE: the machine that a program is for, two bytes of its header.
 kind() { od -An -tx1 -j 18 -N 2 "$1"; }
@@ -65,20 +66,18 @@ else
     skip "programs for $other" "${why:-no C compiler or emulator for it}"
 fi
 
-# make itself, as an Arm machine runs it: in a copy of the project, where uname says aarch64, the C compiler and the toolchain's folder are those for it, and a
-# stand-in for rt hands out the modules that are there. What it makes runs by the emulator.
+# make itself, as an Arm machine runs it: in a copy of the project, where uname says aarch64, the C compiler is the one for it, and stand-ins for rt and its rattle
+# hand out the modules that are there. What it makes runs by the emulator.
+arm=$(mktemp -d)
+trap 'rm -rf "$arm"' EXIT
 if [ "$(uname -m)" = x86_64 ] && [ "$machine" = aarch64 ]; then
-    . tools/toolchain.sh
-    arm=$(mktemp -d)
-    trap 'rm -rf "$arm"' EXIT
-    mkdir -p "$arm/bin" "$arm/kit/on" "$arm/copy"
-    for file in "$kit"/*; do [ "$file" = "$kit/on" ] || ln -s "$file" "$arm/kit/"; done
-    ln -s "$kit/on/x86_64" "$arm/kit/on/aarch64"
+    mkdir -p "$arm/bin" "$arm/copy"
+    stand_in "$arm/kit"
     printf '#!/bin/sh\ncase $1 in -s) echo Linux ;; *) echo aarch64 ;; esac\n' >"$arm/bin/uname"
     printf '#!/bin/sh\nexec aarch64-linux-gnu-gcc "$@"\n' >"$arm/bin/cc"
-    printf '#!/bin/sh\ncase $1 in version) echo stand-in; exit ;; staticlib) mkdir -p target/staticlib; cp "%s/build/libvdp.a" target/staticlib/libface.a ;; esac\nshift\nmkdir -p target/stamp\nfor name; do cp "%s/build/modules/$name.bc" "%s/build/modules/" 2>/dev/null && echo >target/stamp/$name; done; :\n' "$PWD" "$PWD" "$arm/copy" >"$arm/bin/rt"
+    printf '#!/bin/sh\nname=${PWD##*/}\nmkdir -p out\ncase $1$name in version*) echo stand-in ;; runprograms) echo "rt: running out/$name" >&2; cat "%s/crates/$name/stdout" ;; libface_c) cp "%s/build/libvdp.a" out/libface_c.a ;; esac\n' "$PWD" "$PWD" >"$arm/bin/rt"
     chmod +x "$arm/bin"/*
-    tar -c --exclude=./build --exclude=./target --exclude=./.git . | tar -x -C "$arm/copy"
+    copied "$arm/copy"
     (cd "$arm/copy" && PATH="$arm/bin:$PATH" RATTLE_HOME="$arm/kit" make --no-print-directory PROGRAMS='trace sheet' build) >$work/said 2>&1
     status=$?
     [ $status -eq 0 ] || cat $work/said
@@ -92,18 +91,18 @@ else
 fi
 
 # A toolchain with no clang at its place; one that hands it no module; a module of another form; a machine that has no programs.
-. tools/toolchain.sh
-mkdir -p $work/kit/on/"$(uname -m)"/toolchain/bin $work/bin
+mkdir -p $work/kit/toolchain/bin $work/bin
 said=$(RATTLE_HOME=$PWD/$work/kit bash tools/modules.sh programs 2>&1)
 [ $? -ne 0 ] && [ "$(wc -l <<<"$said")" -eq 1 ] && grep -q '^toolchain: no clang at .* has not the shape that tools/ knows' <<<"$said"
 tell "a toolchain with no clang at its place is told in a line" $?
 printf '#!/bin/sh\ncase $1 in version) echo another ;; esac\n' >$work/bin/rt
 chmod +x $work/bin/rt
-mkdir $work/copy
-cp -R tools crates.txt $work/copy/
-ln -s "$PWD/crates" $work/copy/
-said=$(cd $work/copy && PATH="$OLDPWD/$work/bin:$PATH" RATTLE_HOME=$kit bash tools/modules.sh face 2>&1)
-[ $? -ne 0 ] && [ "$(wc -l <<<"$said")" -eq 1 ] && grep -q '^modules: the toolchain (another) built face and handed no module .* has not the shape that tools/modules.sh knows' <<<"$said"
+mkdir "$arm/other"
+copied "$arm/other"
+stand_in "$arm/another"
+printf '#!/bin/sh\n' >"$arm/another/bin/rattle"
+said=$(cd "$arm/other" && PATH="$OLDPWD/$work/bin:$PATH" RATTLE_HOME=$arm/another bash tools/modules.sh face_c 2>&1 >/dev/null)
+[ $? -ne 0 ] && [ "$(wc -l <<<"$said")" -eq 1 ] && grep -q '^modules: the toolchain (another) built face_c and handed no module .* has not the shape that tools/modules.sh knows' <<<"$said"
 tell "a toolchain that hands no module to its clang is told in a line" $?
 grep -v '@main' build/modules/programs.ll >$work/mainless.ll
 said=$(sh tools/native-program.sh $work/mainless.ll $work/mainless 2>&1)

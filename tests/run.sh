@@ -1,7 +1,7 @@
 #!/usr/bin/env bash
 # run.sh: every test there is, and their sum. Each suite is a command whose last line is 'N passed, M failed' (', K skipped' may follow).
-# First the proofs, from nothing, on all processors; beside the edits, with which these end, everything is built, once; then the suites, side by side, each
-# shown whole when it has ended. A table then says where the time went. The last line is the sum of all; the exit status is 0 only where nothing failed and every suite said so itself.
+# First the gate of the proofs, `rt ci`, on the project as it stands and on all processors: every proof, every edit that must fail, every program; then everything is
+# built, once; then the suites, side by side, each shown whole when it has ended. A table then says where the time went. The last line is the sum of all; the exit status is 0 only where nothing failed and every suite said so itself.
 set -u
 cd "$(dirname "$0")/.."
 logs=build/test
@@ -64,33 +64,27 @@ if ! sh tools/setup.sh rust; then
     total
     exit 1
 fi
-# From nothing: what an earlier make left is made again, of what is proved now. (target/must-fail is the sign that rt has come to the edits: none of an earlier run.)
-rm -rf target/must-fail build/bin build/libvdp.a build/native build/modules build/cross build/toolchain build/oracle $logs
-mkdir -p $logs
-
-# What the suites test, made once, in a copy of the project beside the edits: rt has proved every crate when it begins with these, and leaves a processor idle
-# now and then. What was made comes here when both have ended. A suite that is run by itself makes what it tests.
-copy=$(mktemp -d)
-chmod 755 "$copy"
-bash tools/whole.sh bash tools/make-copy.sh "$copy" "$logs" build native desk page &
-beside=$!
-trap 'kill "$beside" 2>/dev/null; wait "$beside" 2>/dev/null; rm -rf "$copy"' EXIT
-trap 'exit 130' INT
-trap 'exit 143' TERM
 
 printf '\n== proofs\n'
 began=$(date +%s)
-RT_JOBS=${RT_JOBS:-$(sh tools/jobs.sh)} bash tools/scratch.sh rt ci 2>&1 </dev/null | tee $logs/proofs.log
-echo "${PIPESTATUS[0]} $(($(date +%s) - began))" >$logs/proofs.end
+rt ci 2>&1 </dev/null | tee build/proofs.log
+status=${PIPESTATUS[0]}
+# From nothing: what an earlier make left is made again, of what is proved now.
+rm -rf build/bin build/libvdp.a build/native build/modules build/cross build/toolchain build/oracle $logs
+mkdir -p $logs
+mv build/proofs.log $logs/
+echo "$status $(($(date +%s) - began))" >$logs/proofs.end
 count proofs
+# One that cannot be applied or read says nothing of a contract, and rt lets it pass.
+! grep -qE '^rt: ok.*, [0-9]+ bad' $logs/proofs.log
+tell "no edit that must fail is bad" $?
 
+# What the suites test, made once. (What rt ci proved is kept for the next rt ci alone: make proves what it builds.) A suite that is run by itself makes what it tests.
 printf '\n== make\n'
-wait "$beside"
-cat $logs/make.log
-cp -a "$copy/build/." build/
-status=1 seconds=no
-[ ! -s $logs/make.end ] || read -r status seconds <$logs/make.end
-tell "make build native desk page ($seconds s, beside the edits)" "$status"
+began=$(date +%s)
+make --no-print-directory build native desk page 2>&1 </dev/null | tee $logs/make.log
+status=${PIPESTATUS[0]}
+tell "make build native desk page ($(($(date +%s) - began)) s)" "$status"
 export BUILT=1
 
 # The longest first, so that none of them is left alone at the end; one more at a time than there are processors, since some wait.

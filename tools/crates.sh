@@ -11,5 +11,6 @@ awk -v wanted="$*" '
         for (k = 1; k <= count; k++) visit(list[k])
     }
     { sub(/#.*/, "") }
-    split($0, part, ":") == 2 { gsub(/[ \t]/, "", part[1]); deps[part[1]] = part[2]; all = all " " part[1] }
+    # NAME: DEP DEP, or NAME staticlib: DEP DEP
+    split($0, part, ":") == 2 { split(part[1], word, " "); deps[word[1]] = part[2]; all = all " " word[1] }
     END { count = split(wanted == "" ? all : wanted, list, " "); for (k = 1; k <= count; k++) visit(list[k]) }' crates.txt

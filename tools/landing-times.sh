@@ -1,9 +1,10 @@
 #!/usr/bin/env bash
 # landing-times.sh [--kept] [COMMIT..]: what a check from nothing takes before and after each landing, in seconds of processor time; with commits, at those.
 # A landing is a run of commits whose first lines begin with one number, "(iv) ..", or with "Before (viii)", or one that ends with "Landing note ..".
-# Crate by crate, each after those that it depends on: `rt check CRATE` of a library, `rt dev` with nothing kept of a program, which is its proof and
-# not its compiling nor its run. A crate whose files and dependencies are as in a tree before is not proved again: its seconds are kept, and the sum over
-# a tree's crates is what its check from nothing takes. Trees go in the order of the history, in one worktree, so that most is kept from one to the next.
+# Crate by crate, each after those that it depends on, by the words that rt has for the toolchain's `rattle`, with nothing kept: of a library its build, of what is
+# built for C and of a program the check, which is its proof and not its compiling nor its run. (Only commits in the form of this toolchain are proved by it.) A
+# crate whose files and dependencies are as in a tree before is not proved again: its seconds are kept, and the sum over a tree's crates is what its check from
+# nothing takes. Trees go in the order of the history, in one worktree, so that most is kept from one to the next.
 # Of a crate that was proved more than once with the same files, only what it depends on being another, the least counts: so a busy hour does not look like
 # a slow landing. A later tree can lower a sum: at the end --kept, which proves nothing and prints the figures that are all there, has them as they stand.
 # It prints a table in Markdown, a row as soon as it has its figures. A tree that is not proved by itself is told as such, with the first crate that fails.
@@ -16,14 +17,18 @@ kept=
 room=${LANDING_TIMES:-${TMPDIR:-/tmp}/landing-times}
 tree=$room/tree
 mkdir -p "$room/seconds" "$room/least" "$room/at"
-kit=$(rt version)
+. tools/toolchain.sh
+version=$(rt version)
 
 # row CRATE: what it depends on, in the tree at hand.
-row() { sed -n "s/^$1: *//p" <<<"$list"; }
+row() { sed -nE "s/^$1( +staticlib)?: *//p" <<<"$list"; }
+
+# is_library CRATE: one for the crates above it.
+is_library() { [ ! -e "$tree/crates/$1/src/main.rt" ] && ! grep -q "^$1  *staticlib:" <<<"$list"; }
 
 # ordered: the crates of the tree at hand, each after those that it depends on.
 ordered() {
-    awk -F: '{ deps[$1] = $2; list[++n] = $1 }
+    awk -F: '{ sub(/ .*/, "", $1); deps[$1] = $2; list[++n] = $1 }
         function visit(c,   a, k, m) {
             if (c in done || !(c in deps)) return
             done[c]; m = split(deps[c], a, " "); for (k = 1; k <= m; k++) visit(a[k]); print c
@@ -36,13 +41,12 @@ lower() { [ -e "$1" ] && awk -v new="$2" '{ exit $1 <= new ? 0 : 1 }' "$1" || ec
 
 # time_crate CRATE KEY FILES: proves it, keeps its seconds under the key and under its files, and of a library that what was built is this one's.
 time_crate() {
-    local TIMEFORMAT='%U %S' took status words
-    if [ -e "$tree/crates/$1/src/main.rt" ]; then rm -rf "$tree/target/inc/$1" && words="dev $1"; else words="check $1"; fi
-    rm -f "$tree/target/stamp/$1"
-    # shellcheck disable=SC2086
-    took=$({ time (cd "$tree" && RT_JOBS=1 rt $words >"$room/out" 2>&1); } 2>&1)
+    local TIMEFORMAT='%U %S' took status words verb=check
+    mapfile -t words < <(cd "$tree" && words_of "$1")
+    rm -rf "$tree/crates/$1/out" && mkdir -p "$tree/crates/$1/out/rlib"
+    is_library "$1" && verb=build && words+=(-o "out/rlib/$1.rlib")
+    took=$({ time (cd "$tree/crates/$1" && "$kit/bin/rattle" $verb "${words[@]}" --jobs 1 >"$room/out" 2>&1); } 2>&1)
     status=$?
-    rm -rf "$tree/target/inc"
     case $status in
     0)
         took=$(awk '{ printf "%.2f", $1 + $2 }' <<<"$took")
@@ -65,7 +69,7 @@ times() {
     crates=$(ordered)
     for crate in $crates; do
         files[$crate]=$({
-            echo "$kit $(uname -m) $crate: $(row "$crate")"
+            echo "$version $(uname -m) $crate: $(row "$crate")"
             git ls-tree "$commit" "crates/$crate/src" "crates/$crate/specs" "crates/$crate/proofs"
         } | sha256sum | cut -c1-32)
         keys[$crate]=$({
@@ -81,7 +85,7 @@ times() {
         one=$room/seconds/${keys[$crate]}
         if [ -n "$kept" ]; then
             [ -e "$one" ] || { echo –; return; }
-        elif [ ! -e "$one" ] || { [ ! -e "$tree/crates/$crate/src/main.rt" ] && [ "$(cat "$room/at/$crate" 2>/dev/null)" != "${keys[$crate]}" ]; }; then
+        elif [ ! -e "$one" ] || { is_library "$crate" && [ "$(cat "$room/at/$crate" 2>/dev/null)" != "${keys[$crate]}" ]; }; then
             time_crate "$crate" "${keys[$crate]}" "${files[$crate]}"
         fi
         [ "$(cat "$one")" != no ] || { echo "not proved by itself: $crate"; return; }

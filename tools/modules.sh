@@ -1,9 +1,9 @@
 #!/usr/bin/env bash
-# modules.sh CRATE..: the way to the LLVM modules of these programs and libraries, in one place. rt makes x86-64 code only; it lowers a program or a library,
-# with all that it depends on, to one module, and hands that to its clang. This script has them proved (tools/plan.sh) with a copy of the toolchain's folder, by
-# links, around another clang, which keeps each module and then does what the toolchain's does. Left behind: build/modules/CRATE.ll, a text without what ties it
-# to x86-64, from which tools/native-module.sh makes code for any machine. rt compiles only what has changed: a program whose module is missing, or is of other
-# sources, is proved and compiled again. It says in a line what it does, where there is one to say it to, on descriptor 3.
+# modules.sh CRATE..: the way to the LLVM modules of these programs and libraries, in one place. rt makes x86-64 code only; the toolchain's `rattle` lowers a program
+# or a static library, with all that it depends on, to one module, and hands that to its clang. This script has them proved (tools/plan.sh), and then built once more,
+# of what rt has proved and kept, with a copy of the toolchain's folder of compilers, by links, around another clang, which keeps the module. Left behind:
+# build/modules/CRATE.ll, a text without what ties it to x86-64, from which tools/native-module.sh makes code for any machine. A program whose module is missing, or
+# is of other sources, is built again; a library is each time. It says in a line what it does, where there is one to say it to, on descriptor 3.
 set -eu
 cd "$(dirname "$0")/.."
 . tools/toolchain.sh
@@ -13,68 +13,41 @@ modules=$PWD/build/modules
 work=$(mktemp -d)
 trap 'rm -rf "$work"' EXIT
 trap 'exit 143' TERM
-# rt runs proved programs as nobody, by this folder's links.
-chmod 711 "$work"
-for part in . on "on/$machine" "on/$machine/toolchain" "on/$machine/toolchain/bin"; do
-    mkdir -p "$work/kit/$part"
-    for file in "$kit/$part"/*; do
-        case ${file#"$kit/"} in
-        ./on | on/$machine | on/$machine/toolchain | on/$machine/toolchain/bin | on/$machine/toolchain/bin/clang) ;;
-        *) ln -s "$file" "$work/kit/$part/" ;;
-        esac
-    done
+mkdir -p "$modules" "$work/toolchain/bin"
+for file in "$kit/toolchain"/* "$llvm"/*; do
+    case ${file##*/} in bin | clang) ;; *) ln -s "$file" "$work/toolchain/${file#"$kit/toolchain/"}" ;; esac
 done
-# The clang that keeps: the crate's name is a word of the command that called it.
-cat >"$work/kit/on/$machine/toolchain/bin/clang" <<EOF
+# The clang that keeps. What it makes of the module is nobody's: the quickest that there is.
+cat >"$work/toolchain/bin/clang" <<EOF
 #!/bin/sh
-crate=\$(tr '\\000' '\\n' </proc/\$PPID/cmdline | sed -n '/^--crate-name\$/{n;p;q;}')
 for word in "\$@"; do
-    case \$word in *.bc) cp "\$word" "$modules/\${crate:-nameless}.bc" ;; esac
+    case \$word in *.bc) cp "\$word" "$work/module.bc" ;; esac
 done
-exec "$llvm/clang" "\$@"
+exec "$llvm/clang" "\$@" -O0
 EOF
-chmod +x "$work/kit/on/$machine/toolchain/bin/clang"
+chmod +x "$work/toolchain/bin/clang"
 
-mkdir -p "$modules"
-# Beside each module of a program stands rt's stamp of what it was made of. A library is built each time, and has none.
-library() { [ -e "crates/$1/src/lib.rt" ]; }
-of_stamp() { library "$1" || cmp -s "target/stamp/$1" "$modules/$1.stamp"; }
-plan=()
+{ echo "modules: rt compiles for x86-64; the LLVM modules that the toolchain hands to its clang are kept in build/modules, for code of any machine" >&3; } 2>/dev/null || :
+bash tools/plan.sh "$@" || exit
+
+# Beside each module of a program stands rt's stamp of what it was made of. A library has none.
+of_stamp() { [ ! -e "crates/$1/src/lib.rt" ] && cmp -s "crates/$1/out/$1.stamp" "$modules/$1.stamp"; }
 for crate; do
-    if library "$crate"; then
-        plan+=("$crate.a")
-        rm -f "$modules/$crate.bc"
-        continue
-    fi
-    plan+=("$crate")
     if [ ! -s "$modules/$crate.bc" ] || ! of_stamp "$crate"; then
-        rm -f "target/stamp/$crate" "$modules/$crate.bc"
-    fi
-done
-# note CRATE..: the stamps of those whose modules this run has made.
-note() {
-    for crate; do
-        if [ -e "target/stamp/$crate" ] && [ ! "$work/began" -nt "target/stamp/$crate" ] && [ ! "$work/began" -nt "$modules/$crate.bc" ]; then
-            cat "target/stamp/$crate" >"$modules/$crate.stamp"
+        rm -f "$modules/$crate".* "$work/module.bc"
+        mapfile -t words < <(words_of "$crate")
+        # For every x86-64 machine: with no other processor named, no program asks first which it runs on.
+        (cd "crates/$crate" && "$kit/bin/rattle" build "${words[@]}" --jobs 1 --cpu x86-64 --incremental out/incremental \
+            --toolchain "$work/toolchain" --backend llvm -o "$work/made") </dev/null >"$work/said" 2>&1 3>&- || { status=$?; cat "$work/said"; exit $status; }
+        if [ ! -s "$work/module.bc" ]; then
+            echo "modules: the toolchain ($(rt version)) built $crate and handed no module (a file .bc) to its clang at $llvm: it has not the shape that tools/modules.sh knows" >&2
+            exit 1
         fi
-    done
-}
-touch "$work/began"
-# Where it is ended, what is whole until then stays.
-trap 'note "$@"; exit 143' TERM
-{ echo "modules: rt compiles for x86-64; the LLVM modules that it hands to its clang are kept in build/modules, for code of any machine" >&3; } 2>/dev/null || :
-status=0
-RATTLE_HOME=$work/kit bash tools/plan.sh "${plan[@]}" || status=$?
-note "$@"
-[ $status -eq 0 ] || exit $status
-
-for crate; do
-    if [ ! -s "$modules/$crate.bc" ] || ! of_stamp "$crate"; then
-        echo "modules: the toolchain ($(rt version)) built $crate and handed no module (a file .bc) to its clang at $llvm: it has not the shape that tools/modules.sh knows" >&2
-        exit 1
+        mv "$work/module.bc" "$modules/$crate.bc"
+        [ ! -e "crates/$crate/out/$crate.stamp" ] || cp "crates/$crate/out/$crate.stamp" "$modules/"
     fi
     if [ ! -e "$modules/$crate.ll" ] || [ ! "$modules/$crate.ll" -nt "$modules/$crate.bc" ]; then
         "$llvm/clang" --target=x86_64-unknown-linux-gnu -S -emit-llvm -O0 -Xclang -disable-llvm-passes -x ir "$modules/$crate.bc" -o "$work/module.ll"
-        sed -e '/^target datalayout/d' -e '/^target triple/d' -e 's/"target-cpu"="x86-64"//' -e 's/"probe-stack"="inline-asm"//' "$work/module.ll" >"$modules/$crate.ll"
+        sed -E -e '/^target (datalayout|triple)/d' -e '/^attributes /s/ "(target-cpu|probe-stack|stack-probe-size)"="[^"]*"//g' "$work/module.ll" >"$modules/$crate.ll"
     fi
 done

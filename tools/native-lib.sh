@@ -33,4 +33,5 @@ major=$(sed -n 's/^#define VDP_VERSION_MAJOR //p' "$tools/../include/vdp.h")
 echo '{ global: vdp_*; local: *; };' >"$folder/names"
 "$llvm/ld.lld" -shared -soname "libvdp.so.$major" --version-script "$folder/names" --gc-sections -o "$folder/libvdp.so.$major" "$folder/vdp.o"
 rm "$folder/names"
-ln -s "libvdp.so.$major" "$folder/libvdp.so"
+# (no link: rt ci lets none be in the project)
+cp "$folder/libvdp.so.$major" "$folder/libvdp.so"

@@ -8,5 +8,7 @@ tools=$(dirname "$0")
 . "$tools/target.sh"
 place=-fPIC
 [ $system = linux ] || place=-fno-pic
-"$llvm/clang" --target=$triple $flags $place "${3:--O3}" -ffunction-sections -fdata-sections -Wno-override-module \
-    -Xclang -fmerge-functions -mllvm -mergefunc-use-aliases -c -x ir "$1" -o "$2"
+# Of a program the functions that are the same become one.
+merge=
+! grep -q '^define .*@program_main(' "$1" || merge='-Xclang -fmerge-functions -mllvm -mergefunc-use-aliases'
+"$llvm/clang" --target=$triple $flags $place "${3:--O3}" -ffunction-sections -fdata-sections -Wno-override-module $careful $merge -c -x ir "$1" -o "$2"

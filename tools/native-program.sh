@@ -10,7 +10,7 @@ tools=$(dirname "$0")
 [ "$bits$system" = 64linux ] || { echo "native-program: programs are for 64-bit Linux, and $TARGET is none" >&2; exit 1; }
 work=$(mktemp -d)
 trap 'rm -rf "$work"' EXIT
-sed -E -e 's/^(define .*)@main\(/\1@program_main(/' -e 's/@write\(/@program_write(/' "$1" >"$work/module.ll"
+sed -E -e 's/^(define .*)@main\(/\1@program_main(/' -e 's/@write\(/@program_write(/' -e 's/@__sysv_signal\(/@program_signal(/' "$1" >"$work/module.ll"
 for name in program_main program_write; do
     grep -q "@$name(" "$work/module.ll" || { echo "native-program: $1 has no ${name#program_}: the toolchain's modules have not the shape that tools/native-program.sh knows" >&2; exit 1; }
 done
@@ -22,7 +22,8 @@ for out; do
     "$llvm/clang" --target=$triple $flags -fPIC -O2 -ffreestanding "-DNAME=\"$name\"" $text -c "$tools/program.c" -o "$work/program.o"
     mkdir -p "$(dirname "$out")"
     if [ "$triple" = x86_64-unknown-linux-gnu ] && [ "$machine" = x86_64 ]; then
-        "$kit/on/$machine/bin/rattle-link" --target $triple --toolchain "$kit/on/$machine/toolchain" -o "$work/program" "$work/module.o" "$work/program.o" >"$work/said" 2>&1 ||
+        "$kit/bin/rattle-link" --target $triple --toolchain "$kit/toolchain" -o "$work/program" "$work/module.o" "$work/program.o" \
+            "$kit/c/libos_c.a" "$kit/c/liblibc_c.a" >"$work/said" 2>&1 ||
             { echo "native-program: $(tail -n 1 "$work/said")" >&2; exit 1; }
     else
         ${CC:-$cc} -pie "$work/module.o" "$work/program.o" -Wl,--gc-sections -o "$work/program"

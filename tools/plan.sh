@@ -1,9 +1,10 @@
 #!/usr/bin/env bash
 # plan.sh CRATE..: proves these crates and what they depend on, or every crate: each as soon as those below it are proved, as many at a time as there are
-# processors, or RT_JOBS, and the one with the longest way above it first; rt goes level by level, and waits for the slowest crate of each. CRATE.a is a library
-# that is built for C, by rt staticlib. Where one is not proved, those above it are not tried, and all others are. What rt says of a crate is printed when it
-# has ended, and stays in target/log/CRATE.out; how many seconds it took, in CRATE.seconds there. On descriptor 3, where somebody listens, a line says what
-# becomes of a crate: begun; then proved, unchanged, failed, misran (proved, but its run failed), or, with none of these, untried.
+# processors, or RT_JOBS, and the one with the longest way above it first. rt itself does one crate after the other, or all that there are. A library is built for
+# the crates above it, a static library, as crates.txt has it, for C on any x86-64 machine, and a program is run on its stdin. Where one is not proved, those above
+# it are not tried, and all others are. What rt says of a crate is printed when it has ended, and stays in target/log/CRATE.out; how many seconds it took, in
+# CRATE.seconds there. On descriptor 3, where somebody listens, a line says what becomes of a crate: begun; then proved, unchanged, failed, misran (proved, but its
+# run failed), or, with none of these, untried.
 set -u
 cd "$(dirname "$0")/.." || exit 2
 root=$(pwd -P)
@@ -14,21 +15,18 @@ trap 'trap "" TERM; wait; rm -rf "$work"' EXIT
 trap 'exit 143' TERM
 work=$(cd "$work" && pwd -P) || exit 2
 
-# A folder for each run of rt: it finds the crates and what was proved by links, and has logs of its own. (Two runs in one folder would write the same logs.)
-mkdir -p target/{rlib,stamp,bin,obj,staticlib,log} "$work/empty-room/target/log" || exit 2
-ln -s "$root/crates" "$work/empty-room/"
-ln -s "$root"/target/{rlib,stamp,bin,obj,staticlib} "$work/empty-room/target/"
-names=$(sh tools/crates.sh "${@%.a}")
-for name in $names; do
-    cp -a "$work/empty-room" "$work/$name" || exit 2
-    rm -f "target/log/$name.out"
-done
+# What is copied for a run of rt is a second name of the same file, where it can be.
+mkdir -p target/log "$work/status" "$work/list" || exit 2
+copy=-al
+ln crates.txt "$work/linked" 2>/dev/null || copy=-a
+names=$(sh tools/crates.sh "$@")
+for name in $names; do rm -f "target/log/$name.out" "target/log/$name.stdout"; done
 
-# Of each crate a line: the length of its way, its name, the word for rt, the crates below it. In its folder a crates.txt with its own line, and the lines of
-# those below it by which it comes to a library of the kit: rt asks these for the C code to link. A crate weighs the seconds that its check took once
-# (tools/seconds.txt, which tools/weigh.sh writes); one that is not there as many as it has functions, and five more for all that is read before them.
+# Of each crate a line: the length of its way, its name, the words for rt, the crates below it; and a crates.txt with its own line and those of all below it.
+# A crate weighs the seconds that its check took once (tools/seconds.txt, which tools/weigh.sh writes); one that is not there as many as it has functions, and
+# five more for all that is read before them.
 plan=$({
-    { grep -rcH --include='*.rt' 'fn ' crates || :; } | sed -E 's|^crates/([^/]*)/.*:|functions \1 |'
+    { grep -rcH --include='*.rt' --exclude-dir=out 'fn ' crates || :; } | sed -E 's|^crates/([^/]*)/.*:|functions \1 |'
     [ ! -e tools/seconds.txt ] || sed 's/^/seconds /' tools/seconds.txt
 } | WANTED=$* NAMES=$names WORK=$work awk '
     function fail(words) { print "plan: crates.txt: " words > "/dev/stderr"; bad = 2; exit 2 }
@@ -46,33 +44,24 @@ plan=$({
         for (k = 1; k <= count; k++) ways[name] += weight(list[k]) / 3
         return ways[name]
     }
-    # whether it comes to a library of the kit
-    function leads(name, list, k, count) {
-        if (!(name in deps)) return 1
-        if (name in lead) return lead[name]
-        lead[name] = 0
-        count = split(deps[name], list, " ")
-        for (k = 1; k <= count; k++) if (leads(list[k])) lead[name] = 1
-        return lead[name]
-    }
     function put(name, file, list, k, count) {
         if ((file, name) in written) return
         written[file, name]
         print text[name] > file
         count = split(deps[name], list, " ")
-        for (k = 1; k <= count; k++) if (list[k] in deps && leads(list[k])) put(list[k], file)
+        for (k = 1; k <= count; k++) if (list[k] in deps) put(list[k], file)
     }
     part == 1 && $1 == "functions" { functions[$2] += $3 }
     part == 1 && $1 == "seconds" { seconds[$2] = $3 }
     part == 1 { next }
     { sub(/#.*/, "") }
     /^[ \t]*$/ { next }
-    !/^[ \t]*[A-Za-z_][A-Za-z0-9_]*[ \t]*:[^:]*$/ { fail("line " FNR ": expected NAME: DEP DEP ...") }
+    !/^[ \t]*[A-Za-z_][A-Za-z0-9_]*([ \t]+staticlib)?[ \t]*:[^:]*$/ { fail("line " FNR ": expected NAME: DEP DEP ...") }
     {
-        name = $0
+        name = $1
         sub(/:.*/, "", name)
-        gsub(/[ \t]/, "", name)
         if (name in deps) fail("line " FNR ": " name " is listed twice")
+        if (/staticlib[ \t]*:/) library[name]
         text[name] = $0
         sub(/^[^:]*:/, "")
         deps[name] = $0
@@ -81,7 +70,6 @@ plan=$({
         if (bad) exit bad
         count = split(ENVIRON["WANTED"], list, " ")
         for (k = 1; k <= count; k++) {
-            if (sub(/\.a$/, "", list[k])) library[list[k]]
             if (!(list[k] in deps)) fail(list[k] " is not listed")
         }
         total = split(ENVIRON["NAMES"], all, " ")
@@ -94,8 +82,8 @@ plan=$({
             }
         }
         for (n = 1; n <= total; n++) {
-            print way(all[n]), all[n], (all[n] in library ? "staticlib" : "check") below[all[n]]
-            file = ENVIRON["WORK"] "/" all[n] "/crates.txt"
+            print way(all[n]), all[n], (all[n] in library ? "static" : "lib") below[all[n]]
+            file = ENVIRON["WORK"] "/list/" all[n]
             put(all[n], file)
             close(file)
         }
@@ -105,22 +93,77 @@ plan=$({
 # say WORD NAME: to who listens.
 say() { { echo "$*" >&3; } 2>/dev/null || :; }
 
-# prove VERB NAME: by a run of rt in the crate's own folder. What it says then names the files where a user finds them.
+# made NAME FROM: what rt made of a crate, its out/, comes to its place, once no rt is at work there. What says of it that it is whole comes last.
+made() {
+    local to=crates/$1/out stamp
+    exec 9<"crates/$1"
+    ! command -v flock >/dev/null || flock 9
+    rm -rf "$to"
+    mkdir "$to" || return
+    for stamp in rlib/stamp "$1.stamp"; do [ ! -e "$2/$stamp" ] || mv "$2/$stamp" "$work/status/$1-${stamp##*/}"; done
+    cp "$copy" "$2/." "$to/" || return
+    for stamp in rlib/stamp "$1.stamp"; do [ ! -e "$work/status/$1-${stamp##*/}" ] || cp "$work/status/$1-${stamp##*/}" "$to/$stamp" || return; done
+}
+
+# prove VERB NAME: by a run of rt in a folder of its own, a project of this crate and those below it, with what rt has made of these: two runs in one project
+# would wait for each other. What it says then names the files where a user finds them, and what it made comes to the project. The last line is our own.
 prove() {
-    local room=$work/$2 status began=$SECONDS
-    (cd "$room" && RT_CUT=0 rt "$1" "$2") </dev/null >"$room/said" 2>&1 3>&-
+    local room=$work/$2 crate=$work/$2/crates/$2 status said word=proved began=$SECONDS name part words="--jobs 1"
+    mkdir -p "$room/crates"
+    cp "$work/list/$2" "$room/crates.txt"
+    for name in $(sh tools/crates.sh "$2"); do
+        mkdir -p "$room/crates/$name/out"
+        for part in src specs proofs; do [ ! -e "crates/$name/$part" ] || cp "$copy" "crates/$name/$part" "$room/crates/$name/"; done
+        [ "$name" = "$2" ] || [ ! -e "crates/$name/out/rlib" ] || cp "$copy" "crates/$name/out/rlib" "$room/crates/$name/out/"
+    done
+    # (what rt writes anew in place is a file of its own)
+    [ ! -e "crates/$2/out" ] || cp -a "crates/$2/out" "$crate/"
+    if [ -e "crates/$2/src/main.rt" ]; then
+        part=/dev/null
+        [ ! -e "crates/$2/stdin" ] || part=$root/crates/$2/stdin
+        (cd "$crate" && rt run $words) <"$part" >"target/log/$2.stdout" 2>"$room/said" 3>&-
+    else
+        [ "$1" != static ] || words="$words --cpu x86-64"
+        (cd "$crate" && rt lib $words) </dev/null >"$room/said" 2>&1 3>&-
+    fi
     status=$?
-    [ $status -ne 0 ] || grep -q "^rt: $2 proved (unchanged" "$room/said" || echo $((SECONDS - began)) >"target/log/$2.seconds"
-    FROM=$room/ TO=$root/ awk '{
+    # (a static library has no stamp, and is built each time: it is unchanged where it is the same)
+    for part in rlib/stamp "$2.stamp" "lib$2.a"; do ! cmp -s "$crate/out/$part" "crates/$2/out/$part" || word=unchanged; done
+    if grep -q '^rt: running ' "$room/said"; then
+        part=/dev/null
+        [ ! -e "crates/$2/stdout" ] || part=crates/$2/stdout
+        [ $status -eq 0 ] && cmp -s "$part" "target/log/$2.stdout" || word=misran
+    elif [ $status -ne 0 ] || [ -e "crates/$2/src/main.rt" ]; then
+        word=failed
+    fi
+    [ $word = unchanged ] || made "$2" "$crate/out" || word=failed
+    FROM=$room/ TO=$root/ HERE=$root/crates/$2/ awk '{
+        if (match($0, /^(note: )?(\.\/)?(src|specs|proofs)\//)) {
+            first = match($0, /^note: /) ? 7 : 1
+            rest = substr($0, first)
+            sub(/^\.\//, "", rest)
+            $0 = substr($0, 1, first - 1) ENVIRON["HERE"] rest
+        }
         while (at = index($0, ENVIRON["FROM"])) {
             printf "%s%s", substr($0, 1, at - 1), ENVIRON["TO"]
             $0 = substr($0, at + length(ENVIRON["FROM"]))
         }
         print
     }' "$room/said" >"target/log/$2.out"
-    # what a program has written and said in its run
-    cp "$room/target/log/$2".std* target/log/ 2>/dev/null
-    echo "$status" >"$room/status"
+    case $word in
+    proved)
+        said="proved ($((SECONDS - began)) s)"
+        # (what another copy of the project on this machine has proved, rt takes from there)
+        ! grep -q '^logic=proved' "$room/said" || echo $((SECONDS - began)) >"target/log/$2.seconds"
+        ;;
+    unchanged) said="proved (unchanged since it was last proved)" ;;
+    misran) said="proved, and its run FAILED (exit $status, $((SECONDS - began)) s): target/log/$2.stdout is what it wrote" ;;
+    failed) said="NOT PROVED (exit $status, $((SECONDS - began)) s)" ;;
+    esac
+    echo "$2: $said" >>"target/log/$2.out"
+    rm -rf "$room"
+    case $status$word in 0misran | 0failed) status=1 ;; esac
+    echo "$status $word" >"$work/status/$2"
 }
 
 declare -A verb below state
@@ -156,19 +199,15 @@ begin() {
     open=$left
 }
 
-# ended NAME STATUS: what rt said of a crate, and what has become of it.
+# ended NAME STATUS WORD: what rt said of a crate, and what has become of it.
 ended() {
-    local said=target/log/$1.out word=proved
-    cat "$said"
+    cat "target/log/$1.out"
     state[$1]=proved running=$((running - 1))
     if [ "$2" -ne 0 ]; then
-        state[$1]=failed word=failed
+        state[$1]=failed
         [ "$2" -le "$worst" ] || worst=$2
-        ! grep -q "^rt: $1 proved, and its run FAILED" "$said" || word=misran
-    elif grep -q "^rt: $1 proved (unchanged" "$said"; then
-        word=unchanged
     fi
-    say $word "$1"
+    say "$3" "$1"
 }
 
 begin
@@ -176,12 +215,13 @@ while [ "$running" -gt 0 ]; do
     wait -n
     none=$? left=''
     for name in $busy; do
-        if [ -s "$work/$name/status" ]; then
-            ended "$name" "$(cat "$work/$name/status")"
+        if [ -s "$work/status/$name" ]; then
+            read -r status word <"$work/status/$name"
+            ended "$name" "$status" "$word"
         elif [ "$none" -eq 127 ]; then
             # no run is left, and this one has not come to its end
             echo "plan: the run of $name was ended from outside" >"target/log/$name.out"
-            ended "$name" 2
+            ended "$name" 2 failed
         else
             left="$left $name"
         fi

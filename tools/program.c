@@ -1,18 +1,23 @@
-/* program.c: what a program is linked with, on any 64-bit Linux (tools/native-program.sh). A Rattle program has no exit status, and of the C functions that
- * the toolchain's library os calls there is x86-64 code alone: both are here. The `main` and the `write` of a program's module are called program_main and
- * program_write. No header is used, so that the toolchain's own clang compiles this, with no C library at hand.
+/* program.c: what a program is linked with, on any 64-bit Linux (tools/native-program.sh). Of the C functions that the toolchain's libraries os and libc call there
+ * is x86-64 code alone, and a program goes by the name that it was made under: both are here, and the exit status. The `main`, the `write` and the `__sysv_signal`
+ * of a program's module are called program_main, program_write and program_signal. No header is used, so that the toolchain's own clang compiles this, with no C
+ * library at hand.
  *
- * The exit status is 1 where something was told on standard error, and where the program says `bad` or `long`: as the last line of its text, where TRACE is
- * defined; else in place of its output, which is then shorter than any tile, block or picture. Otherwise it is 0.
+ * The exit status is that of the program's own main, where that is not 0. It is 1 where something was told on standard error, and where the program says `bad` or
+ * `long`: as the last line of its text, where TRACE is defined; else in place of its output, which is then shorter than any tile, block or picture. Otherwise it is 0.
  */
 typedef unsigned long size;
 
-enum { SHORTEST = 32, TO_READ = 02000400 /* O_RDONLY | O_NOCTTY | O_CLOEXEC, on every machine that there is code for */ };
+enum { SHORTEST = 32 };
 
+extern char **environ;
 int *__errno_location(void);
-int open(const char *path, int flags, ...);
+char *getenv(const char *name);
+void *malloc(size count);
+void *realloc(void *from, size count);
+void free(void *from);
 long write(int to, const void *from, size count);
-void program_main(void);
+int program_main(void);
 
 static int words;         /* the arguments: word 0 is NAME, whatever the file is called */
 static char **word;
@@ -39,6 +44,13 @@ long program_write(int to, const void *from, size count)
     return put;
 }
 
+/* A program's main would have a broken pipe told, and not end it. */
+long program_signal(int signal, long handler)
+{
+    (void)signal, (void)handler;
+    return 0;
+}
+
 /* The last line begins with `bad` or `long`. */
 static int refused(void)
 {
@@ -55,22 +67,21 @@ int main(int argc, char **argv)
 #endif
     words = argc;
     word = argv;
-    program_main();
-    return told || ((text || written < SHORTEST) && refused());
+    int status = program_main();
+    return status ? status : told || ((text || written < SHORTEST) && refused());
 }
 
-/* The functions of the library os, by their contracts there (libs/os/src/c.rt of the toolchain). */
+/* The functions of the libraries os and libc, by their contracts there (rattle/os/src/c.rt and rattle/libc/src/heap.rt of the toolchain). */
 int rattle_errno(void) { return *__errno_location(); }
 void rattle_set_errno(int error) { *__errno_location() = error; }
-int rattle_open_to_read(const char *path) { return open(path, TO_READ); }
 size rattle_arg_count(void) { return (size)words; }
 
-long rattle_arg(size i, char *buffer, size room)
+/* A text into a buffer of this room: its length, -1 where there is none, -2 where it does not fit. */
+static long copied(const char *from, char *buffer, size room)
 {
     size n = 0;
-    if (i >= (size)words)
+    if (!from)
         return -1;
-    const char *from = i == 0 ? NAME : word[i];
     for (; from[n] != 0; n++) {
         if (n == room)
             return -2;
@@ -78,3 +89,43 @@ long rattle_arg(size i, char *buffer, size room)
     }
     return (long)n;
 }
+
+long rattle_arg(size i, char *buffer, size room)
+{
+    return copied(i >= (size)words ? 0 : i == 0 ? NAME : word[i], buffer, room);
+}
+
+long rattle_env(const char *name, char *buffer, size room) { return copied(getenv(name), buffer, room); }
+
+long rattle_env_at(size i, char *buffer, size room)
+{
+    char **entry = environ;
+    while (entry && *entry && i > 0) {
+        entry++;
+        i--;
+    }
+    return copied(entry ? *entry : 0, buffer, room);
+}
+
+/* Whether there is memory, and where. */
+struct tried {
+    size ok;
+    void *place;
+};
+
+static struct tried got(void *place)
+{
+    static char nothing[16];
+    struct tried tried = {place != 0, place ? place : nothing};
+    return tried;
+}
+
+struct tried rattle_alloc(size count, size align) { return got(malloc(count ? count : align)); }
+
+struct tried rattle_realloc(void *from, size kept, size count, size align)
+{
+    (void)kept;
+    return got(realloc(from, count ? count : align));
+}
+
+void rattle_dealloc(void *from) { free(from); }

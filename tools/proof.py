@@ -56,8 +56,8 @@ for line in before.splitlines(keepends=True):
             cells[3] = f" **{total:,}** "
         line = "|".join(cells)
     after.append(line)
-once = sum(len(re.findall(r"(?m)^pub [\w-]+-once :", file.read_text(encoding="utf-8"))) for file in ROOT.glob("crates/demands/proofs/Outcome*.antt"))
-after = re.sub(r"\d+ theorems `…-once`", f"{once} theorems `…-once`", "".join(after))
+once = sum(len(re.findall(r"(?m)^pub \w+_once :", file.read_text(encoding="utf-8"))) for file in ROOT.glob("crates/demands/proofs/Outcome*.antt"))
+after = re.sub(r"\d+ theorems `…_once`", f"{once} theorems `…_once`", "".join(after))
 if sys.argv[1:] == ["--check"]:
     wrong = lost(PAGE, NAMES + r": (crates/\S+?\.antt)")
     for page in sorted(PAGE.parent.glob("*.md")):
@@ -66,7 +66,7 @@ if sys.argv[1:] == ["--check"]:
         wrong.append("docs/PROOF.md: its numbers are not those of the tree: python3 tools/proof.py writes them")
     wrong += [f"docs/PROOF.md: {file.relative_to(ROOT)} stands in two rows" for file in sorted(set(seen)) if seen.count(file) > 1]
     wrong += [f"docs/PROOF.md: {file.relative_to(ROOT)} stands in no row" for file in sorted(ROOT.glob("crates/*/specs/*.antt")) if file not in seen]
-    wrong += [] if re.search("`…-once`", before) and seen else ["docs/PROOF.md: no table of what to read"]
+    wrong += [] if re.search("`…_once`", before) and seen else ["docs/PROOF.md: no table of what to read"]
     for each in wrong:
         print(each)
     sys.exit(1 if wrong else 0)

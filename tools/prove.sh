@@ -26,7 +26,7 @@ for name in $(sh tools/crates.sh "${names[@]}"); do
     of=$((of + 1))
     case $plan in *" $name "*) continue ;; esac
     case " ${OF-} " in *" $name "*) [ -e "build/modules/$name.ll" ] || continue ;; esac
-    [ ! -e "target/stamp/$name" ] || counted=$((counted + 1))
+    for file in rlib/stamp "$name.stamp" "lib$name.a"; do [ ! -e "crates/$name/out/$file" ] || counted=$((counted + 1)); done
 done
 
 last=$SECONDS job=
@@ -88,8 +88,8 @@ through() {
 
 # failed: the first errors, and where all of it stands.
 failed() {
-    grep -m 3 -E ': error|^modules: |^plan: |^toolchain: ' "$log" | cut -c 1-300
-    grep -E '^rt: .*(FAILED|NOT PROVED)' "$log" | sort -u | cut -c 1-300 | tail -n 3
+    grep -m 3 -E ': error[:[]|^fn .*: no proof: |^modules: |^plan: |^toolchain: ' "$log" | cut -c 1-300
+    grep -E '^[a-z0-9_]+: .*(FAILED|NOT PROVED)|^rt: no check reads ' "$log" | sort -u | cut -c 1-300 | tail -n 3
     line "prove: status $status; all that was said is in $log"
     exit 1
 }
@@ -112,7 +112,7 @@ case $what in
 all)
     through "the plan" bash tools/plan.sh
     # The last word is rt's, on the whole: that all is proved, and that no file stands in no crate.
-    through "rt looks through all" rt check
+    through "rt looks through all" rt all check --jobs "${RT_JOBS:-$(nproc 2>/dev/null || echo 1)}"
     ;;
 *) through "the LLVM modules" bash tools/modules.sh "$@" ;;
 esac

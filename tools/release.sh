@@ -26,7 +26,7 @@ fi
 mkdir -p "$root/project" "$root$kit" "$root/gears"
 [ -e "$root$kit/KIT-ID" ] || cp -a "$kit/." "$root$kit/"
 ! has_gears || cp "$GEARS"/*.rs "$root/gears/"
-tar -c --exclude=./build --exclude=./target . | tar -x -C "$root/project"
+tar -c --exclude=./build --exclude=./target --exclude='./crates/*/out' . | tar -x -C "$root/project"
 mountpoint -q "$root/proc" || mount -t proc proc "$root/proc" || fail "proc cannot be mounted in the container"
 mountpoint -q "$root/dev" || mount --rbind /dev "$root/dev" || fail "dev cannot be mounted in the container"
 trap 'umount "$root/proc" 2>/dev/null; umount -l "$root/dev" 2>/dev/null' EXIT

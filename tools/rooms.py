@@ -27,7 +27,7 @@ def crates():
     for line in (ROOT / "crates.txt").read_text(encoding="utf-8").splitlines():
         name, colon, rest = line.split("#")[0].partition(":")
         if colon:
-            listed[name.strip()] = rest.split()
+            listed[name.split()[0]] = rest.split()
     return {name: sorted(set(on) & set(listed)) for name, on in listed.items()}
 
 

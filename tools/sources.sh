@@ -3,4 +3,4 @@
 set -eu
 cd "$(dirname "$0")/.."
 echo crates.txt
-sh tools/crates.sh "$@" | while read -r name; do find "crates/$name" -type f ! -path '*/must-fail/*'; done
+sh tools/crates.sh "$@" | while read -r name; do find "crates/$name" -type f ! -path '*/must-fail/*' ! -path "crates/$name/out/*"; done

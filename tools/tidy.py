@@ -1,8 +1,8 @@
 #!/usr/bin/env python3
 """tidy.py FILE..: lays out antt files of crates/ as this project has them. What nothing uses is no longer brought in, and what comes from one place by as
-few lines as there is room for; comments that name a place of the source by its line go; in the answer to a need the places on the way to a fact,
-`c .before .before ..`, get names by `let at-.. = .. in`; long lines are broken where the fewest brackets are open, and there best behind an arrow, else
-before a sign that joins two sides.
+few lines as there is room for; comments that name a place of the source by its line go; in the answer to a goal the places on the way to a fact,
+`c.before.before..`, get names by `let at-.. = .. in`; long lines are broken where the fewest brackets are open, and there best behind an arrow, else
+before a sign that joins two sides. (`rt fmt` leaves such lines as they are.)
 
 tidy.py --check FILE..: changes nothing; prints what a file brings in and does not use, and where a line is longer than 160 characters. Status 1 where
 there is any."""
@@ -15,7 +15,7 @@ USE = re.compile(r"^use ([^\s{]+?)(?:\.\{([^}]*)\}| as (\S+)|)[ \t]*$", re.M)
 COMMENT = re.compile(r"(^|\s)--(\s.*)?$", re.M)
 PLACE = re.compile(r"^ *-- (\S*/)?\S+\.rt:\d+:\d+.*\n", re.M)
 # A place that has its name already, or a way to one that has none: how far it goes, and what is asked of the place.
-PATH = re.compile(r"let \S+ =\s+c(?:\s+\.before)+\s+in\b|(?<![\w.·'₀-₉-])c((?: \.before)+)(?: \.([^\s(){};,]+))?")
+PATH = re.compile(r"let \S+ =\s+c(?:\.before)+\s+in\b|(?<![\w.·'₀-₉-])c((?:\.before)+)(?:\.([^\s(){};,.]+))?")
 START = {"args", "good", "pre"}
 # What is declared, up to its type.
 SIGNATURE = re.compile(r"^( *(?:(?:abbrev |unfoldable )?pub )?[^\s(){}]+ :) (.+)$")
@@ -29,7 +29,7 @@ NEVER = re.compile(r"(?:^|[\s(])(?:[λ=:≡≢×⊎↔∷∙<≤]|&&|\|\||\+\+|T
 
 
 def spoken(text):
-    """The names that a text speaks of. A field, ` .name`, is none; of `a.b` both are."""
+    """The names that a text speaks of; of `a.b` both."""
     names = set()
     for piece in re.split(r"[\s(){};,]+", text):
         if piece and not piece.startswith("."):
@@ -40,8 +40,8 @@ def spoken(text):
 
 def speaks(name, names):
     """Whether one of these is the name; of an operator, whether each of its parts is there."""
-    if "_" in name and not name.startswith("«"):
-        return name in names or all(part in names for part in name.split("_") if part)
+    if "◌" in name:
+        return name in names or all(part in names for part in name.split("◌") if part)
     return name in names
 
 
@@ -93,7 +93,7 @@ def imports(text):
 
 
 def named(clause):
-    """The answer to a need with names for the places that it goes by."""
+    """The answer to a goal with names for the places that it goes by."""
     head, body = re.match(r"^(\S+ c(?: [^=\n]*?)? =)((?: |\n).*)$", clause, re.S).groups()
     places = {}
     for match in PATH.finditer(body):
@@ -112,12 +112,12 @@ def named(clause):
             name, more = f"at-{word}-{more}", more + 1
         taken.add(name)
         names[steps] = name
-        lets.append(f"    let {name} = {last}{' .before' * (steps - gone)} in")
+        lets.append(f"    let {name} = {last}{'.before' * (steps - gone)} in")
         last, gone = name, steps
 
     def put(match):
         steps, field = (match.group(1) or "").count(".before"), match.group(2)
-        return match.group(0) if steps < 2 else names[steps] + (f" .{field}" if field else "")
+        return match.group(0) if steps < 2 else names[steps] + (f".{field}" if field else "")
 
     body = re.sub(r"\((at-[\w-]+)\)", r"\1", PATH.sub(put, body))
     body = body.lstrip("\n") if body.startswith("\n") else "    " + body.lstrip(" ")
@@ -125,7 +125,7 @@ def named(clause):
 
 
 def clauses(text):
-    """Every clause `need c .. = answer` with its places named; all else as it is."""
+    """Every clause `goal c .. = answer` with its places named; all else as it is."""
     return re.sub(r"^\S+ c(?: [^=\n]*)? =(?: .*)?(?:\n[ ]+\S.*)*", lambda match: named(match.group(0)), text, flags=re.M)
 
 

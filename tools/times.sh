@@ -1,19 +1,18 @@
 #!/bin/sh
-# times.sh FOLDER: where the time of a run of all tests went, by the logs that tests/run.sh leaves in FOLDER: seconds by crate, how many edits each has and
-# their seconds, and seconds by suite.
-awk '
-    /^rt: [a-z0-9_]+ proved .*[(][0-9]+ s[)]$/ { crate = $2; seconds[crate] = number($0); order[++crates] = crate }
-    /^rt: must-fail / { crate = $3; sub("/.*", "", crate); edits[crate]++; spent[crate] += number($0) }
-    function number(line) { sub(/ s[)].*/, "", line); sub(/.*[( ]/, "", line); return line + 0 }
-    END {
-        printf "\n%-16s %8s %6s %14s\n", "crate", "seconds", "edits", "their seconds"
-        for (i = 1; i <= crates; i++) {
-            c = order[i]
-            printf "%-16s %8d %6s %14s\n", c, seconds[c], edits[c] ? edits[c] : "", edits[c] ? spent[c] : ""
-            all += seconds[c]; tried += edits[c]; took += spent[c]
-        }
-        printf "%-16s %8d %6d %14d\n", "all " crates, all, tried, took
-    }' "$1/proofs.log"
+# times.sh FOLDER: where the time of a run of all tests went, by the logs that tests/run.sh leaves in FOLDER and tools/plan.sh in target/log: of each crate how many
+# seconds `make` took to prove it, if it did, and how many edits were tried; the seconds of the gate of the proofs, of `make` and of each suite.
+sh "$(dirname "$0")/crates.sh" | awk -v logs="$1" '
+    BEGIN { while ((getline line <(logs "/proofs.log")) > 0) if (split(line, part, "[ /]") > 3 && line ~ /^rt: must-fail /) edits[part[3]]++ }
+    {
+        if (!heads++) printf "\n%-16s %8s %6s\n", "crate", "seconds", "edits"
+        seconds = ""
+        file = "target/log/" $1 ".seconds"
+        if ((getline seconds <file) > 0) all += seconds
+        close(file)
+        printf "%-16s %8s %6s\n", $1, seconds, edits[$1]
+        tried += edits[$1]
+    }
+    END { printf "%-16s %8d %6d\n", "all " NR, all, tried }'
 printf '\n%-16s %8s\n' suite seconds
 for end in "$1"/*.end; do
     printf '%-16s %8s\n' "$(basename "$end" .end)" "$(cut -d' ' -f2 "$end")"
