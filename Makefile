@@ -59,7 +59,7 @@ $(NATIVE) &: build/modules/face_c.ll include/vdp.h tools/native-lib.sh $(COMPILE
 	@TARGET= sh tools/native-lib.sh $< build/native
 	@echo "build/native/libvdp.a and libvdp.so compiled for this machine"
 
-build/cross/%/libvdp.a: build/modules/face_c.ll include/vdp.h tools/native-lib.sh tools/calls.awk tools/memory.c $(COMPILE)
+build/cross/%/libvdp.a: build/modules/face_c.ll include/vdp.h tools/native-lib.sh tools/calls.awk tools/short.awk tools/memory.c $(COMPILE)
 	@TARGET=$* sh tools/native-lib.sh $< build/cross/$*
 	@echo "build/cross/$*/libvdp.a compiled for $*"
 
@@ -68,7 +68,7 @@ page: build/desk.html ## the desk as a page: build/desk.html, one file that open
 	@echo "build/desk.html is the desk as a page: open it in a browser (docs/PAGE.md)"
 
 # The same module once more, as WebAssembly.
-build/native/vdp.wasm: build/modules/face_c.ll tools/wasm-module.sh tools/toolchain.sh
+build/native/vdp.wasm: build/modules/face_c.ll tools/wasm-module.sh tools/short.awk tools/toolchain.sh
 	@mkdir -p build/native
 	@sh tools/wasm-module.sh build/modules/face_c.ll $@
 

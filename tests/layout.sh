@@ -92,7 +92,7 @@ for lib in crates/*/src/lib.rt; do
             grep -q "^Exceptions: .*\`$crate::$f\`" docs/CONTRACTS.md && continue
             name=$(sed -nE "s/^use Rattle\.$crate\.(proofs|specs\.contracts)\.$in$f( as ([a-z_-]+))?\$/\4/p" crates/demands/proofs/Outcome*.antt)
             grep -qE "^use Rattle\.$crate\.(proofs|specs\.contracts)\.$in$f( |\$)" crates/demands/proofs/Outcome*.antt &&
-                grep -qE " ${name:-$f}\.(Reads\.Learnt|clauses )" crates/demands/proofs/Outcome*.antt || bare="$bare $crate::$f"
+                grep -qE "[ (]${name:-$f}\.(Reads\.Learnt|clauses )" crates/demands/proofs/Outcome*.antt || bare="$bare $crate::$f"
         done
     done
 done

@@ -5,7 +5,8 @@
 #
 # The module was made for x86-64, whose C calls other machines do not share in all points:
 #   - On riscv64 an answer of 32 bits fills its register by its sign, and callers go by that (tools/calls.awk).
-#   - On armv7 a caller's lengths have 32 bits, and the module's have 64: each call widens them (tools/calls.awk).
+#   - On armv7 a caller's lengths have 32 bits, and the module's have 64: each call widens them (tools/calls.awk), and what moves memory takes its length as
+#     32 bits (tools/short.awk).
 # On bare metal the archive has memcpy and memset too, for a machine that has none (tools/memory.c).
 set -eu
 [ $# -eq 2 ] || { echo "usage: native-lib.sh MODULE.ll FOLDER" >&2; exit 2; }
@@ -16,7 +17,7 @@ mkdir -p "$2"
 rm -f "$2"/vdp.ll "$2"/vdp.o "$2"/memory.o "$2"/libvdp.*
 case $triple in
 riscv64-*) awk -v way=answers -f "$tools/calls.awk" "$1" ;;
-armv7-*) awk -v way=lengths -f "$tools/calls.awk" "$1" ;;
+armv7-*) awk -v way=lengths -f "$tools/calls.awk" "$1" | awk -f "$tools/short.awk" ;;
 *) cat "$1" ;;
 esac >"$2/vdp.ll"
 sh "$tools/native-module.sh" "$2/vdp.ll" "$2/vdp.o"

@@ -6,7 +6,8 @@ set -eu
 . "$(dirname "$0")/toolchain.sh"
 work=$(mktemp -d)
 trap 'rm -rf "$work"' EXIT
-"$llvm/clang" --target=wasm32-unknown-unknown -O3 -mbulk-memory $careful -Wno-override-module -c -x ir "$1" -o "$work/module.o"
+awk -f "$(dirname "$0")/short.awk" "$1" >"$work/module.ll"
+"$llvm/clang" --target=wasm32-unknown-unknown -O3 -mbulk-memory $careful -Wno-override-module -c -x ir "$work/module.ll" -o "$work/module.o"
 # The linker goes by the name that it is called by.
 ln -s "$llvm/ld.lld" "$work/wasm-ld"
 "$work/wasm-ld" --no-entry --export-dynamic --export=__heap_base --export-memory -z stack-size=65536 --gc-sections --strip-all "$work/module.o" -o "$work/module.wasm"

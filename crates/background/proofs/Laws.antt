@@ -55,21 +55,21 @@ module _ (vram : List ℕ) (names sx y x i : ℕ) (h : (sx + x) % 8 + i < 8) whe
   back_in_front f t a = rw (t, a, f) back_front_lem
 
 -- ---- the two bytes of an entry, low and high, as one number
-module _ {a b low high : ℕ} (h : a < 256) (ea : a ≡ low) (eb : b ≡ high) where
+module _ {n low : ℕ} (high : ℕ) (h : low < 256) (e : n ≡ low + 256 * high) where
   -- its bits from 8 on are the high byte's
-  pub entry_bit : (j : ℕ) → eqb ((a + 256 * b) / 2 ^ (8 + j) % 2) 1 ≡ bit high j
+  pub entry_bit : (j : ℕ) → eqb (n / 2 ^ (8 + j) % 2) 1 ≡ bit high j
   unfolding bit
-  entry_bit j = let e : (a + 256 * b) / 2 ^ 8 ≡ b = omega arith in sym (bit_shr (a + 256 * b) 8 j) ∙ rw (e, eb)
+  entry_bit j = let b : n / 2 ^ 8 ≡ high = omega arith in sym (bit_shr n 8 j) ∙ rw b
 
-  pub entry_palette : (a + 256 * b) / 2048 % 2 * 16 ≡ 16 * digit (eqb ((a + 256 * b) / 2 ^ (8 + 3) % 2) 1)
-  entry_palette = omega (arith, digit_test ((a + 256 * b) / 2048 % 2) (omega arith))
+  pub entry_palette : n / 2048 % 2 * 16 ≡ 16 * digit (eqb (n / 2 ^ (8 + 3) % 2) 1)
+  entry_palette = omega (arith, digit_test (n / 2048 % 2) (omega arith))
 
-  pub entry_line : (y : ℕ) {k : ℕ} → k ≡ 4 * turned (eqb ((a + 256 * b) / 2 ^ (8 + 2) % 2) 1) (y % 8) → 32 * ((a + 256 * b) % 512) + k ≡ tile_line low high y
+  pub entry_line : (y : ℕ) {k : ℕ} → k ≡ 4 * turned (eqb (n / 2 ^ (8 + 2) % 2) 1) (y % 8) → 32 * (n % 512) + k ≡ tile_line low high y
   unfolding tile_line
-  entry_line y e =
-      let d : digit (bit high 0) ≡ b % 2 = rw (← eb) (ap digit (bit_zero b) ∙ digit_test (b % 2) (omega arith)) in
-      let c : (a + 256 * b) % 512 ≡ a + 256 * (b % 2) = omega arith in
-      rw (e, entry_bit 2, d, c, ea)
+  entry_line y q =
+      let d : digit (bit high 0) ≡ high % 2 = ap digit (bit_zero high) ∙ digit_test (high % 2) (omega arith) in
+      let c : n % 512 ≡ low + 256 * (high % 2) = omega arith in
+      rw (q, entry_bit 2, d, c)
 
 -- ---- the marks of one tile
 module _ (vram : List ℕ) (names sx y cut x n : ℕ) (small : n ≤ 8) (w : Whole cut x n) (solid : ℕ → Bool) where

@@ -19,7 +19,7 @@ pub fn names_at(reg: [u8; 11]) -> usize
     ensures value { result ≡ names_at (at reg) }
     ensures upper_bound { result ≤ 14336 }
 {
-    small::wide(reg[2] & 0x0E) * 1024
+    usize::from(reg[2] & 0x0E) * 1024
 }
 
 // How far from a tile's start line y stands: the lines the other way round where it is flipped.
@@ -36,7 +36,7 @@ pub fn line_at(lo: u8, hi: u8, y: usize) -> usize
     ensures value { result ≡ tile_line lo hi y }
     ensures result_bound { result + 4 ≤ vram_size }
 {
-    let character = small::wide(lo) + small::weight(small::is_set(hi, 0), 256);
+    let character = usize::from(lo) + small::weight(small::is_set(hi, 0), 256);
     32 * character + line_in(small::is_set(hi, 2), y)
 }
 
@@ -54,9 +54,7 @@ pub fn cut_of(screen: Screen, s: u8) -> u8
 {
     match screen {
         Screen::VisibleOnly => s,
-        Screen::EffectiveArea => 0,
-        Screen::TrueEdges => 0,
-        Screen::Home => 0,
+        Screen::EffectiveArea | Screen::TrueEdges | Screen::Home => 0,
     }
 }
 
@@ -65,10 +63,10 @@ pub fn home_column(reg: [u8; 11], line: usize) -> usize
     ensures value { result ≡ home_column reg line }
     ensures upper_bound { result < 256 }
 {
-    if small::both(small::is_set(reg[0], 6), line < 16) {
+    if small::is_set(reg[0], 6) && line < 16 {
         0
     } else {
-        (256 - small::wide(reg[8])) % 256
+        (256 - usize::from(reg[8])) % 256
     }
 }
 
@@ -85,7 +83,7 @@ fn place_of(cut: u8, x: usize) -> usize
     ensures { result ≡ place_at cut x }
 {
     if x == 0 {
-        small::wide(std::num::wrapping_sub_u8(0, cut))
+        usize::from(0u8.wrapping_sub(cut))
     } else {
         x
     }
@@ -154,7 +152,7 @@ fn render_whole_tile(
 {
     let mx = (sx + x) % 256;
     let e = names + 2 * (32 * (y / 8) + mx / 8);
-    let entry = small::wide(vram[e]) + 256 * small::wide(vram[e + 1]);
+    let entry = usize::from(u16::from_le_bytes([vram[e], vram[e + 1]]));
     let bits = tile::character_whole(
         row,
         vram,
@@ -173,10 +171,8 @@ fn lay(mut prio: Bitmap, marks: [u8; 33], shift: usize) -> Bitmap
     requires { shift < 8 }
     ensures { result.bits ≡ bytes_of (λ i. bit_of prio.bits i || bit (at marks ((8 + i - shift) / 8)) ((8 + i - shift) % 8)) }
 {
-    let mut i: usize = 0;
-    while i < 32 {
+    for i in 0..32 {
         prio.bits[i] |= bitmap::lower(marks[i + 1], shift) | bitmap::upper(marks[i], shift);
-        i += 1;
     }
     prio
 }
@@ -199,11 +195,12 @@ pub fn render_background_line(
     ensures bits_value { result.bits ≡ bytes_of (prio_to vram.now names sx y cut width) }
 {
     let none = Bitmap::new();
-    let first = small::smaller(8 - sx % 8, width);
+    let first = (8 - sx % 8).min(width);
     let mut prio = render_tile(row, vram, colours, names, sx, y, 0, first, cut, none);
     let table = tile::bytes_of(colours);
     let mut marks = [0u8; 33];
     let mut x = first;
+    // No range by steps: where the whole tiles end, the last one starts.
     while x + 8 <= width {
         let bits = render_whole_tile(row, vram, &table, names, sx, y, x);
         marks[x / 8 + 1] = bits;

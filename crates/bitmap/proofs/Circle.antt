@@ -3,12 +3,12 @@
 use mathlib.Core.Logic.{◌≢◌}
 use mathlib.Core.Path.{◌≡◌, refl, sym, ap, ap₂, ◌∙◌}
 use mathlib.Core.Bool.{Bool, false, cond, ◌||◌, or-false}
-use mathlib.Core.List.{List, ◌++◌, append-nil}
+use mathlib.Core.List.{List}
 use Prim.Native.Nat.{ℕ, ◌+◌, ◌-◌, ◌*◌, ◌/◌, ◌%◌, ◌^◌, ◌≤◌, ◌<◌}
 use native.Mathlib.Decide.{dec_lt, ℕ_discrete}
 use native.Mathlib.Omega.{arith}
-use lib.ListN.{length, get_or, set, take, length-set, get_or-eq_default, drop_of_length-le}
-use lib.Seq.{paste, get_or-set_same, get_or-set_other}
+use lib.ListN.{length, get_or, set, length-set, get_or-eq_default}
+use lib.Seq.{get_or-set_same, get_or-set_other}
 use lib.Dec.{ltb}
 use lib.Pow.{shr_le}
 use lib.Bits.{bit_or}
@@ -87,13 +87,6 @@ byte_at_bytes_of f off = number_ext 8 (λ j. bit_of (bytes_of f) (off + j)) (λ 
 pub joined_bytes_of : (f g : ℕ → Bool) → joined (bytes_of f) (bytes_of g) ≡ bytes_of (λ i. cond (ltb i 192) (f i) (g (i - 192)))
 unfolding joined bytes_of table table_from byte_of number
 joined_bytes_of f g = refl
-
--- ---- the code of `join`: its eight stores
-pub joined_is : (m n : List ℕ) {i : ℕ} → length m ≡ 32 → i ≡ 8 → paste m 24 n i ≡ joined m n
-unfolding joined
-joined_is m n len e =
-    let all : length m ≤ 24 + 8 = omega arith in
-    ap (paste m 24 n) e ∙ ap (λ (x : List ℕ). (take 24 m ++ take 8 n) ++ x) (drop_of_length-le m all) ∙ append-nil (take 24 m ++ take 8 n)
 
 -- ---- the code of `set`: the place o is bit s of byte q
 module _ (v q s o : ℕ) (hv : v < 256) (hq : q < 32) (hs : s < 8) (ho : o ≡ 8 * q + s) where

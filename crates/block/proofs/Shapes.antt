@@ -1,5 +1,6 @@
 -- A fresh device of either table has the shape that the block asks, so has that of a well-formed block, and every port call keeps it.
 -- Assumes nothing.
+use Rattle.std.specs.Prelude.{None, Option, Some, ℕ}
 use Prim.Native.Nat.{ℕ, zero, suc, ◌+◌, ◌-◌, ◌%◌, ◌≤◌, ◌<◌}
 use mathlib.Core.Path.{◌≡◌, refl, ap, ◌∙◌}
 use mathlib.Core.List.{List}
@@ -16,10 +17,8 @@ use Rattle.raster.specs.declared.Raster.{Raster}
 use Rattle.raster.specs.declared.LineTable.{LineTable}
 use Rattle.front.specs.declared.Front.{Front}
 use Rattle.vdp.specs.declared.VdpState.{VdpState}
-use Rattle.vdp.specs.declared.Written.{Written}
+use Rattle.front.specs.declared.Written.{Written}
 use Rattle.front.specs.declared.WriteDest.{WriteDest}
-use Rattle.front.specs.declared.Latch.{Latch}
-use Rattle.front.specs.declared.Latch.TheVariants.{Empty, Held}
 use Rattle.vdp.specs.Device.{device, made, front_of, with_front, with_palette_byte, with_addr}
 use Rattle.front.specs.Ports.{front_write, front_read}
 use Rattle.vdp.specs.Ports.{odd_palette, palette_write, port_write, port_read}
@@ -57,7 +56,7 @@ module _ (b : List ℕ) (w : well_formed b ≡ true) (bytes : (i : ℕ) → at b
       ]
 
   latch_low : (f x : ℕ) → x < 256 → latch_byte (latch_from f x) < 256
-  latch_low f x h = either (λ (l : Latch). latch_byte l < 256) (eqb f 0) (λ _. omega arith) (λ _. h)
+  latch_low f x h = either (λ (l : Option ℕ). latch_byte l < 256) (eqb f 0) (λ _. omega arith) (λ _. h)
 
   pub state_shape : Shape (state_of b)
   unfolding state_of
@@ -74,7 +73,7 @@ module _ (b : List ℕ) (w : well_formed b ≡ true) (bytes : (i : ℕ) → at b
 module _ {s : VdpState} (g : Shape s) where
   -- the fields that the shape does not speak of are any
   pub carried :
-      (status : ℕ) (raster : Raster) (addr buffer : ℕ) (dest : WriteDest) (command : Latch) (dirty : Bool)
+      (status : ℕ) (raster : Raster) (addr buffer : ℕ) (dest : Option WriteDest) (command : Option ℕ) (dirty : Bool)
       → Shape (device status s.reg raster addr buffer dest s.cram command s.cram_byte1 dirty s.color_cache)
   carried status raster addr buffer dest command dirty =
       record { registers = g.registers; palette = g.palette; cache = g.cache; byte = g.byte; latched = g.latched; colour = g.colour }
@@ -84,17 +83,17 @@ module _ {s : VdpState} (g : Shape s) where
   fronted f e =
       record { registers = e ∙ g.registers; palette = g.palette; cache = g.cache; byte = g.byte; latched = g.latched; colour = g.colour }
 
-abbrev ShapeW : Written → Type 0
-ShapeW a = Shape a.vdp
+abbrev ShapeW : Written VdpState → Type 0
+ShapeW a = Shape a.device
 
 module _ (v : ℕ) (small : v < 256) where
-  even_palette_lem : (s : VdpState) (a : ℕ) → Shape s → Shape (with_addr (with_palette_byte s (Held v)) a)
+  even_palette_lem : (s : VdpState) (a : ℕ) → Shape s → Shape (with_addr (with_palette_byte s (Some v)) a)
   even_palette_lem s a g =
       record { registers = g.registers; palette = g.palette; cache = g.cache; byte = g.byte; latched = small; colour = g.colour }
 
-  odd_palette_lem : (l : Latch) (s : VdpState) → latch_byte l < 256 → Shape s → ShapeW (odd_palette l s v)
-  odd_palette_lem Empty s h g = g
-  odd_palette_lem (Held low) s h g =
+  odd_palette_lem : (l : Option ℕ) (s : VdpState) → latch_byte l < 256 → Shape s → ShapeW (odd_palette l s v)
+  odd_palette_lem None s h g = g
+  odd_palette_lem (Some low) s h g =
       record {
         registers = g.registers;
         palette = simp length-set g.palette;
@@ -108,15 +107,15 @@ module _ (v : ℕ) (small : v < 256) where
   palette_write_lem s g =
       either ShapeW (eqb (s.addr % 2) 0) (λ _. even_palette_lem s ((s.addr + 1) % 64) g) (λ _. odd_palette_lem s.cram_byte1 s g.latched g)
 
-  pub write_shape : (s : VdpState) (m : List ℕ) (p : ℕ) → Shape s → Shape (port_write s m p v).answer.vdp
+  pub write_shape : (s : VdpState) (m : List ℕ) (p : ℕ) → Shape s → Shape (port_write s m p v).answer.device
   unfolding port_write
   write_shape s m p g =
       let a = (front_write 64 (front_of s) m p v).answer in
       let h = fronted g a.front (write_kept 64 (front_of s) m p v).registers in
       either ShapeW a.palette (λ _. palette_write_lem (with_front s a.front) h) (λ _. h)
 
-pub read_shape : (s : VdpState) (m : List ℕ) (p : ℕ) → Shape s → Shape (port_read s m p).vdp
+pub read_shape : (s : VdpState) (m : List ℕ) (p : ℕ) → Shape s → Shape (port_read s m p).device
 unfolding port_read
 read_shape s m p g =
     let c = s.raster.v_counter in
-    fronted g (front_read (front_of s) m p c).front (ap length (read_registers (front_of s) m p c))
+    fronted g (front_read (front_of s) m p c).device (ap length (read_registers (front_of s) m p c))

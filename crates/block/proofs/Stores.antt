@@ -1,10 +1,10 @@
 -- The parts of a block that a step reads and writes, each by itself.
 -- Assumes nothing.
 use mathlib.Core.Path.{◌≡◌, ap, ◌∙◌}
-use mathlib.Core.List.{List, append-nil}
+use mathlib.Core.List.{List}
 use Prim.Native.Nat.{ℕ, ◌≤◌}
 use native.Mathlib.Omega.{arith}
-use lib.ListN.{length, set, take, drop, length-take, length-drop, replicate}
+use lib.ListN.{length, set, length-take, length-drop}
 use lib.Seq.{paste}
 use Rattle.laws.proofs.Parts.{set_past}
 use Rattle.raster.specs.declared.Raster.{Raster}
@@ -15,10 +15,6 @@ use Rattle.block_parts.proofs.Copies.{length-colour_bytes}
 use Rattle.block_parts.proofs.Format.{cache_set}
 use Rattle.block.specs.Block.{head, small, last, state_of, block_of, Sized}
 use Rattle.block.proofs.Whole.{length-head, length-small}
-
-pub palette_is : (b : List ℕ) {r : List ℕ} → r ≡ paste (replicate 64 0) 0 (drop 27 b) 64 → r ≡ (state_of b).cram
-unfolding state_of
-palette_is b e = e ∙ append-nil (take 64 (drop 27 b))
 
 pub sized_state : (b : List ℕ) → 219 ≤ length b → Sized (state_of b)
 unfolding state_of

@@ -1,12 +1,12 @@
 -- The block as its parts are stored one after the other, and the device as its fields are read.
 -- Assumes nothing.
 use mathlib.Core.Path.{◌≡◌, refl, sym}
-use mathlib.Core.Bool.{Bool, true, false, ◌&&◌}
+use mathlib.Core.Bool.{true}
 use mathlib.Core.List.{List, [], ◌∷◌}
-use Prim.Native.Nat.{ℕ, ◌+◌, ◌≤◌, ◌<◌}
+use Prim.Native.Nat.{ℕ, ◌+◌, ◌≤◌}
 use native.Mathlib.Omega.{arith}
-use borrow.Author.Tests.{eqb-true, eqb-false, eq-eqb, ne_eqb}
-use lib.Dec.{eqb, leb}
+use borrow.Author.Tests.{eqb-true, eqb-false, eq-eqb}
+use lib.Dec.{eqb}
 use lib.ListN.{length, get_or-eq_default}
 use Rattle.laws.specs.Lists.{at}
 use Rattle.laws.proofs.Tests.{both, split}
@@ -14,9 +14,7 @@ use Rattle.raster.specs.declared.LineTable.{LineTable}
 use Rattle.raster.specs.declared.LineTable.TheVariants.{Steps261, Steps262}
 use Rattle.raster.specs.Raster.{line_table_number, line_table_from}
 use Rattle.vdp.specs.declared.VdpState.{VdpState}
-use Rattle.fields.specs.Fields.{latch_fits}
-use Rattle.block_parts.specs.Parts.{fields_fit}
-use Rattle.block.specs.Block.{sized, mark_of, fits, head, small, last, state_of, well_formed}
+use Rattle.block.specs.Block.{sized, fits, head, small, last, state_of, well_formed}
 
 pub length-head : (n : ℕ) (s : VdpState) → length (head n s) ≡ 3
 unfolding head
@@ -60,26 +58,11 @@ sized_high n h =
 pub in_size : (n : ℕ) → 219 ≤ n → n ≤ 220 → sized n ≡ true
 in_size n l h = split (eqb n 219) (λ t. rw t) (λ t. rw (t, eq-eqb n 220 (omega (arith, eqb-false n 219 t))))
 
-pub too_short : (n : ℕ) → n < 219 → sized n ≡ false
-too_short n h = rw (ne_eqb n 219 (λ e. omega arith), ne_eqb n 220 (λ e. omega arith))
-
-pub too_long_lem : (n : ℕ) → 220 < n → sized n ≡ false
-too_long_lem n h = rw (ne_eqb n 219 (λ e. omega arith), ne_eqb n 220 (λ e. omega arith))
-
 pub fits_sized : (t : LineTable) (n : ℕ) → fits t n ≡ true → sized n ≡ true
 fits_sized Steps261 n h = h
 fits_sized Steps262 n h = rw (eqb-true n 220 h)
 
--- whether it is well formed, as the code asks
-pub not_formed : (b : List ℕ) → sized (length b) ≡ false → false ≡ well_formed b
-unfolding well_formed
-not_formed b e = rw e
-
-pub formed : (b : List ℕ) {m t : ℕ} {f : Bool} → sized (length b) ≡ true → m ≡ mark_of (length b) → t ≡ at b 219 → f ≡ fields_fit b
-    → ((eqb (at b 0) 0x56 && eqb (at b 1) m) && f && (leb (at b 23) 1 && leb (at b 26) 1 && leb t 1) && latch_fits (at b 23) (at b 24)) ≡ well_formed b
-unfolding well_formed
-formed b e em et ef = rw (e, em, et, ef)
-
+-- what a well-formed block has
 pub length_of : (b : List ℕ) → well_formed b ≡ true → sized (length b) ≡ true
 unfolding well_formed
 length_of b e = (both (sized (length b)) _ e).0

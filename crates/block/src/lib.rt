@@ -40,12 +40,12 @@ pub fn has_room(table: LineTable, len: usize) -> bool
     ensures { result ≡ fits table len }
 {
     match table {
-        LineTable::Steps261 => (len == OLD_SIZE) | (len == BLOCK_SIZE),
+        LineTable::Steps261 => len == OLD_SIZE || len == BLOCK_SIZE,
         LineTable::Steps262 => len == BLOCK_SIZE,
     }
 }
 
-// Byte 219, the table; a block that has none is of table 0.
+// Byte 219, the table; a block that has none is of table 0. (No `get`: a number beside a pointer, as an `Option<&u8>` is, lies elsewhere on 32 bits.)
 fn table_byte(block: &[u8]) -> u8
     ensures { result ≡ at block.now 219 }
 {
@@ -57,21 +57,19 @@ fn table_byte(block: &[u8]) -> u8
 }
 
 // R7.6: whether a block has a length of blocks, its mark, and no byte that does not fit its place.
+#[tactic(auto, unfolding(crate::specs::Block::well_formed))]
 pub fn well_formed(block: &[u8]) -> bool
     ensures { result ≡ well_formed block.now }
 {
     let len = block.len();
-    if len < OLD_SIZE {
+    if len < OLD_SIZE || BLOCK_SIZE < len {
         return false;
     }
-    if BLOCK_SIZE < len {
-        return false;
-    }
-    let marked = (block[MARK] == MARK_FIRST) & (block[MARK_SECOND] == mark_of(len));
+    let marked = block[MARK] == MARK_FIRST && block[MARK_SECOND] == mark_of(len);
     let latched = block[PALETTE_LATCHED];
-    let flags = (latched <= 1) & (block[DIRTY] <= 1) & (table_byte(block) <= 1);
-    let palette = (latched != 0) | (block[PALETTE_BYTE] == 0);
-    marked & block_parts::fields_fit(block) & flags & palette
+    let flags = latched <= 1 && block[DIRTY] <= 1 && table_byte(block) <= 1;
+    let palette = latched != 0 || block[PALETTE_BYTE] == 0;
+    marked && block_parts::fields_fit(block) && flags && palette
 }
 
 // A fresh device of this table into a block, in the version that its length tells; one that has no room for it is left as it is.
@@ -84,13 +82,14 @@ pub fn fresh(block: &mut [u8], table: LineTable)
     }
     block_parts::stamp(block, mark_of(len), DIRTY);
     if OLD_SIZE < len {
-        block[TABLE] = raster::table_number(table);
+        block[TABLE] = u8::from(table);
     }
 }
 
 // ---- the parts of a block that the calls read and write, each by itself
 
 // The registers.
+#[tactic(auto, unfolding(crate::specs::Block::state_of))]
 pub fn registers(block: &[u8]) -> [u8; 11]
     requires { old_size ≤ length block.now }
     ensures { result ≡ (state_of block.now).reg }
@@ -99,6 +98,7 @@ pub fn registers(block: &[u8]) -> [u8; 11]
 }
 
 // The raster.
+#[tactic(auto, unfolding(crate::specs::Block::state_of))]
 pub fn raster_in(block: &[u8]) -> Raster
     requires { old_size ≤ length block.now }
     ensures { result ≡ (state_of block.now).raster }
@@ -111,15 +111,17 @@ pub fn raster_in(block: &[u8]) -> Raster
 }
 
 // The palette, and the cached colours.
+#[tactic(auto, unfolding(crate::specs::Block::state_of))]
 pub fn palette_in(block: &[u8]) -> [u8; 64]
     requires { old_size ≤ length block.now }
     ensures { result ≡ (state_of block.now).cram }
 {
     let mut cram = [0u8; 64];
-    block_parts::copy(&mut cram, 0, block, PALETTE, 64);
+    cram.copy_from_slice(&block[PALETTE..PALETTE + 64]);
     cram
 }
 
+#[tactic(auto, unfolding(crate::specs::Block::state_of))]
 pub fn cache_in(block: &[u8]) -> [u32; 32]
     requires { old_size ≤ length block.now }
     ensures { result ≡ (state_of block.now).color_cache }

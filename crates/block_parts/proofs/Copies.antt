@@ -1,12 +1,12 @@
 -- One turn of the loops over colours, four bytes stored and one colour read; and the colours of a block as its bytes, and back.
 -- Assumes nothing.
-use mathlib.Core.Path.{◌≡◌, sym, ap, ◌∙◌}
-use mathlib.Core.List.{List}
+use mathlib.Core.Path.{◌≡◌, refl, sym, ap, ◌∙◌}
+use mathlib.Core.List.{List, [], ◌∷◌}
 use Prim.Native.Nat.{ℕ, zero, suc, ◌+◌, ◌*◌, ◌/◌, ◌%◌, ◌≤◌, ◌<◌}
 use native.Mathlib.Decide.{dec_lt}
 use native.Mathlib.Omega.{arith}
 use lib.ListN.{length, set, take, drop, replicate, length-take, length-drop, get_or-eq_default}
-use lib.Seq.{paste, get_or-take, get_or-drop}
+use lib.Seq.{paste, paste-zero, get_or-take, get_or-drop}
 use Rattle.laws.specs.Lists.{at}
 use Rattle.laws.specs.Paint.{byte_of_colour, of_bytes}
 use Rattle.laws.proofs.Bytes.{byte_0, byte_1, byte_2, byte_3, of_bytes_lem}
@@ -26,9 +26,19 @@ colour_byte cs i j hi hj =
     let h : 4 * i + j < 128 = omega arith in
     sym (get_d_table 128 (λ k. byte_of_colour (at cs (k / 4)) (k % 4)) (4 * i + j) h ∙ rw (e, f))
 
+-- four bytes put together are four stores
+four_put : (d : List ℕ) (a b0 b1 b2 b3 : ℕ) → a + 4 ≤ length d
+    → paste d a (b0 ∷ b1 ∷ b2 ∷ b3 ∷ []) 4 ≡ set (set (set (set d a b0) (a + 1) b1) (a + 2) b2) (a + 3) b3
+four_put d a b0 b1 b2 b3 h =
+    let s : List ℕ = b0 ∷ b1 ∷ b2 ∷ b3 ∷ [] in
+    let p1 = fill_step d a s 0 {k = a} {v = b0} (omega arith) (omega arith) (omega arith) refl (paste-zero d a s) in
+    let p2 = fill_step d a s 1 {k = a + 1} {v = b1} (omega arith) (omega arith) refl refl p1 in
+    let p3 = fill_step d a s 2 {k = a + 2} {v = b2} (omega arith) (omega arith) refl refl p2 in
+    sym (fill_step d a s 3 {k = a + 3} {v = b3} (omega arith) (omega arith) refl refl p3)
+
 module _ (x : ℕ) where
   -- four stores are one turn
-  pub colour_step :
+  colour_step :
       (d : List ℕ) (cs : List ℕ) (i : ℕ) {d' : List ℕ} → i < 32 → x + 128 ≤ length d → d' ≡ paste d x (colour_bytes cs) (4 * i)
       → set
       (set
@@ -55,6 +65,14 @@ module _ (x : ℕ) where
       ∙ ap (paste d x s) z3 in
       fill_step d x s (4 * i + 3) {k = x + 4 * i + 3} (omega arith) (omega arith) (omega arith) (colour_byte cs i 3 hi (omega arith)) p3
       ∙ ap (paste d x s) z4
+
+  pub colour_put :
+      (d : List ℕ) (cs : List ℕ) (i : ℕ) {d' : List ℕ} → i < 32 → x + 128 ≤ length d → length d' ≡ length d → d' ≡ paste d x (colour_bytes cs) (4 * i)
+      → paste d' (x + 4 * i) (at cs i % 256 ∷ at cs i / 256 % 256 ∷ at cs i / 65536 % 256 ∷ at cs i / 16777216 % 256 ∷ []) 4
+      ≡ paste d x (colour_bytes cs) (4 * (i + 1))
+  colour_put d cs i {d'} hi hd hl p =
+      four_put d' (x + 4 * i) (at cs i % 256) (at cs i / 256 % 256) (at cs i / 65536 % 256) (at cs i / 16777216 % 256) (omega arith)
+      ∙ colour_step d cs i hi hd p
 
   pub length-colours_from : (b : List ℕ) → length (colours_from x b) ≡ 32
   unfolding colours_from

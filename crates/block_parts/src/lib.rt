@@ -1,7 +1,7 @@
 // The parts that either machine's state block has, each read or stored by itself, at the places that the machine tells.
 #![tactic(auto)]
 
-ghost use Rattle.std.specs.Prelude.{◌≡◌, ◌+◌, ◌≤◌, ◌<◌, length, drop, replicate};
+ghost use Rattle.std.specs.Prelude.{◌≡◌, ◌+◌, ◌≤◌, ◌<◌, length, replicate};
 ghost use Rattle.laws.specs.Lists.{at};
 ghost use Rattle.std.proofs.Math.Seq.{paste};
 ghost use Rattle.fields.specs.Stored.{front_end};
@@ -28,27 +28,11 @@ const REGISTER_10: usize = REGISTERS + 10;
 
 // ---- bytes
 
-// The n bytes of src from `from` on, into dst at `at`.
-pub fn copy(dst: &mut [u8], at: usize, src: &[u8], from: usize, n: usize)
-    requires { (at + n ≤ length dst.old) × (from + n ≤ length src.now) }
-    ensures { dst.new ≡ paste dst.old at (drop from src.now) n }
-{
-    let mut i = 0;
-    while i < n {
-        dst[at + i] = src[from + i];
-        i += 1;
-    }
-}
-
 // Every byte 0.
 fn clear(block: &mut [u8])
     ensures { block.new ≡ replicate (length block.old) 0 }
 {
-    let mut i = 0;
-    while i < block.len() {
-        block[i] = 0;
-        i += 1;
-    }
+    block.fill(0);
 }
 
 // A fresh block but for its table, with this second byte of the mark and its dirty flag at this place.
@@ -71,6 +55,7 @@ pub fn stamp(block: &mut [u8], mark: u8, dirty: usize)
 // ---- colours
 
 // Four bytes of src, the lowest first.
+#[tactic(auto, unfolding(crate::specs::Parts::colour_at))]
 pub fn colour_at(src: &[u8], at: usize) -> u32
     requires { at + 4 ≤ length src.now }
     ensures { result ≡ colour_at src.now at }
@@ -84,10 +69,8 @@ pub fn colours_at(src: &[u8], place: usize) -> [u32; 32]
     ensures { result ≡ colours_from place src.now }
 {
     let mut out = [0u32; 32];
-    let mut i = 0;
-    while i < 32 {
+    for i in 0..32 {
         out[i] = colour_at(src, place + 4 * i);
-        i += 1;
     }
     out
 }
@@ -97,15 +80,10 @@ fn put_colours(dst: &mut [u8], place: usize, colours: &[u32])
     requires { (place + 128 ≤ length dst.old) × (length colours.now ≡ 32) }
     ensures { dst.new ≡ paste dst.old place (colour_bytes colours.now) 128 }
 {
-    let mut i = 0;
-    while i < 32 {
-        let c = colours[i];
+    for i in 0..32 {
         let at = place + 4 * i;
-        dst[at] = (c % 256) as u8;
-        dst[at + 1] = (c / 256 % 256) as u8;
-        dst[at + 2] = (c / 65536 % 256) as u8;
-        dst[at + 3] = (c / 16777216 % 256) as u8;
-        i += 1;
+        let bytes = colours[i].to_le_bytes();
+        dst[at..at + 4].copy_from_slice(&bytes);
     }
 }
 
@@ -125,8 +103,8 @@ pub fn fields_fit(block: &[u8]) -> bool
     requires { front_end ≤ length block.now }
     ensures { result ≡ fields_fit block.now }
 {
-    let command = (block[COMMAND_LATCHED] != 0) | (block[COMMAND_BYTE] == 0);
-    (block[JUMPED] <= 1) & (block[CHOSEN] <= 2) & (block[COMMAND_LATCHED] <= 1) & command
+    let command = block[COMMAND_LATCHED] != 0 || block[COMMAND_BYTE] == 0;
+    block[JUMPED] <= 1 && block[CHOSEN] <= 2 && block[COMMAND_LATCHED] <= 1 && command
 }
 
 // The registers.
@@ -135,7 +113,7 @@ pub fn registers(block: &[u8]) -> [u8; 11]
     ensures { result ≡ registers_in block.now }
 {
     let mut reg = [0u8; 11];
-    copy(&mut reg, 0, block, REGISTERS, 11);
+    reg.copy_from_slice(&block[REGISTERS..REGISTERS + 11]);
     reg
 }
 
@@ -149,7 +127,7 @@ pub fn raster_in(block: &[u8], scroll: usize, table: LineTable) -> Raster
         v_counter_jumped: block[JUMPED] == 1,
         line_interrupt_counter: block[LINE_COUNT],
         vertical_scroll: block[scroll],
-        table: table,
+        table,
     }
 }
 

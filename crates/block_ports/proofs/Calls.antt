@@ -1,5 +1,8 @@
 -- The calls in place, from what their parts give.
 -- Assumes nothing.
+use Rattle.refusal.specs.declared.Refusal.{Refusal}
+use Rattle.std.specs.Prelude.{Result}
+use Rattle.refusal.specs.Refusals.{Outcome}
 use mathlib.Core.Path.{◌≡◌, refl, sym, ◌∙◌}
 use mathlib.Core.Bool.{true, false}
 use mathlib.Core.List.{List}
@@ -7,14 +10,12 @@ use Prim.Native.Nat.{ℕ, ◌<◌}
 use lib.ListN.{length}
 use Rattle.laws.specs.Lists.{at}
 use Rattle.vdp.specs.declared.VdpState.{VdpState}
-use Rattle.refusal.specs.declared.Refusal.{Refusal}
 use Rattle.front.specs.Front.{FrontAfter}
 use Rattle.vdp.specs.Device.{front_of, with_front}
 use Rattle.front.specs.Ports.{front_write, front_read}
 use Rattle.vdp.specs.Ports.{port_write, port_read}
 use Rattle.front.proofs.Kept.{write_kept, inside}
 use Rattle.inplace.specs.declared.Sent.{Sent}
-use Rattle.inplace.specs.declared.Got.{Got}
 use Rattle.fields.specs.Stored.{address_in, front_in}
 use Rattle.inplace.specs.InPlace.{SentInPlace, GotInPlace}
 use Rattle.block.specs.Block.{state_of, block_of, well_formed, Sized}
@@ -57,25 +58,24 @@ module _ (b : List ℕ) (w : well_formed b ≡ true) (bytes : (i : ℕ) → at b
           rw (left_in, address_read (length b) left left_sized)
           (inside 64 (front_of (state_of b)) m p v fronted.answer refl (sym known.palette ∙ t))
 
-      pub by_palette : r.palette ≡ true → {x : Refusal} {b₂ : List ℕ} → PaletteInPlace (length b) left v x b₂ → OutInPlace b m p v x b₂ m₁
+      pub by_palette : r.palette ≡ true → {x : Outcome} {b₂ : List ℕ} → PaletteInPlace (length b) left v x b₂ → OutInPlace b m p v x b₂ m₁
       unfolding port_write
       by_palette t q =
           let u : fronted.answer.palette ≡ true = sym known.palette ∙ t in
-          record { refusal = q.refusal ∙ rw u; block = q.block ∙ rw u; memory = memory_is }
+          record { outcome = q.outcome ∙ rw u; block = q.block ∙ rw u; memory = memory_is }
 
-      pub by_front : r.palette ≡ false → OutInPlace b m p v r.refusal b₁ m₁
+      pub by_front : r.palette ≡ false → OutInPlace b m p v r.outcome b₁ m₁
       unfolding port_write
       by_front t =
           let u : fronted.answer.palette ≡ false = sym known.palette ∙ t in
-          record { refusal = known.refusal ∙ rw u; block = left_in ∙ rw u; memory = memory_is }
+          record { outcome = known.outcome ∙ rw u; block = left_in ∙ rw u; memory = memory_is }
 
   -- ---- a read
-  pub read_in_place : {r : Got} {b₁ : List ℕ} → GotInPlace b (front_read (front_in b) m p (at b 14)) r b₁ → InputInPlace b m p r b₁
+  pub read_in_place : {r : Result ℕ Refusal} {b₁ : List ℕ} → GotInPlace b (front_read (front_in b) m p (at b 14)) r b₁ → InputInPlace b m p r b₁
   unfolding port_read state_of
   read_in_place l =
       let k = rw (front_is b) at l in
       record {
-        refusal = k.refusal;
         byte = k.byte;
-        block = stored_front b w bytes sized (front_read (front_of (state_of b)) m p (at b 14)).front k.block;
+        block = stored_front b w bytes sized (front_read (front_of (state_of b)) m p (at b 14)).device k.block;
       }

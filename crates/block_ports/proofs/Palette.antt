@@ -1,5 +1,6 @@
 -- The palette in a block of the handheld: what is read there, and what its stores leave, by the device that the block is of.
 -- Assumes nothing.
+use Rattle.std.specs.Prelude.{None, Option, Some, ℕ, Err, Ok}
 use mathlib.Core.Path.{◌≡◌, sym, ap, ◌∙◌}
 use mathlib.Core.Bool.{Bool, false, ◌||◌}
 use mathlib.Core.List.{List}
@@ -12,9 +13,7 @@ use lib.Seq.{get_or-set_other}
 use Rattle.laws.specs.Lists.{at}
 use Rattle.laws.proofs.Parts.{at_past, set_past}
 use Rattle.vdp.specs.declared.VdpState.{VdpState}
-use Rattle.front.specs.declared.Latch.{Latch}
-use Rattle.front.specs.declared.Latch.TheVariants.{Empty, Held}
-use Rattle.refusal.specs.declared.Refusal.TheVariants.{Accepted, NoPaletteByte}
+use Rattle.refusal.specs.declared.Refusal.TheVariants.{NoPaletteByte}
 use Rattle.vdp.specs.Device.{with_palette_byte, with_addr, with_palette}
 use Rattle.front.specs.Front.{changed}
 use Rattle.fields.specs.Fields.{flag_of, latch_from}
@@ -49,7 +48,7 @@ module _ (n : ℕ) (s : VdpState) (g : Sized s) where
       (length-small s) g.palette (length-colour_bytes s.color_cache)
 
   -- ---- what is stored
-  pub latch_stored_lem : (v : ℕ) {b' : List ℕ} → b' ≡ latch_stored 23 (Held v) (block_of n s) → b' ≡ block_of n (with_palette_byte s (Held v))
+  pub latch_stored_lem : (v : ℕ) {b' : List ℕ} → b' ≡ latch_stored 23 (Some v) (block_of n s) → b' ≡ block_of n (with_palette_byte s (Some v))
   unfolding block_of head small last
   latch_stored_lem v e = e ∙ rw (set_past s.reg _ 11 9 _ g.registers, set_past s.reg _ 11 10 _ g.registers)
 
@@ -88,27 +87,27 @@ module _ (n : ℕ) (s : VdpState) (g : Sized s) (v : ℕ) {b : List ℕ} (e : b 
   address = ea ∙ ap address_in e ∙ address_read n s g
 
   pub even_in_place :
-      a % 2 ≡ 0 → {b₁ b₂ : List ℕ} → b₁ ≡ latch_stored 23 (Held v) b → b₂ ≡ address_stored ((a + 1) % 64) b₁ → PaletteInPlace n s v Accepted b₂
+      a % 2 ≡ 0 → {b₁ b₂ : List ℕ} → b₁ ≡ latch_stored 23 (Some v) b → b₂ ≡ address_stored ((a + 1) % 64) b₁ → PaletteInPlace n s v (Ok tt) b₂
   even_in_place h {b₁} {b₂} e₁ e₂ =
       let even : s.addr % 2 ≡ 0 = rw address at h in
-      let p₁ : b₁ ≡ block_of n (with_palette_byte s (Held v)) = latch_stored_lem n s g v (e₁ ∙ ap (latch_stored 23 (Held v)) e) in
-      let g₁ : Sized (with_palette_byte s (Held v)) = record { registers = g.registers; palette = g.palette } in
-      let p₂ = address_stored_lem n (with_palette_byte s (Held v)) g₁ ((a + 1) % 64) (e₂ ∙ ap (address_stored ((a + 1) % 64)) p₁) in
-      record { refusal = simp even; block = (rw address at p₂) ∙ simp even }
+      let p₁ : b₁ ≡ block_of n (with_palette_byte s (Some v)) = latch_stored_lem n s g v (e₁ ∙ ap (latch_stored 23 (Some v)) e) in
+      let g₁ : Sized (with_palette_byte s (Some v)) = record { registers = g.registers; palette = g.palette } in
+      let p₂ = address_stored_lem n (with_palette_byte s (Some v)) g₁ ((a + 1) % 64) (e₂ ∙ ap (address_stored ((a + 1) % 64)) p₁) in
+      record { outcome = simp even; block = (rw address at p₂) ∙ simp even }
 
-  module _ (h : a % 2 ≡ 0 → ⊥) {l : Latch} (el : l ≡ latch_from (at b 23) (at b 24)) where
+  module _ (h : a % 2 ≡ 0 → ⊥) {l : Option ℕ} (el : l ≡ latch_from (at b 23) (at b 24)) where
     odd : eqb (s.addr % 2) 0 ≡ false
     odd = ne_eqb (s.addr % 2) 0 (rw address at h)
 
-    held : {x : Latch} → l ≡ x → s.cram_byte1 ≡ x
+    held : {x : Option ℕ} → l ≡ x → s.cram_byte1 ≡ x
     held q = sym (latch_read n s g) ∙ sym (ap (λ (k : List ℕ). latch_from (at k 23) (at k 24)) e) ∙ sym el ∙ q
 
-    pub none_in_place : l ≡ Empty → PaletteInPlace n s v NoPaletteByte b
-    none_in_place q = record { refusal = simp (odd, held q); block = e ∙ simp (odd, held q) }
+    pub none_in_place : l ≡ None → PaletteInPlace n s v (Err NoPaletteByte) b
+    none_in_place q = record { outcome = simp (odd, held q); block = e ∙ simp (odd, held q) }
 
     pub odd_in_place :
-        (low : ℕ) → l ≡ Held low → a < 64 → {b₁ b₂ b₃ : List ℕ} → b₁ ≡ colour_stored 27 26 (a - 1) low b → b₂ ≡ colour_stored 27 26 a (v % 16) b₁
-        → b₃ ≡ address_stored ((a + 1) % 64) b₂ → PaletteInPlace n s v Accepted b₃
+        (low : ℕ) → l ≡ Some low → a < 64 → {b₁ b₂ b₃ : List ℕ} → b₁ ≡ colour_stored 27 26 (a - 1) low b → b₂ ≡ colour_stored 27 26 a (v % 16) b₁
+        → b₃ ≡ address_stored ((a + 1) % 64) b₂ → PaletteInPlace n s v (Ok tt) b₃
     odd_in_place low q k {b₁} {b₂} {b₃} e₁ e₂ e₃ =
         let s₁ : VdpState = coloured s (a - 1) low in
         let g₁ : Sized s₁ = record { registers = g.registers; palette = simp length-set g.palette } in
@@ -119,4 +118,4 @@ module _ (n : ℕ) (s : VdpState) (g : Sized s) (v : ℕ) {b : List ℕ} (e : b 
         let p₃ : b₃ ≡ block_of n (with_addr s₂ ((a + 1) % 64)) = address_stored_lem n s₂ g₂ ((a + 1) % 64) (e₃ ∙ ap (address_stored ((a + 1) % 64)) p₂) in
         let other : a ≡ a - 1 → ⊥ = λ z. h (omega arith) in
         let p = rw (get_or-set_other s.cram (a - 1) a low 0 other, address) at p₃ in
-        record { refusal = simp (odd, held q); block = p ∙ simp (odd, held q) }
+        record { outcome = simp (odd, held q); block = p ∙ simp (odd, held q) }

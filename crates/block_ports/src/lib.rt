@@ -10,49 +10,43 @@ ghost use Rattle.block.specs.Block.{old_size, block_of, well_formed, Sized};
 ghost use Rattle.block_ports.specs.InPlace.{PaletteInPlace, OutInPlace, InputInPlace};
 
 use block::{DIRTY, PALETTE, PALETTE_LATCHED};
-use front::Latch;
-use inplace::Got;
 use refusal::Refusal;
 use vdp::CRAM_SIZE;
 
 // A byte for the palette (R3.7): the first of two is latched, the second stores both, and the first stays latched.
-fn write_palette(block: &mut [u8], val: u8) -> Refusal
+fn write_palette(block: &mut [u8], val: u8) -> Result<(), Refusal>
     requires { (old_size ≤ length block.old) × (address_in block.old < cram_size) }
     ensures { (n : ℕ) (s : VdpState) → Sized s → block.old ≡ block_of n s → PaletteInPlace n s val result block.new }
 {
     let addr = fields::address_in(block);
-    let next = (addr + 1) % CRAM_SIZE;
     if addr % 2 == 0 {
-        fields::store_latch(block, PALETTE_LATCHED, Latch::Held(val));
-        fields::store_address(block, next);
-        return Refusal::Accepted;
+        fields::store_latch(block, PALETTE_LATCHED, Some(val));
+    } else {
+        let low = fields::latch_in(block, PALETTE_LATCHED).ok_or(Refusal::NoPaletteByte)?;
+        let here = usize::from(addr);
+        fields::store_colour(block, PALETTE, DIRTY, here - 1, low);
+        fields::store_colour(block, PALETTE, DIRTY, here, val % 16);
     }
-    let latch = fields::latch_in(block, PALETTE_LATCHED);
-    let Latch::Held(low) = latch else {
-        return Refusal::NoPaletteByte;
-    };
-    let here = addr as usize;
-    fields::store_colour(block, PALETTE, DIRTY, here - 1, low);
-    fields::store_colour(block, PALETTE, DIRTY, here, val % 16);
-    fields::store_address(block, next);
-    Refusal::Accepted
+    fields::store_address(block, (addr + 1) % CRAM_SIZE);
+    Ok(())
 }
 
-// A port write on the device of a well-formed block.
-pub fn out(block: &mut [u8], vram: &mut [u8], port: u16, val: u8) -> Refusal
+// A port write on the device of a well-formed block. (As in `home_block`: a function for both would take the palette's size and the write to it, and each call
+// of that would be as long as this.)
+pub fn out(block: &mut [u8], vram: &mut [u8], port: u16, val: u8) -> Result<(), Refusal>
     requires { well_formed block.old ≡ true }
     ensures { OutInPlace block.old vram.old port val result block.new vram.new }
 {
     let sent = inplace::write(block, vram, CRAM_SIZE, port, val);
     if sent.palette {
-        return write_palette(block, val);
+        write_palette(block, val)
+    } else {
+        sent.outcome
     }
-    let refusal = sent.refusal;
-    refusal
 }
 
 // A port read, all of it the front's.
-pub fn input(block: &mut [u8], vram: &[u8], port: u16) -> Got
+pub fn input(block: &mut [u8], vram: &[u8], port: u16) -> Result<u8, Refusal>
     requires { well_formed block.old ≡ true }
     ensures { InputInPlace block.old vram.now port result block.new }
 {

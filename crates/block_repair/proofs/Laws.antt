@@ -1,5 +1,6 @@
 -- One turn of each loop of a repair, and what the loops come to.
 -- Assumes nothing.
+use Rattle.std.specs.Prelude.{Err, Ok}
 use mathlib.Core.Path.{◌≡◌, refl, sym, ap, ◌∙◌}
 use mathlib.Core.Logic.{◌⊎◌, ⊎_elim}
 use mathlib.Core.Bool.{Bool, true, false, not}
@@ -7,22 +8,28 @@ use mathlib.Core.List.{List, [], ◌∷◌, ◌++◌, append-nil}
 use Prim.Native.Nat.{ℕ, zero, suc, ◌+◌, ◌≤◌, ◌<◌}
 use native.Mathlib.Numerals.{add-one}
 use native.Mathlib.Omega.{arith}
-use borrow.Author.Tests.{eq-eqb, ne_eqb, leb-true, lt-ltb, le-ltb}
+use borrow.Author.Tests.{eq-eqb, eqb-true, ne_eqb, leb-true, lt-ltb, le-ltb}
 use lib.Dec.{eqb, leb}
-use lib.ListN.{length, take, set, replicate, length-append}
-use lib.Seq.{paste, paste-zero, take_at, take-length, get_or-take}
+use lib.ListN.{length, take, set, length-append}
+use lib.Seq.{paste, paste-zero, get_or-take}
 use Rattle.laws.specs.Bits.{any}
 use Rattle.laws.specs.Lists.{at, written}
-use Rattle.laws.proofs.Any.{any_false}
+use Rattle.std.specs.Bool.{Decides}
+use Rattle.std.specs.Cmp.Lexicographic.{pointwise}
+use Rattle.std.proofs.lemmas.Bool.Decides.{same_from_decides, Decides-eqb}
+use Rattle.std.proofs.lemmas.List.{ext_get_or}
+use Rattle.std.proofs.lemmas.Slice.Eq.{slice_eq-Decides}
+use Rattle.laws.proofs.Any.{any_false, any_none}
 use Rattle.laws.proofs.Lists.{fill_step, filled_whole, written_on, written_whole, length-written}
 use Rattle.laws.proofs.Tables.{length-table, get_d_table}
-use Rattle.laws.proofs.Tests.{split, clash, either}
+use Rattle.laws.proofs.Tests.{either}
 use Rattle.colour.specs.Colour.{colours_of}
-use Rattle.refusal.specs.declared.Refusal.TheVariants.{Accepted, BlockMalformed, ListLength}
+use Rattle.colour.proofs.Laws.{length_colours}
+use Rattle.refusal.specs.declared.Refusal.TheVariants.{BlockMalformed, ListLength}
 use Rattle.vdp.specs.Refusals.{size}
 use Rattle.fields.specs.Fields.{chosen_from}
+use Rattle.block_parts.proofs.Copies.{length-colours_from}
 use Rattle.block.specs.Block.{sized, state_of}
-use Rattle.block_repair.specs.declared.Repaired.{Repaired}
 use Rattle.block_repair.specs.Repair.{within, matching, mended_at, mended, differing, changes, RepairLeaves}
 
 -- ---- the address
@@ -39,36 +46,31 @@ video_size (suc (suc zero)) h n = absurd (n refl)
 video_size (suc (suc (suc x))) h n = absurd (omega arith)
 
 -- ---- the colours
-abbrev pub unlike_at : List ℕ → List ℕ → ℕ → Bool
-unlike_at cache made i = not (eqb (at cache i) (at made i))
+not_not : (a : Bool) → not a ≡ true → a ≡ false
+not_not false e = refl
+not_not true e = sym e
 
-any_true : (n : ℕ) (f : ℕ → Bool) (k : ℕ) → k < n → f k ≡ true → any n f ≡ true
-any_true n f k h e = split (any n f) (λ t. t) (λ t. clash (sym e ∙ any_false n f t k h))
+not_false : (a : Bool) → not a ≡ false → a ≡ true
+not_false true e = refl
+not_false false e = sym e
 
-module _ (b : List ℕ) {cache made : List ℕ} (ec : cache ≡ (state_of b).color_cache) (em : made ≡ colours_of (state_of b).cram) where
-  pub unlike : (i : ℕ) → i < 32 → (at cache i ≡ at made i → ⊥) → false ≡ matching b
-  unfolding matching
-  unlike i h n =
-      let t : any 32 (unlike_at cache made) ≡ true = any_true 32 (unlike_at cache made) i h (rw (ne_eqb (at cache i) (at made i) n)) in
-      sym (rw (← ec, ← em, t))
+matching-Decides : (b : List ℕ) → Decides (matching b) ((state_of b).color_cache ≡ colours_of (state_of b).cram)
+unfolding matching state_of
+matching-Decides b =
+    let cache : List ℕ = (state_of b).color_cache in
+    let made : List ℕ = colours_of (state_of b).cram in
+    let f : ℕ → Bool = λ i. not (eqb (at cache i) (at made i)) in
+    let n : length cache ≡ 32 = length-colours_from 91 b in
+    let m : length made ≡ 32 = length_colours (state_of b).cram in (
+      (λ t. ext_get_or 0 cache made (n ∙ sym m)
+          (λ i h. eqb-true (at cache i) (at made i) (not_false (eqb (at cache i) (at made i)) (any_false 32 f (not_not (any 32 f) t) i (omega arith))))),
+      (λ e. ap not (any_none 32 f (λ i h. ap not (eq-eqb (at cache i) (at made i) (ap (λ (l : List ℕ). at l i) e))))),
+    )
 
-  pub alike : (i : ℕ) → 32 ≤ i → i ≤ 32 → any i (unlike_at cache made) ≡ false → true ≡ matching b
-  unfolding matching
-  alike i l h e =
-      let t : i ≡ 32 = omega arith in
-      let all : any 32 (unlike_at cache made) ≡ false = rw t at e in
-      sym (rw (← ec, ← em, all))
-
-pub like_more : (cache made : List ℕ) (i : ℕ) → any i (unlike_at cache made) ≡ false → at cache i ≡ at made i → any (i + 1) (unlike_at cache made) ≡
-    false
-unfolding any
-like_more cache made i e h = rw (add-one i, eq-eqb (at cache i) (at made i) h) e
-
--- ---- the copy
-pub copied_whole : (b : List ℕ) (i : ℕ) {r : List ℕ} → i ≡ length b → r ≡ paste (replicate 220 0) 0 b i → take (length b) r ≡ b
-copied_whole b i {r} e p =
-    let q : r ≡ paste (replicate 220 0) 0 b (length b) = p ∙ ap (paste (replicate 220 0) 0 b) e in
-    rw q (take_at (take (length b) b) _ (length b) (ap length (take-length b)) ∙ take-length b)
+pub matches : (b : List ℕ) {r : Bool} {cache made : List ℕ} → cache ≡ (state_of b).color_cache → made ≡ colours_of (state_of b).cram
+    → r ≡ pointwise eqb cache made → r ≡ matching b
+matches b {r} {cache} {made} ec em e =
+    same_from_decides r (matching b) (slice_eq-Decides Decides-eqb _ _ r (rw (ec, em) at e)) (matching-Decides b)
 
 -- ---- the block and the list, one offset at a time
 pub length-mended : (b : List ℕ) → length (mended b) ≡ length b
@@ -142,18 +144,15 @@ copy_at b w n k e h = sym (get_or-take n w k 0 h) ∙ ap (λ (x : List ℕ). at 
 
 -- ---- the call
 module _ (b l : List ℕ) where
-  pub ten : sized (length b) ≡ false → {r : Repaired} → r.refusal ≡ BlockMalformed → r.count ≡ 0 → RepairLeaves b l r b l
-  ten h e f = record { refusal = e ∙ sym (rw h); count = f ∙ sym (rw h); block = sym (rw h); list = sym (rw h) }
+  pub ten : sized (length b) ≡ false → RepairLeaves b l (Err BlockMalformed) b l
+  ten h = record { answer = sym (rw h); block = sym (rw h); list = sym (rw h) }
 
-  pub seventeen : sized (length b) ≡ true → length l < 220 → {r : Repaired} → r.refusal ≡ ListLength → r.count ≡ 0 → RepairLeaves b l r b l
-  seventeen h s e f =
-      let t = lt-ltb (length l) 220 s in
-      record { refusal = e ∙ sym (rw (h, t)); count = f ∙ sym (rw (h, t)); block = sym (rw (h, t)); list = sym (rw (h, t)) }
+  pub seventeen : sized (length b) ≡ true → length l < 220 → RepairLeaves b l (Err ListLength) b l
+  seventeen h s = let t = lt-ltb (length l) 220 s in record { answer = sym (rw (h, t)); block = sym (rw (h, t)); list = sym (rw (h, t)) }
 
   pub done :
-      sized (length b) ≡ true → 220 ≤ length l → {r : Repaired} {b' l' : List ℕ} → r.refusal ≡ Accepted → r.count ≡ length (changes b) → b' ≡
-      mended b
-      → l' ≡ written l 0 (changes b) → RepairLeaves b l r b' l'
-  done h s e f g i =
+      sized (length b) ≡ true → 220 ≤ length l → {n : ℕ} {b' l' : List ℕ} → n ≡ length (changes b) → b' ≡ mended b → l' ≡ written l 0 (changes b)
+      → RepairLeaves b l (Ok n) b' l'
+  done h s f g i =
       let t = le-ltb (length l) 220 s in
-      record { refusal = e ∙ sym (rw (h, t)); count = f ∙ sym (rw (h, t)); block = g ∙ sym (rw (h, t)); list = i ∙ sym (rw (h, t)) }
+      record { answer = ap Ok f ∙ sym (rw (h, t)); block = g ∙ sym (rw (h, t)); list = i ∙ sym (rw (h, t)) }

@@ -1,5 +1,6 @@
 -- What a repair is good for, proved.
 -- Assumes nothing.
+use Rattle.std.specs.Prelude.{None, Option, Some}
 use mathlib.Core.Path.{◌≡◌, refl, sym, ap, subst, ◌∙◌}
 use mathlib.Core.Logic.{◌≢◌}
 use mathlib.Core.Bool.{Bool, true, false, cond, not, ◌&&◌, ◌||◌, or-false}
@@ -16,7 +17,7 @@ use Rattle.laws.specs.Table.{table, table_from}
 use Rattle.laws.proofs.Parts.{part_table}
 use Rattle.laws.proofs.Tests.{split, both, clash, either}
 use Rattle.front.specs.declared.WriteDest.{WriteDest}
-use Rattle.front.specs.declared.WriteDest.TheVariants.{None, Vram, Cram}
+use Rattle.front.specs.declared.WriteDest.TheVariants.{Vram, Cram}
 use Rattle.vdp.specs.Refusals.{size}
 use Rattle.block.specs.Block.{sized, mark_of, state_of, well_formed}
 use Rattle.fields.specs.Fields.{flag_from, chosen_from, latch_fits}
@@ -28,10 +29,10 @@ use Rattle.block_repair.specs.Salvaged.{nothing_wrong, among, Salvaged}
 use Rattle.block_repair.proofs.Laws.{within_low, length-mended, at_mended}
 
 -- ---- the parts
-size_positive : (w : WriteDest) → 0 < size w
+size_positive : (w : Option WriteDest) → 0 < size w
 size_positive None = omega arith
-size_positive Vram = omega arith
-size_positive Cram = omega arith
+size_positive (Some Vram) = omega arith
+size_positive (Some Cram) = omega arith
 
 within_kept : (h x : ℕ) → x ≤ h → within h x ≡ x
 within_kept h x l = rw (le-leb x h l)
@@ -57,10 +58,10 @@ claimed zero h = refl
 claimed (suc zero) h = refl
 claimed (suc (suc d)) h = absurd (omega arith)
 
-size_high : (w : WriteDest) → size w ≤ 16384
+size_high : (w : Option WriteDest) → size w ≤ 16384
 size_high None = omega arith
-size_high Vram = omega arith
-size_high Cram = omega arith
+size_high (Some Vram) = omega arith
+size_high (Some Cram) = omega arith
 
 -- a flag that is right stays where its colours are
 by_flag : (d : ℕ) → d ≤ 1 → (t : Bool) → (flag_from d || t) ≡ true → cond (eqb d 0 && not t) 1 d ≡ d

@@ -1,16 +1,16 @@
 -- R17.1 to R17.5, salvage: a damaged state block b as it is mended, byte by byte, and the offsets that change.
 -- Assumes nothing.
-use Rattle.std.specs.Prelude.{◌≡◌, Bool, cond, not, ◌&&◌, List, [], ◌∷◌, ◌++◌, ℕ, zero, suc, ◌+◌, ◌*◌, ◌/◌, ◌%◌, eqb, leb, ltb, length}
+use Rattle.std.specs.Prelude.{◌≡◌, Bool, cond, not, ◌&&◌, List, [], ◌∷◌, ◌++◌, ℕ, zero, suc, ◌+◌, ◌*◌, ◌/◌, ◌%◌, eqb, leb, ltb, length, Result, Err}
 use Rattle.laws.specs.Bits.{any}
 use Rattle.laws.specs.Lists.{at, written}
 use Rattle.laws.specs.Table.{table}
 use Rattle.colour.specs.Colour.{colours_of}
+use Rattle.refusal.specs.declared.Refusal.{Refusal}
 use Rattle.refusal.specs.declared.Refusal.TheVariants.{BlockMalformed, ListLength}
 use Rattle.vdp.specs.Refusals.{size}
-use Rattle.refusal.specs.Refusals.{Line, line, first, under}
+use Rattle.refusal.specs.Refusals.{Line, line, first, under, answered}
 use Rattle.fields.specs.Fields.{chosen_from}
 use Rattle.block.specs.Block.{block_size, sized, mark_of, state_of}
-use Rattle.block_repair.specs.declared.Repaired.{Repaired}
 
 -- R17.1: a flag, table or choice above the highest that there is becomes 0
 abbrev pub within : ℕ → ℕ → ℕ
@@ -64,11 +64,10 @@ changes b = differing (length b) (at b) (mended_at b)
 
 -- ---- the call, on block b and a list buffer of so many bytes
 abbrev pub repair_lines : List ℕ → ℕ → List Line
-repair_lines b room = line (not (sized (length b))) BlockMalformed ∷ line (ltb room block_size) ListLength ∷ []
+repair_lines b room = line (not (sized (length b))) (Err BlockMalformed) ∷ line (ltb room block_size) (Err ListLength) ∷ []
 
--- What it promises of its answer r, the block and the list after it: refused, all is as it was.
-pub record RepairLeaves (b l : List ℕ) (r : Repaired) (b' l' : List ℕ) : Type 0 where
-  pub refusal : r.refusal ≡ first (repair_lines b (length l))
-  pub count : r.count ≡ under (repair_lines b (length l)) (λ f. 0) (length (changes b))
+-- What it promises of its answer r, how many offsets changed or why it was refused, and of the block and the list after it: refused, both are as they were.
+pub record RepairLeaves (b l : List ℕ) (r : Result ℕ Refusal) (b' l' : List ℕ) : Type 0 where
+  pub answer : r ≡ answered (length (changes b)) (first (repair_lines b (length l)))
   pub block : b' ≡ under (repair_lines b (length l)) (λ f. b) (mended b)
   pub list : l' ≡ under (repair_lines b (length l)) (λ f. l) (written l 0 (changes b))

@@ -1,7 +1,7 @@
 // Salvage (R17.1 to R17.5): a damaged state block, mended in the caller's buffer, and the offsets that changed.
 #![tactic(auto)]
 
-ghost use Rattle.std.specs.Prelude.{◌≡◌, Bool, ◌+◌, ◌*◌, ◌≤◌, ◌<◌, length, take};
+ghost use Rattle.std.specs.Prelude.{◌≡◌, Bool, ℕ, ◌+◌, ◌*◌, ◌≤◌, ◌<◌, length, take, Ok};
 ghost use Rattle.laws.specs.Lists.{at};
 ghost use Rattle.vdp.specs.Refusals.{size};
 ghost use Rattle.fields.specs.Fields.{chosen_from};
@@ -16,13 +16,6 @@ use fields::{
 use refusal::Refusal;
 use small::VRAM_ADDRESSES;
 use vdp::CRAM_SIZE;
-
-// What a repair answers: the refusal, and how many offsets have changed.
-#[derive(Clone, Copy)]
-pub struct Repaired {
-    pub refusal: Refusal,
-    pub count: usize,
-}
 
 // A byte that is at most `high`, else 0.
 fn in_range(high: u8, x: u8) -> u8
@@ -56,7 +49,7 @@ fn address_of(old: &[u8]) -> u16
     requires { old_size ≤ length old.now }
     ensures { result ≡ address old.now }
 {
-    small::word(old[ADDRESS], old[ADDRESS_HIGH]) % memory_size(in_range(2, old[CHOSEN]))
+    u16::from_le_bytes([old[ADDRESS], old[ADDRESS_HIGH]]) % memory_size(in_range(2, old[CHOSEN]))
 }
 
 // Whether the cached colours are the palette's.
@@ -64,19 +57,11 @@ fn same_colours(old: &[u8]) -> bool
     requires { old_size ≤ length old.now }
     ensures { result ≡ matching old.now }
 {
-    let cache = block::cache_in(old);
-    let made = colour::palette_recompute(block::palette_in(old));
-    let mut i = 0;
-    while i < 32 {
-        if cache[i] != made[i] {
-            return false;
-        }
-        i += 1;
-    }
-    true
+    block::cache_in(old) == colour::palette_recompute(block::palette_in(old))
 }
 
 // The dirty flag.
+#[tactic(auto, unfolding(crate::specs::Repair::dirty))]
 fn dirty_of(old: &[u8]) -> u8
     requires { old_size ≤ length old.now }
     ensures { result ≡ dirty old.now }
@@ -89,6 +74,7 @@ fn dirty_of(old: &[u8]) -> u8
 }
 
 // The mended byte at offset k.
+#[tactic(auto, unfolding(crate::specs::Repair::mended_at))]
 fn mended_byte(old: &[u8], k: usize) -> u8
     requires { (old_size ≤ length old.now) × (length old.now ≤ block_size) × (k < length old.now) }
     ensures { result ≡ mended_at old.now k }
@@ -116,52 +102,31 @@ fn copied(block: &[u8]) -> [u8; 220]
     ensures { take (length block.now) result ≡ block.now }
 {
     let mut old = [0u8; 220];
-    let mut i = 0;
-    while i < block.len() {
-        old[i] = block[i];
-        i += 1;
-    }
+    old[..block.len()].copy_from_slice(block);
     old
 }
 
-// The block mended, and the changed offsets at the start of the list.
-pub fn repair(block: &mut [u8], list: &mut [u8]) -> Repaired
+// The block mended, and the changed offsets at the start of the list; answered by how many there are.
+pub fn repair(block: &mut [u8], list: &mut [u8]) -> Result<usize, Refusal>
     ensures repair_leaves { RepairLeaves block.old list.old result block.new list.new }
-    ensures count_le_block_size { result.count ≤ block_size }
+    ensures count_le_block_size { (count : ℕ) → result ≡ Ok count → count ≤ block_size }
 {
-    if block.len() < OLD_SIZE {
-        return Repaired {
-            refusal: Refusal::BlockMalformed,
-            count: 0,
-        };
-    }
-    if BLOCK_SIZE < block.len() {
-        return Repaired {
-            refusal: Refusal::BlockMalformed,
-            count: 0,
-        };
+    if block.len() < OLD_SIZE || BLOCK_SIZE < block.len() {
+        return Err(Refusal::BlockMalformed);
     }
     if list.len() < BLOCK_SIZE {
-        return Repaired {
-            refusal: Refusal::ListLength,
-            count: 0,
-        };
+        return Err(Refusal::ListLength);
     }
     let n = block.len();
     let whole = copied(block);
     let mut count = 0;
-    let mut k = 0;
-    while k < n {
+    for k in 0..n {
         let byte = mended_byte(&whole[..n], k);
         if byte != whole[k] {
             list[count] = k as u8;
             count += 1;
         }
         block[k] = byte;
-        k += 1;
     }
-    Repaired {
-        refusal: Refusal::Accepted,
-        count: count,
-    }
+    Ok(count)
 }

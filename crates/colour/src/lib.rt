@@ -23,9 +23,9 @@ fn spread_high(x: u8) -> u8
 pub fn rgb(rg: u8, b: u8) -> u32
     ensures { result ≡ colour rg b }
 {
-    small::part(spread_low(rg))
-        + 256 * small::part(spread_high(rg))
-        + 65536 * small::part(spread_low(b))
+    u32::from(spread_low(rg))
+        + 256 * u32::from(spread_high(rg))
+        + 65536 * u32::from(spread_low(b))
         + 16777216 * 255
 }
 
@@ -33,13 +33,7 @@ pub fn rgb(rg: u8, b: u8) -> u32
 pub fn palette_recompute(cram: [u8; 64]) -> [u32; 32]
     ensures { result ≡ colours_of cram }
 {
-    let mut color_cache = [0u32; 32];
-    let mut color: usize = 0;
-    while color < 32 {
-        color_cache[color] = rgb(cram[2 * color], cram[2 * color + 1]);
-        color += 1;
-    }
-    color_cache
+    std::array::from_fn(|color| rgb(cram[2 * color], cram[2 * color + 1]))
 }
 
 // The low two bits of a palette byte, spread over a byte.
@@ -53,9 +47,9 @@ fn spread_two(x: u8) -> u8
 pub fn home_rgb(byte: u8) -> u32
     ensures { result ≡ home_colour byte }
 {
-    small::part(spread_two(byte))
-        + 256 * small::part(spread_two(byte / 4))
-        + 65536 * small::part(spread_two(byte / 16))
+    u32::from(spread_two(byte))
+        + 256 * u32::from(spread_two(byte / 4))
+        + 65536 * u32::from(spread_two(byte / 16))
         + 16777216 * 255
 }
 
@@ -63,11 +57,5 @@ pub fn home_rgb(byte: u8) -> u32
 pub fn home_palette_recompute(cram: [u8; 32]) -> [u32; 32]
     ensures { result ≡ home_colours_of cram }
 {
-    let mut color_cache = [0u32; 32];
-    let mut color: usize = 0;
-    while color < 32 {
-        color_cache[color] = home_rgb(cram[color]);
-        color += 1;
-    }
-    color_cache
+    std::array::from_fn(|color| home_rgb(cram[color]))
 }

@@ -17,11 +17,11 @@ pub struct Columns {
 pub fn fates(all: u8, held: u8, taken: u8, room: u8) -> Columns
     ensures { (result.marks ≡ bit_and all (255 - held)) × (result.drawn ≡ bit_and (bit_and (bit_and all (255 - held)) (255 - taken)) room) × (result.held ≡ bit_and all held) }
 {
-    let marks = all & (255 - held);
-    let drawn = marks & (255 - taken) & room;
+    let marks = all & !held;
+    let drawn = marks & !taken & room;
     Columns {
-        marks: marks,
-        drawn: drawn,
+        marks,
+        drawn,
         held: all & held,
     }
 }
@@ -34,7 +34,7 @@ pub fn owner_of(n: usize, drawn: bool, held: bool, own: u8) -> u8
     if drawn {
         return (64 + n) as u8;
     }
-    if small::both(held, own == 0) {
+    if held && own == 0 {
         return 1;
     }
     own

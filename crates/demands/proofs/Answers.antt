@@ -10,14 +10,13 @@ use lib.Dec.{eqb}
 use borrow.Author.Tests.{eq-eqb, eqb-true}
 use Rattle.laws.specs.Bits.{bit}
 use Rattle.laws.specs.Lists.{at}
-use Rattle.refusal.specs.declared.Refusal.{Refusal}
-use Rattle.refusal.specs.Refusals.{refusal_number, Line, first}
+use Rattle.refusal.specs.Refusals.{refusal_number, Line, first, Outcome}
 use Rattle.points.specs.declared.VdpInt.TheVariants.{InterruptGenerated, NoInterrupt}
 use Rattle.points.specs.declared.DisplayRefresh.TheVariants.{NoDisplay, ScreenDone, ScreenDoneNoRefresh}
 use Rattle.points.specs.Points.{report_by}
 use Rattle.face.proofs.Exact.{none, never}
 
-abbrev pub NotSeven : Refusal → Type 0
+abbrev pub NotSeven : Outcome → Type 0
 NotSeven r = refusal_number r ≢ 7
 
 -- a table that has no line of 7

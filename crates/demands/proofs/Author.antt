@@ -1,5 +1,6 @@
 -- The author's program, answered.
 -- Assumes nothing.
+use Rattle.std.specs.Prelude.{None, Option, Some, ℕ, Ok}
 use mathlib.Core.Path.{◌≡◌, refl, sym, ◌∙◌, ap, subst}
 use mathlib.Core.Logic.{◌↔◌, ◌≢◌}
 use mathlib.Core.Bool.{true}
@@ -25,15 +26,11 @@ use Rattle.front.specs.declared.Front.{Front}
 use Rattle.front.specs.declared.FrontWritten.{FrontWritten}
 use Rattle.vdp.specs.declared.VdpState.{VdpState}
 use Rattle.front.specs.declared.WriteDest.TheVariants.{Cram}
-use Rattle.front.specs.declared.Latch.{Latch}
-use Rattle.front.specs.declared.Latch.TheVariants.{Empty, Held}
-use Rattle.refusal.specs.declared.Refusal.TheVariants.{Accepted}
 use Rattle.front.specs.Front.{with_command, emptied, choosing, command_by, command_write, data_write}
 use Rattle.vdp.specs.Device.{made, fresh, front_of, with_front, with_addr, with_palette_byte}
 use Rattle.refusal.specs.Refusals.{whole}
 use Rattle.front.specs.Ports.{front_write}
 use Rattle.vdp.specs.Ports.{stored, written_by, port_write}
-use Rattle.points.specs.declared.DrawnRow.TheVariants.{Drawn}
 use Rattle.step.specs.Step.{frame_lines, frame_step_of}
 use Rattle.demands.specs.Handheld.{after, handheld}
 use Rattle.passes.specs.Pass.{Run, watched, device_after, then, until, ready, answer, frame_at, pass, line_set, picture_at}
@@ -53,7 +50,7 @@ use Rattle.demands.proofs.Handheld.{handheld_lawful, steps, other_colours, new_r
 record Holds (d : VdpState) (p : List ℕ) : Type 0 where
   cram : d.cram ≡ p
   reg : d.reg ≡ fresh.reg
-  latch : d.cmd_byte1 ≡ Empty
+  latch : d.cmd_byte1 ≡ None
 
 -- ---- the four writes, on any device with no byte latched
 module _ (m : List ℕ) (w : whole m ≡ true) where
@@ -66,35 +63,35 @@ module _ (m : List ℕ) (w : whole m ≡ true) where
   byte f v = rw w
 
   abbrev told : VdpState → ℕ → ℕ → VdpState
-  told d p v = (port_write d m p v).answer.vdp
+  told d p v = (port_write d m p v).answer.device
 
   -- what the front answers, on its device
-  by_front : (d : VdpState) (p v : ℕ) {a : FrontWritten} → (front_write 64 (front_of d) m p v).answer ≡ a → told d p v ≡ (written_by d v a).vdp
+  by_front : (d : VdpState) (p v : ℕ) {a : FrontWritten} → (front_write 64 (front_of d) m p v).answer ≡ a → told d p v ≡ (written_by d v a).device
   unfolding port_write
-  by_front d p v e = ap (λ (a : FrontWritten). (written_by d v a).vdp) e
+  by_front d p v e = ap (λ (a : FrontWritten). (written_by d v a).device) e
 
   -- the device with byte 6 latched, and with the palette chosen at 6
   abbrev waiting : VdpState → VdpState
-  waiting d = with_front d (with_command (front_of d) (Held 6))
+  waiting d = with_front d (with_command (front_of d) (Some 6))
 
   abbrev aimed : VdpState → VdpState
-  aimed d = with_front d (choosing (emptied (front_of d)) Cram 6)
+  aimed d = with_front d (choosing (emptied (front_of d)) (Some Cram) 6)
 
-  first : (d : VdpState) → d.cmd_byte1 ≡ Empty → told d 0xBF 0x06 ≡ waiting d
-  first d e = by_front d 0xBF 6 (command (front_of d) 6 ∙ ap (λ (l : Latch). command_by l 64 (front_of d) m 6) e)
+  first : (d : VdpState) → d.cmd_byte1 ≡ None → told d 0xBF 0x06 ≡ waiting d
+  first d e = by_front d 0xBF 6 (command (front_of d) 6 ∙ ap (λ (l : Option ℕ). command_by l 64 (front_of d) m 6) e)
 
-  chosen : (d : VdpState) → d.cmd_byte1 ≡ Empty → told (told d 0xBF 0x06) 0xBF 0xC0 ≡ aimed d
+  chosen : (d : VdpState) → d.cmd_byte1 ≡ None → told (told d 0xBF 0x06) 0xBF 0xC0 ≡ aimed d
   chosen d e =
       ap (λ (x : VdpState). told x 0xBF 0xC0) (first d e) ∙ by_front (waiting d) 0xBF 0xC0 (command (front_of (waiting d)) 0xC0)
 
-  low_byte : (d : VdpState) (low : ℕ) → told (aimed d) 0xBE low ≡ with_addr (with_palette_byte (aimed d) (Held low)) 7
+  low_byte : (d : VdpState) (low : ℕ) → told (aimed d) 0xBE low ≡ with_addr (with_palette_byte (aimed d) (Some low)) 7
   low_byte d low = by_front (aimed d) 0xBE low (byte (front_of (aimed d)) low)
 
   high_byte :
-      (d : VdpState) (low high : ℕ) → told (with_addr (with_palette_byte (aimed d) (Held low)) 7) 0xBE high
-      ≡ with_addr (stored (with_addr (with_palette_byte (aimed d) (Held low)) 7) 7 low (high % 16)) 8
+      (d : VdpState) (low high : ℕ) → told (with_addr (with_palette_byte (aimed d) (Some low)) 7) 0xBE high
+      ≡ with_addr (stored (with_addr (with_palette_byte (aimed d) (Some low)) 7) 7 low (high % 16)) 8
   high_byte d low high =
-      let x = with_addr (with_palette_byte (aimed d) (Held low)) 7 in
+      let x = with_addr (with_palette_byte (aimed d) (Some low)) 7 in
       by_front x 0xBE high (byte (front_of x) high)
 
   recolours : (d : VdpState) (p : List ℕ) (low high : ℕ) → Holds d p → Holds (told (told (told (told d 0xBF 0x06) 0xBF 0xC0) 0xBE low) 0xBE high)
@@ -247,7 +244,7 @@ module _ (low high : ℕ) (r : Run handheld VisibleOnly) (q : Asks low high (wat
     same_end = ap pass_length q₀.table
 
     module _ (x y j : ℕ) (h : x < 160) (k : y < 144) (l : j < 4) where
-      drawn : (answer r (y + 23)).row ≡ Drawn y
+      drawn : (answer r (y + 23)).row ≡ Some y
       drawn = set_row handheld_lawful r (y + 23) y k (line_at (y + 23) (omega arith) ∙ omega arith)
 
       -- the byte with the writes and without, in its pixel
@@ -282,7 +279,7 @@ module _ (low high : ℕ) (r : Run handheld VisibleOnly) (q : Asks low high (wat
 -- ---- such runs there are
 module _
     (t : LineTable) (vram : ℕ → List ℕ) (frame : List ℕ)
-    (accepted : (i : ℕ) (d : VdpState) → (frame_step_of VisibleOnly (vram i) (length frame) d).refusal ≡ Accepted) (low high : ℕ)
+    (accepted : (i : ℕ) (d : VdpState) → (frame_step_of VisibleOnly (vram i) (length frame) d).outcome ≡ (Ok tt)) (low high : ℕ)
   where
     abbrev run : Run handheld VisibleOnly
     run = asked t vram frame accepted low high
@@ -321,7 +318,7 @@ memory_length : length memory ≡ 16384
 unfolding memory
 memory_length = length-replicate {A = ℕ} 16384 0
 
-zeros_accepted : (i : ℕ) (d : VdpState) → (frame_step_of VisibleOnly memory (length zeros) d).refusal ≡ Accepted
+zeros_accepted : (i : ℕ) (d : VdpState) → (frame_step_of VisibleOnly memory (length zeros) d).outcome ≡ (Ok tt)
 zeros_accepted i d =
     accepts (frame_lines VisibleOnly memory (length zeros)) VisibleOnly memory d
     (frame_passes (screen_of VisibleOnly) memory (length zeros) memory_length frame_length)

@@ -1,5 +1,6 @@
 -- The handheld is a lawful machine, and what the demands say of it.
 -- Assumes nothing.
+use Rattle.std.specs.Prelude.{Some, Err, Ok}
 use mathlib.Core.Path.{◌≡◌, refl, sym, ◌∙◌, ap, subst}
 use mathlib.Core.Logic.{◌↔◌, ◌≢◌, inl, inr, ⊎_elim}
 use mathlib.Core.Bool.{Bool, true, false, not, ◌&&◌}
@@ -23,9 +24,9 @@ use Rattle.raster.specs.declared.LineTable.TheVariants.{Steps261, Steps262}
 use Rattle.raster.specs.Raster.{jump_line, jump_to, advanced, line_interrupt, ticked}
 use Rattle.raster.proofs.Tables.{jump_back, pass_is}
 use Rattle.vdp.specs.declared.VdpState.{VdpState}
-use Rattle.refusal.specs.declared.Refusal.TheVariants.{Accepted, NoPaletteByte, LayerLength}
+use Rattle.refusal.specs.declared.Refusal.TheVariants.{NoPaletteByte, LayerLength}
 use Rattle.vdp.specs.Device.{front_of}
-use Rattle.refusal.specs.Refusals.{Line, line as refusalLine}
+use Rattle.refusal.specs.Refusals.{Line, line as refusalLine, outcome_of}
 use Rattle.front.specs.Lines.{is_port, is_palette, is_empty}
 use Rattle.vdp.specs.Ports.{port_write, port_read}
 use Rattle.vdp.proofs.Exact.{write_exact, read_exact}
@@ -33,11 +34,10 @@ use Rattle.vdp.proofs.Invariant.{Aimed, write_aimed, read_aimed}
 use Rattle.front.proofs.Invariant.{front_write_inside, front_read_inside}
 use Rattle.refusal.proofs.Tables.{Refusing, refuses, under_either}
 use Rattle.pixel.specs.Pixel.{pixel_lines}
-use Rattle.step.specs.declared.Stepped.{Stepped}
+use Rattle.points.specs.declared.Stepped.{Stepped}
 use Rattle.points.specs.declared.VdpInt.TheVariants.{InterruptGenerated}
 use Rattle.points.specs.declared.DisplayRefresh.{DisplayRefresh}
 use Rattle.points.specs.declared.DisplayRefresh.TheVariants.{NoDisplay}
-use Rattle.points.specs.declared.DrawnRow.TheVariants.{Drawn}
 use Rattle.step.specs.Step.{register, line_of, reading_of, counter_up, row_on, stepped, refused_step, row_lines, frame_lines, step_with, row_step_of}
 use Rattle.step.specs.Step.{frame_step_of}
 use Rattle.step.specs.Frame.{frame_after, FrameStepLeaves}
@@ -74,14 +74,14 @@ use Rattle.demands.proofs.Steps.{colours_now_lem, stepped_clean, is_stepped, ref
 unmoved : (d : VdpState) → Left handheld d d
 unmoved d = record { moved = stays refl; clean = λ k. k; aimed = λ k. k }
 
-step_left : (ls : List Line) (a : RenderArea) (vram : List ℕ) (d : VdpState) → Left handheld d (step_with ls a vram d).vdp
+step_left : (ls : List Line) (a : RenderArea) (vram : List ℕ) (d : VdpState) → Left handheld d (step_with ls a vram d).device
 unfolding step_with
 step_left ls a vram d = under_either LeftBy ls (λ r. refused_step r d) (stepped a vram d) (λ _. unmoved d) (λ _. took)
   where
-    LeftBy : Stepped → Type 0
-    LeftBy s = Left handheld d s.vdp
+    LeftBy : Stepped VdpState → Type 0
+    LeftBy s = Left handheld d s.device
 
-    took : Left handheld d (stepped a vram d).vdp
+    took : Left handheld d (stepped a vram d).device
     took =
         record {
           moved = ticks (stepped_raster a vram d);
@@ -128,14 +128,14 @@ record Is (d : VdpState) (s : Told VdpState) : Type 0 where
   is : s ≡ told (stepped area vram d)
 
 accepted :
-    (ls : List Line) (a : RenderArea) (vram : List ℕ) (d : VdpState) (s : Told VdpState) → Refusing ls → s ≡ told (step_with ls a vram d) → s.refusal
-    ≡ Accepted → Is d s
+    (ls : List Line) (a : RenderArea) (vram : List ℕ) (d : VdpState) (s : Told VdpState) → Refusing ls → s ≡ told (step_with ls a vram d) → s.outcome
+    ≡ (Ok tt) → Is d s
 accepted ls a vram d s q e ok =
-    record { area = a; vram = vram; is = e ∙ ap told (is_stepped ls a vram d q (sym (ap (λ (x : Told VdpState). x.refusal) e) ∙ ok)) }
+    record { area = a; vram = vram; is = e ∙ ap told (is_stepped ls a vram d q (sym (ap (λ (x : Told VdpState). x.outcome) e) ∙ ok)) }
 
 -- the line of the layers refuses too
 also_refusing : (least size : ℕ) (ls : List Line) → Refusing ls → Refusing (also_layers least size ls)
-also_refusing least size [] q = (refuses LayerLength (λ z. omega arith), tt)
+also_refusing least size [] q = (refuses (Err LayerLength) (λ z. omega arith), tt)
 also_refusing least size (l ∷ ls) q = (q.0, also_refusing least size ls q.1)
 
 is_step : (c : Call) (d : VdpState) (s : Told VdpState) → Steps c d s → Is d s
@@ -163,19 +163,19 @@ interrupt_by_lem :
 interrupt_by_lem d s i off =
     subst (λ (x : Told VdpState). (x.interrupt ≡ InterruptGenerated) ↔ (line_interrupt (register d) (advanced (register d) d.raster) ≡ true))
     (sym i.is)
-    (rw (stepped_interrupt i.area i.vram d) (line_alone (bit (register d 1) 5) (bit (stepped i.area i.vram d).vdp.status 7) _ off))
+    (rw (stepped_interrupt i.area i.vram d) (line_alone (bit (register d 1) 5) (bit (stepped i.area i.vram d).device.status 7) _ off))
 
 -- ---- refusal 7
 module _ (d : VdpState) (m : List ℕ) (p : ℕ) (aimed : Aimed d) where
-  write_not : (v : ℕ) → NotSeven (port_write d m p v).answer.refusal
+  write_not : (v : ℕ) → NotSeven (port_write d m p v).answer.outcome
   write_not v =
       let own : Bool = is_port 0xBE p && is_palette d.dest && not (eqb (d.addr % 2) 0) && is_empty d.cram_byte1 in
-      rw (write_exact d m p v) (front_write_inside 64 (front_of d) m p aimed v (refusalLine own NoPaletteByte ∷ []) (λ _. omega arith, tt))
+      rw (write_exact d m p v) (front_write_inside 64 (front_of d) m p aimed v (refusalLine own (Err NoPaletteByte) ∷ []) (λ _. omega arith, tt))
 
-  read_not : NotSeven (port_read d m p).refusal
+  read_not : NotSeven (outcome_of (port_read d m p).byte)
   read_not = rw (read_exact d m p) (front_read_inside 64 (front_of d) m p aimed)
 
-step_not : (ls : List Line) (a : RenderArea) (vram : List ℕ) (d : VdpState) → none 7 ls ≡ true → NotSeven (step_with ls a vram d).refusal
+step_not : (ls : List Line) (a : RenderArea) (vram : List ℕ) (d : VdpState) → none 7 ls ≡ true → NotSeven (step_with ls a vram d).outcome
 step_not ls a vram d h = rw (step_exact ls a vram d) (without ls h)
 
 pub not_seven : (c : Call) (d : VdpState) → Aimed d → NotSeven (refusal_of c d)
@@ -192,28 +192,28 @@ not_seven (write_tile vram n codes) d h = without (write_tile_lines vram n codes
 not_seven (read_tile vram n k) d h = without (read_tile_lines vram n k) refl
 
 -- ---- the step on a frame
-module _ (a : RenderArea) (vram : List ℕ) (n : ℕ) (d : VdpState) (ok : (frame_step_of a vram n d).refusal ≡ Accepted) where
+module _ (a : RenderArea) (vram : List ℕ) (n : ℕ) (d : VdpState) (ok : (frame_step_of a vram n d).outcome ≡ (Ok tt)) where
   took : frame_step_of a vram n d ≡ stepped a vram d
   took = step_accepted (frame_lines a vram n) a vram d (frame_taken a vram n d ok)
 
   row_is : (frame_step_of a vram n d).row ≡ row_on a (line d.raster)
   unfolding advanced
-  row_is = ap (λ (s : Stepped). s.row) took ∙ stepped_row a vram d refl
+  row_is = ap (λ (s : Stepped VdpState). s.row) took ∙ stepped_row a vram d refl
 
   report_is : (line d.raster ≡ 193) ↔ ((frame_step_of a vram n d).report ≢ NoDisplay)
   unfolding advanced
   report_is =
       subst (λ (x : DisplayRefresh). (line d.raster ≡ 193) ↔ (x ≢ NoDisplay))
-      (sym (ap (λ (s : Stepped). s.report) took ∙ stepped_report a vram d))
+      (sym (ap (λ (s : Stepped VdpState). s.report) took ∙ stepped_report a vram d))
       (end_line_lem d.reg (line_of (counter_up d)))
 
 module _ (a : RenderArea) (vram : List ℕ) (d : VdpState) (frame : List ℕ) (y : ℕ) where
-  other : row_on a (line d.raster) ≢ Drawn y → row_of (row_size a) y (frame_after a vram d frame) ≡ row_of (row_size a) y frame
+  other : row_on a (line d.raster) ≢ Some y → row_of (row_size a) y (frame_after a vram d frame) ≡ row_of (row_size a) y frame
   unfolding advanced
   other n = frame_step_other a vram d frame y n
 
   own_row :
-      (frame_step_of a vram (length frame) d).refusal ≡ Accepted → Clean handheld d → row_on a (line d.raster) ≡ Drawn y →
+      (frame_step_of a vram (length frame) d).outcome ≡ (Ok tt) → Clean handheld d → row_on a (line d.raster) ≡ Some y →
       row_of (row_size a) y (frame_after a vram d frame)
       ≡ row_bytes (colours_of d.cram) (columns a) (picture_of a d.reg (advanced (register d) d.raster).vertical_scroll vram y)
   unfolding advanced
@@ -252,7 +252,7 @@ steps {a} r i = ap told (took a (r.vram i) (length r.frame) (ready r i) (r.accep
 
 -- what the frame step's contract says of each step of a run
 pub by_contract :
-    {a : RenderArea} (r : Run handheld a) (i : ℕ) (s : Stepped) → FrameStepLeaves a (r.vram i) (ready r i) (frame_at r i) s (frame_at r (suc i)) →
+    {a : RenderArea} (r : Run handheld a) (i : ℕ) (s : Stepped VdpState) → FrameStepLeaves a (r.vram i) (ready r i) (frame_at r i) s (frame_at r (suc i)) →
     told s ≡ answer r i
 unfolding answer
 by_contract {a} r i s leaves =
@@ -318,7 +318,7 @@ ninety r {old} {new} s = record { row_66 = row_66; row_67 = row_67 }
     c : ColourSplit s
     c = colour_split-visible r s
 
-    drew : (answer r s.moment.step).row ≡ Drawn 66
+    drew : (answer r s.moment.step).row ≡ Some 66
     drew = set_row handheld_lawful r s.moment.step 66 (omega arith) s.moment.sets
 
     row_66 : row_at_end (watched r) 66 ≡ row_bytes (colours_of old) 160 (picture_at (watched r) s.moment.step 66)

@@ -1,5 +1,6 @@
 -- The home machine is a lawful machine, and what the demands say of it.
 -- Assumes nothing.
+use Rattle.std.specs.Prelude.{Some, Ok}
 use mathlib.Core.Path.{◌≡◌, refl, sym, ◌∙◌, ap, subst}
 use mathlib.Core.Logic.{◌↔◌, ◌≢◌}
 use mathlib.Core.Bool.{true, false}
@@ -19,19 +20,17 @@ use Rattle.picture.specs.declared.Screen.TheVariants.{Home}
 use Rattle.picture.specs.Screen.{columns, rows, first_line, row_size, picture_of, row_bytes}
 use Rattle.raster.specs.declared.LineTable.{LineTable}
 use Rattle.raster.specs.Raster.{jump_to, advanced, line_interrupt, ticked}
-use Rattle.refusal.specs.declared.Refusal.TheVariants.{Accepted}
 use Rattle.refusal.specs.Refusals.{refusal_number, Line, first}
 use Rattle.refusal.proofs.Tables.{Refusing}
 use Rattle.points.specs.declared.VdpInt.TheVariants.{InterruptGenerated}
 use Rattle.points.specs.declared.DisplayRefresh.{DisplayRefresh}
 use Rattle.points.specs.declared.DisplayRefresh.TheVariants.{NoDisplay}
-use Rattle.points.specs.declared.DrawnRow.TheVariants.{Drawn}
 use Rattle.points.specs.Points.{row_on, row_lines, frame_lines}
 use Rattle.dump.specs.Sheet.{dump_lines}
 use Rattle.points.proofs.Laws.{row_refusing, frame_refusing}
 use Rattle.dump.proofs.Sheets.{dump_exact}
 use Rattle.home.specs.declared.HomeState.{HomeState}
-use Rattle.home.specs.declared.HomeStepped.{HomeStepped}
+use Rattle.points.specs.declared.Stepped.{Stepped}
 use Rattle.home.specs.Home.{made}
 use Rattle.home.specs.Ports.{read_lines}
 use Rattle.home.specs.Step.{register, line_of, counter_up, stepped, step_with, row_step_of, frame_step_of, frame_after, FrameStepLeaves}
@@ -64,7 +63,7 @@ use Rattle.passes.proofs.Shows.{write_shows}
 unmoved : (h : HomeState) → Left home h h
 unmoved h = record { moved = stays refl; clean = λ k. k; aimed = λ k. k }
 
-step_left : (ls : List Line) (vram : List ℕ) (h : HomeState) → Left home h (step_with ls vram h).home
+step_left : (ls : List Line) (vram : List ℕ) (h : HomeState) → Left home h (step_with ls vram h).device
 step_left ls vram h =
     step_either ls vram h (Left home h) (unmoved h)
     (λ _. record { moved = ticks (stepped_raster vram h); clean = stepped_clean vram h; aimed = stepped_aimed vram h })
@@ -99,10 +98,10 @@ record Is (h : HomeState) (s : Told HomeState) : Type 0 where
   is : s ≡ told (stepped vram h)
 
 accepted :
-    (ls : List Line) (vram : List ℕ) (h : HomeState) (s : Told HomeState) → Refusing ls → s ≡ told (step_with ls vram h) → s.refusal ≡ Accepted → Is
+    (ls : List Line) (vram : List ℕ) (h : HomeState) (s : Told HomeState) → Refusing ls → s ≡ told (step_with ls vram h) → s.outcome ≡ (Ok tt) → Is
     h s
 accepted ls vram h s q e ok =
-    record { vram = vram; is = e ∙ ap told (is_stepped ls vram h q (sym (ap (λ (x : Told HomeState). x.refusal) e) ∙ ok)) }
+    record { vram = vram; is = e ∙ ap told (is_stepped ls vram h q (sym (ap (λ (x : Told HomeState). x.outcome) e) ∙ ok)) }
 
 is_step : (c : Call) (h : HomeState) (s : Told HomeState) → Steps c h s → Is h s
 is_step (out p v m) h s e = absurd e
@@ -122,10 +121,10 @@ interrupt_by_lem :
 interrupt_by_lem h s i off =
     subst (λ (x : Told HomeState). (x.interrupt ≡ InterruptGenerated) ↔ (line_interrupt (register h) (advanced (register h) h.raster) ≡ true))
     (sym i.is)
-    (rw (stepped_interrupt i.vram h) (line_alone (bit (register h 1) 5) (bit (stepped i.vram h).home.front.status 7) _ off))
+    (rw (stepped_interrupt i.vram h) (line_alone (bit (register h 1) 5) (bit (stepped i.vram h).device.front.status 7) _ off))
 
 -- ---- refusals
-step_not : (ls : List Line) (vram : List ℕ) (h : HomeState) → none 7 ls ≡ true → NotSeven (step_with ls vram h).refusal
+step_not : (ls : List Line) (vram : List ℕ) (h : HomeState) → none 7 ls ≡ true → NotSeven (step_with ls vram h).outcome
 step_not ls vram h e = rw (step_exact ls vram h) (without ls e)
 
 not_seven : (c : Call) (h : HomeState) → home.addr h < home.room h → NotSeven (refusal_of c h)
@@ -139,28 +138,28 @@ not_seven (write_tile vram n codes) h k = without (write_tile_lines vram n codes
 not_seven (read_tile vram n k) h l = without (read_tile_lines vram n k) refl
 
 -- ---- the step on a frame
-module _ (vram : List ℕ) (n : ℕ) (h : HomeState) (ok : (frame_step_of vram n h).refusal ≡ Accepted) where
+module _ (vram : List ℕ) (n : ℕ) (h : HomeState) (ok : (frame_step_of vram n h).outcome ≡ (Ok tt)) where
   took : frame_step_of vram n h ≡ stepped vram h
   took = is_stepped (frame_lines Home vram n) vram h (frame_refusing Home vram n) ok
 
   row_is : (frame_step_of vram n h).row ≡ row_on Home (line h.raster)
   unfolding advanced
-  row_is = ap (λ (s : HomeStepped). s.row) took ∙ stepped_row vram h refl
+  row_is = ap (λ (s : Stepped HomeState). s.row) took ∙ stepped_row vram h refl
 
   report_is : (line h.raster ≡ 193) ↔ ((frame_step_of vram n h).report ≢ NoDisplay)
   unfolding advanced
   report_is =
       subst (λ (x : DisplayRefresh). (line h.raster ≡ 193) ↔ (x ≢ NoDisplay))
-      (sym (ap (λ (s : HomeStepped). s.report) took ∙ stepped_report vram h))
+      (sym (ap (λ (s : Stepped HomeState). s.report) took ∙ stepped_report vram h))
       (end_line_lem h.front.reg (line_of (counter_up h)))
 
 module _ (vram : List ℕ) (h : HomeState) (frame : List ℕ) (y : ℕ) where
-  other : row_on Home (line h.raster) ≢ Drawn y → row_of (row_size Home) y (frame_after vram h frame) ≡ row_of (row_size Home) y frame
+  other : row_on Home (line h.raster) ≢ Some y → row_of (row_size Home) y (frame_after vram h frame) ≡ row_of (row_size Home) y frame
   unfolding advanced
   other n = frame_step_other vram h frame y n
 
   own_row :
-      (frame_step_of vram (length frame) h).refusal ≡ Accepted → Clean home h → row_on Home (line h.raster) ≡ Drawn y →
+      (frame_step_of vram (length frame) h).outcome ≡ (Ok tt) → Clean home h → row_on Home (line h.raster) ≡ Some y →
       row_of (row_size Home) y (frame_after vram h frame)
       ≡ row_bytes (home_colours_of h.cram) (columns Home)
       (picture_of Home h.front.reg (advanced (register h) h.raster).vertical_scroll vram y)
@@ -213,7 +212,7 @@ steps_home r i = ap told (took (r.vram i) (length r.frame) (ready r i) (r.accept
 
 -- what the frame step's contract says of each step of a run
 pub by_contract_home :
-    (r : Run home tt) (i : ℕ) (s : HomeStepped) → FrameStepLeaves (r.vram i) (ready r i) (frame_at r i) s (frame_at r (suc i)) → told s ≡ answer r i
+    (r : Run home tt) (i : ℕ) (s : Stepped HomeState) → FrameStepLeaves (r.vram i) (ready r i) (frame_at r i) s (frame_at r (suc i)) → told s ≡ answer r i
 unfolding answer
 by_contract_home r i s leaves = ap told leaves.answer ∙ ap (λ (n : ℕ). told (frame_step_of (r.vram i) n (ready r i))) (same_length home_lawful r i)
 

@@ -1,5 +1,6 @@
 -- What a layer tells, and that layers change nothing else, proved.
 -- Assumes nothing.
+use Rattle.std.specs.Prelude.{None, Option, Some, ℕ, Err}
 use mathlib.Core.Path.{◌≡◌, refl, sym, ap, ◌∙◌}
 use mathlib.Core.Logic.{◌↔◌, ◌⊎◌, inl, inr, ⊎_elim}
 use mathlib.Core.Bool.{Bool, true, false, cond, ◌&&◌, ◌||◌}
@@ -27,8 +28,6 @@ use Rattle.vdp.specs.declared.VdpState.{VdpState}
 use Rattle.refusal.specs.declared.Refusal.TheVariants.{LayerLength}
 use Rattle.refusal.specs.Refusals.{Line, first}
 use Rattle.refusal.proofs.Tables.{Passed, passed, under_either}
-use Rattle.points.specs.declared.DrawnRow.{DrawnRow}
-use Rattle.points.specs.declared.DrawnRow.TheVariants.{NoRow, Drawn}
 use Rattle.step.specs.Step.{row_lines, frame_lines, reading_of, refused_step, stepped, step_with}
 use Rattle.points.specs.Points.{coming_row}
 use Rattle.points.specs.Bytes.{layers_by, row_filled, frame_filled, coming_layers, layers_filled, also_layers}
@@ -271,14 +270,14 @@ owned-home a vram h y x = owned-on Home h.front.reg h.raster.vertical_scroll vra
 
 -- ---- a step
 module _ (a : RenderArea) (vram : List ℕ) (d : VdpState) (pixels layers : List ℕ) where
-  abbrev layers_told : DrawnRow → List ℕ
+  abbrev layers_told : Option ℕ → List ℕ
   layers_told r = layers_by r (screen_of a) (coming_layers (screen_of a) vram (reading_of d)) layers
 
   -- the layer buffer with a row's layers: its length, and what is behind them
-  length-by : (r : DrawnRow) → length (layers_told r) ≡ length layers
+  length-by : (r : Option ℕ) → length (layers_told r) ≡ length layers
   unfolding layers_by
-  length-by NoRow = refl
-  length-by (Drawn y) = length-layers_in layers (columns a) (coming_layers (screen_of a) vram (reading_of d) y)
+  length-by None = refl
+  length-by (Some y) = length-layers_in layers (columns a) (coming_layers (screen_of a) vram (reading_of d) y)
 
   behind : (f : ℕ → ℕ) → drop (columns a) (layers_in layers (columns a) f) ≡ drop (columns a) layers
   unfolding layers_in
@@ -286,12 +285,12 @@ module _ (a : RenderArea) (vram : List ℕ) (d : VdpState) (pixels layers : List
       split (leb (columns a) (length layers)) (λ e. rw e (drop_at (table (columns a) f) (drop (columns a) layers) (columns a)
       (length-table (columns a) f))) (λ e. rw e)
 
-  past_by : (r : DrawnRow) → drop (columns a) (layers_told r) ≡ drop (columns a) layers
+  past_by : (r : Option ℕ) → drop (columns a) (layers_told r) ≡ drop (columns a) layers
   unfolding layers_by
-  past_by NoRow = refl
-  past_by (Drawn y) = behind (coming_layers (screen_of a) vram (reading_of d) y)
+  past_by None = refl
+  past_by (Some y) = behind (coming_layers (screen_of a) vram (reading_of d) y)
 
-last_of : (least size : ℕ) (ls : List Line) → size < least → Passed ls → first (also_layers least size ls) ≡ LayerLength
+last_of : (least size : ℕ) (ls : List Line) → size < least → Passed ls → first (also_layers least size ls) ≡ (Err LayerLength)
 last_of least size [] h p = rw (lt-ltb size least h)
 last_of least size (l ∷ ls) h p = rw p.0 (last_of least size ls h p.1)
 

@@ -1,12 +1,21 @@
 -- One outcome for every public contract: each theorem names the contract that the toolchain generates from the function's own clauses.
 -- Assumes nothing.
 use mathlib.Core.Path.{◌≡◌, refl, sym, ap, ◌∙◌}
-use Prim.Native.Nat.{ℕ, ◌+◌, ◌-◌, ◌%◌, ◌≤◌}
-use native.Mathlib.Decide.{dec_lt}
+use Prim.Native.Nat.{ℕ, ◌+◌, ◌-◌, ◌%◌, ◌<◌, ◌≤◌}
 use native.Mathlib.Omega.{arith}
+use denote.RattleType.{RattleType}
+use denote.Param.Laws.{Laws, IsCopy}
+use mir.Syntax.{Dict}
 use Rattle.laws.specs.Lists.{at}
 use Rattle.picture.specs.Picture.{top_of}
+use Rattle.picture.specs.Area.{Names}
+use Rattle.picture.specs.declared.RenderArea.{RenderArea}
+use Rattle.picture.specs.declared.UnknownArea.{UnknownArea}
 use Rattle.sprites.specs.Sprites.{Follows}
+use Rattle.sprites.specs.declared.Next.{Next}
+use Rattle.std.specs.Prelude.{MatchOption, IfSome, Result, Ok, Err}
+use Rattle.std.specs.declared.option.Option.{Option}
+use Rattle.std.specs.declared.option.Option.TheVariants.{None, Some}
 use Rattle.demands.specs.Outcome.{OneOutcome, OneOutcomeSeen, PaintedRow}
 use Rattle.bitmap.proofs.Bitmap.new as bitmap-new
 use Rattle.bitmap.proofs.Bitmap.set as bitmap-set
@@ -22,19 +31,16 @@ use Rattle.colour.proofs.home_palette_recompute
 use Rattle.raster.proofs.Raster.advance
 use Rattle.raster.proofs.Raster.line_interrupt_is_up
 use Rattle.raster.proofs.Raster.line_interrupt_update
-use Rattle.raster.proofs.table_number
+use Rattle.raster.proofs.U8FromLineTable.from as table-number
 use Rattle.raster.proofs.table_from
 use Rattle.raster.proofs.unnamed_table
 use Rattle.picture.proofs.area_from
+use Rattle.picture.proofs.RenderAreaTryFromU8.try_from as area-named
+use Rattle.picture.proofs.U8FromRenderArea.from as area-numbered
 use Rattle.picture.proofs.screen_of
-use Rattle.small.proofs.wide
-use Rattle.small.proofs.part
-use Rattle.small.proofs.word as small_word
 use Rattle.small.proofs.four_at
-use Rattle.small.proofs.smaller
 use Rattle.small.proofs.weight
 use Rattle.small.proofs.is_set
-use Rattle.small.proofs.both
 use Rattle.tile.proofs.mark
 use Rattle.tile.proofs.pixel_code
 use Rattle.tile.proofs.pixel_set_full
@@ -63,15 +69,15 @@ use Rattle.pixel.proofs.one_column.column_at
 use Rattle.pixel.proofs.spot_at
 use Rattle.row.proofs.render_line
 use Rattle.refusal.proofs.refusal_number
+use Rattle.refusal.proofs.U8FromRefusal.from as refusal-numbered
 use Rattle.front.proofs.Front.write as front_write
 use Rattle.front.proofs.Front.read as front_read
-use Rattle.vdp.specs.Device.{fresh}
 use Rattle.vdp.proofs.VdpState.new
 use Rattle.vdp.proofs.VdpState.with_table
 use Rattle.vdp.proofs.VdpState.out
 use Rattle.vdp.proofs.VdpState.input
-use Rattle.points.proofs.interrupt_number
-use Rattle.points.proofs.report_number
+use Rattle.points.proofs.U8FromVdpInt.from as interrupt-number
+use Rattle.points.proofs.U8FromDisplayRefresh.from as report-number
 use Rattle.points.proofs.row_size
 use Rattle.points.proofs.row_due
 use Rattle.points.proofs.row_count
@@ -83,6 +89,19 @@ use Rattle.row.proofs.points_run.draw_in
 use Rattle.row.proofs.points_run.row_points
 use Rattle.row.proofs.points_run.frame_points
 use Rattle.row.proofs.points_run.layer_row_points
+use Rattle.std.specs.declared.clone.Clone as Clone
+use Rattle.row.specs.declared.machine.Machine as Machine
+use Rattle.row.specs.Machine.{joined_by}
+use Rattle.row.proofs.machine.Machine.registers as machine-registers
+use Rattle.row.proofs.machine.Machine.raster as machine-raster
+use Rattle.row.proofs.machine.Machine.status as machine-status
+use Rattle.row.proofs.machine.Machine.colours as machine-colours
+use Rattle.row.proofs.machine.Machine.after as machine-after
+use Rattle.row.proofs.machine.join as machine-join
+use Rattle.row.proofs.machine.row_step as machine-row-step
+use Rattle.row.proofs.machine.frame_step as machine-frame-step
+use Rattle.row.proofs.machine.layer_row_step as machine-layer-row-step
+use Rattle.look.proofs.machine_look.layer_frame_step as machine-layer-frame-step
 use Rattle.look.proofs.layer_frame_points
 use Rattle.step.proofs.row_step
 use Rattle.step.proofs.frame_step
@@ -129,7 +148,6 @@ use Rattle.block.proofs.palette_in
 use Rattle.block.proofs.cache_in
 use Rattle.block.proofs.cached_colour
 use Rattle.block_repair.proofs.repair
-use Rattle.program.proofs.same
 use Rattle.trace_record.proofs.record_at
 use Rattle.trace_record.proofs.record_on
 use Rattle.trace_record.proofs.area_number
@@ -211,7 +229,7 @@ pub home_palette_recompute_once : OneOutcome 0 home_palette_recompute.Kinds.ps h
 home_palette_recompute_once κs a q z z' w w' e f = (e ∙ sym f, refl)
 
 -- ---- raster
-pub table_number_once : OneOutcome 0 table_number.Kinds.ps table_number.Kinds.r table_number.Reads.Asked table_number.Reads.Learnt
+pub table_number_once : OneOutcome 0 table-number.Kinds.ps table-number.Kinds.r table-number.Reads.Asked table-number.Reads.Learnt
 table_number_once κs a q z z' w w' e f = (e ∙ sym f, refl)
 
 pub table_from_once : OneOutcome 0 table_from.Kinds.ps table_from.Kinds.r table_from.Reads.Asked table_from.Reads.Learnt
@@ -235,33 +253,30 @@ line_interrupt_update_once κs a q z z' w w' e f = (e ∙ sym f, refl)
 pub area_from_once : OneOutcome 0 area_from.Kinds.ps area_from.Kinds.r area_from.Reads.Asked area_from.Reads.Learnt
 area_from_once κs a q z z' w w' e f = (e ∙ sym f, refl)
 
+names_one : (n : ℕ) (r s : Result RenderArea UnknownArea) → Names n r → Names n s → r ≡ s
+names_one n (Ok a) (Ok b) e f = ap Ok (e.1 ∙ sym f.1)
+names_one n (Ok a) (Err y) e f = absurd (omega (arith, e.0))
+names_one n (Err x) (Ok b) e f = absurd (omega (arith, f.0))
+names_one n (Err x) (Err y) e f = refl
+
+pub area_named_once : OneOutcome 0 area-named.Kinds.ps area-named.Kinds.r area-named.Reads.Asked area-named.Reads.Learnt
+area_named_once κs a q z z' w w' e f = (names_one a.0 z z' e f, refl)
+
+pub area_numbered_once : OneOutcome 0 area-numbered.Kinds.ps area-numbered.Kinds.r area-numbered.Reads.Asked area-numbered.Reads.Learnt
+area_numbered_once κs a q z z' w w' e f = (e ∙ sym f, refl)
+
 pub screen_of_once : OneOutcome 0 screen_of.Kinds.ps screen_of.Kinds.r screen_of.Reads.Asked screen_of.Reads.Learnt
 screen_of_once κs a q z z' w w' e f = (e ∙ sym f, refl)
 
 -- ---- small
-pub wide_once : OneOutcome 0 wide.Kinds.ps wide.Kinds.r wide.Reads.Asked wide.Reads.Learnt
-wide_once κs a q z z' w w' e f = (e.0 ∙ sym f.0, refl)
-
-pub part_once : OneOutcome 0 part.Kinds.ps part.Kinds.r part.Reads.Asked part.Reads.Learnt
-part_once κs a q z z' w w' e f = (e.0 ∙ sym f.0, refl)
-
-pub small_word_once : OneOutcome 0 small_word.Kinds.ps small_word.Kinds.r small_word.Reads.Asked small_word.Reads.Learnt
-small_word_once κs a q z z' w w' e f = (e ∙ sym f, refl)
-
 pub four_at_once : OneOutcome 1 four_at.Kinds.ps four_at.Kinds.r four_at.Reads.Asked four_at.Reads.Learnt
 four_at_once κs a q z z' w w' e f = (e ∙ sym f, refl)
-
-pub smaller_once : OneOutcome 0 smaller.Kinds.ps smaller.Kinds.r smaller.Reads.Asked smaller.Reads.Learnt
-smaller_once κs a q z z' w w' e f = (e ∙ sym f, refl)
 
 pub weight_once : OneOutcome 0 weight.Kinds.ps weight.Kinds.r weight.Reads.Asked weight.Reads.Learnt
 weight_once κs a q z z' w w' e f = (e.0 ∙ sym f.0, refl)
 
 pub is_set_once : OneOutcome 0 is_set.Kinds.ps is_set.Kinds.r is_set.Reads.Asked is_set.Reads.Learnt
 is_set_once κs a q z z' w w' e f = (e ∙ sym f, refl)
-
-pub both_once : OneOutcome 0 both.Kinds.ps both.Kinds.r both.Reads.Asked both.Reads.Learnt
-both_once κs a q z z' w w' e f = (e ∙ sym f, refl)
 
 -- ---- column
 pub fates_once : OneOutcome 0 fates.Kinds.ps fates.Kinds.r fates.Reads.Asked fates.Reads.Learnt
@@ -357,31 +372,23 @@ height_once κs a q z z' w w' e f = (e.0 ∙ sym f.0, refl)
 pub sprite_line_at_once : OneOutcome 0 sprite-line-at.Kinds.ps sprite-line-at.Kinds.r sprite-line-at.Reads.Asked sprite-line-at.Reads.Learnt
 sprite_line_at_once κs a q z z' w w' e f = (e.0 ∙ sym f.0, refl)
 
--- what the list begins with is one sprite, and its line one; there is no line where there is no sprite
-same_next : {m g : ℕ → ℕ} {l from n n' d d' : ℕ} → Follows m g l from n d → Follows m g l from n' d' → (n ≤ 64) × (64 ≤ n → d ≡ 0) → (n' ≤ 64) ×
-    (64 ≤ n' → d' ≡ 0)
-    → (n ≡ n') × (d ≡ d')
-same_next {m} {g} {l} {n} {n'} {d} {d'} e f b c =
-    elim (dec_lt n 64) [
-      | yes h ↦
-          elim (dec_lt n' 64) [
-            | yes k ↦
-                let s = sym (e.next h) ∙ f.next k in
-                let q : n ≡ n' = cc in
-                (q, e.below h ∙ ap (λ (i : ℕ). l - top_of m g i) q ∙ sym (f.below k))
-            | no k ↦ let s = sym (e.next h) ∙ f.none (omega arith) in absurd (let z : ◌≡◌ {A = ℕ} 0 1 = cc in omega arith)
-          ]
-      | no h ↦
-          elim (dec_lt n' 64) [
-            | yes k ↦ let s = sym (f.next k) ∙ e.none (omega arith) in absurd (let z : ◌≡◌ {A = ℕ} 0 1 = cc in omega arith)
-            | no k ↦ (omega (arith, b.0, c.0), b.1 (omega arith) ∙ sym (c.1 (omega arith)))
-          ]
-    ]
+-- what the list begins with is one sprite, and its line one; it begins with none, or with one
+same_next : (m g : ℕ → ℕ) (l from : ℕ) (z z' : Option Next)
+    → MatchOption z (Follows m g l from 64 0) (λ s. Follows m g l from s.n s.d) → IfSome z (λ s. (from ≤ s.n) × (s.n < 64) × (s.d < 16))
+    → MatchOption z' (Follows m g l from 64 0) (λ s. Follows m g l from s.n s.d) → IfSome z' (λ s. (from ≤ s.n) × (s.n < 64) × (s.d < 16)) → z ≡ z'
+same_next m g l from None None e b f c = refl
+same_next m g l from None (Some s) e b f c =
+    let s = sym (f.next c.1) ∙ e.none (omega arith) in absurd (let z : ◌≡◌ {A = ℕ} 0 1 = cc in omega arith)
+same_next m g l from (Some s) None e b f c =
+    let s = sym (e.next b.1) ∙ f.none (omega arith) in absurd (let z : ◌≡◌ {A = ℕ} 0 1 = cc in omega arith)
+same_next m g l from (Some s) (Some t) e b f c =
+    let both = sym (e.next b.1) ∙ f.next c.1 in
+    let n : s.n ≡ t.n = cc in
+    let d : s.d ≡ t.d = e.below b.1 ∙ ap (λ (i : ℕ). l - top_of m g i) n ∙ sym (f.below c.1) in
+    λ i. Some (record { n = n i; d = d i })
 
 pub next_sprite_once : OneOutcome 1 next_sprite.Kinds.ps next_sprite.Kinds.r next_sprite.Reads.Asked next_sprite.Reads.Learnt
-next_sprite_once κs a q z z' w w' e f =
-    let s = same_next e.0 f.0 (e.1.1, e.1.3) (f.1.1, f.1.3) in
-    (λ i. record { n = s.0 i; d = s.1 i }, refl)
+next_sprite_once κs a q z z' w w' e f = (same_next _ _ _ _ z z' e.0 e.1 f.0 f.1, refl)
 
 -- the contract speaks of a row that is painted in the colours, as `row` lends it
 pub render_sprites_line_once :
@@ -413,6 +420,9 @@ render_line_once κs a q z z' w w' e f =
     (e.0.status ∙ sym f.0.status, λ i. ((e.0.bytes ∙ sym f.0.bytes) i, ((e.1 ∙ sym f.1) i, w.1.1)))
 
 -- ---- vdp
+pub refusal_numbered_once : OneOutcome 0 refusal-numbered.Kinds.ps refusal-numbered.Kinds.r refusal-numbered.Reads.Asked refusal-numbered.Reads.Learnt
+refusal_numbered_once κs a q z z' w w' e f = (e ∙ sym f, refl)
+
 pub refusal_number_once : OneOutcome 0 refusal_number.Kinds.ps refusal_number.Kinds.r refusal_number.Reads.Asked refusal_number.Reads.Learnt
 refusal_number_once κs a q z z' w w' e f = (e.0 ∙ sym f.0, refl)
 
@@ -435,10 +445,10 @@ pub input_once : OneOutcome 1 input.Kinds.ps input.Kinds.r input.Reads.Asked inp
 input_once κs a q z z' w w' e f = (e ∙ sym f, refl)
 
 -- ---- step
-pub interrupt_number_once : OneOutcome 0 interrupt_number.Kinds.ps interrupt_number.Kinds.r interrupt_number.Reads.Asked interrupt_number.Reads.Learnt
+pub interrupt_number_once : OneOutcome 0 interrupt-number.Kinds.ps interrupt-number.Kinds.r interrupt-number.Reads.Asked interrupt-number.Reads.Learnt
 interrupt_number_once κs a q z z' w w' e f = (e.0 ∙ sym f.0, refl)
 
-pub report_number_once : OneOutcome 0 report_number.Kinds.ps report_number.Kinds.r report_number.Reads.Asked report_number.Reads.Learnt
+pub report_number_once : OneOutcome 0 report-number.Kinds.ps report-number.Kinds.r report-number.Reads.Asked report-number.Reads.Learnt
 report_number_once κs a q z z' w w' e f = (e.0 ∙ sym f.0, refl)
 
 pub row_size_once : OneOutcome 0 row_size.Kinds.ps row_size.Kinds.r row_size.Reads.Asked row_size.Reads.Learnt
@@ -501,6 +511,79 @@ pub layer_row_step_once : OneOutcome 3 layer_row_step.Kinds.ps layer_row_step.Ki
 layer_row_step_once κs a q z z' w w' e f =
     (e.answer ∙ sym f.answer, λ i. (tt, (tt, ((e.bytes ∙ sym f.bytes) i, ((e.owners ∙ sym f.owners) i, w.1.1.1.1)))))
 
+-- ---- the step of any machine: its type T, the type U of its record, and the members of its `Machine`
+pub machine_registers_once :
+    (T U : RattleType) (L : Laws T) (M : Laws U) (C : IsCopy U) (g : Machine.Ghosts T.Denot U.Denot) (i : Dict) (k : Clone.Ghosts U.Denot) (j : Dict) →
+    OneOutcome 3 (machine-registers.Kinds.ps T U L M C) (machine-registers.Kinds.r T U L M C) (machine-registers.Reads.Asked T U L M C g i k j)
+    (machine-registers.Reads.Learnt T U L M C g i k j)
+machine_registers_once T U L M C g i k j κs a q z z' w w' e f = (e ∙ sym f, refl)
+
+pub machine_raster_once :
+    (T U : RattleType) (L : Laws T) (M : Laws U) (C : IsCopy U) (g : Machine.Ghosts T.Denot U.Denot) (i : Dict) (k : Clone.Ghosts U.Denot) (j : Dict) →
+    OneOutcome 3 (machine-raster.Kinds.ps T U L M C) (machine-raster.Kinds.r T U L M C) (machine-raster.Reads.Asked T U L M C g i k j)
+    (machine-raster.Reads.Learnt T U L M C g i k j)
+machine_raster_once T U L M C g i k j κs a q z z' w w' e f = (e ∙ sym f, refl)
+
+pub machine_status_once :
+    (T U : RattleType) (L : Laws T) (M : Laws U) (C : IsCopy U) (g : Machine.Ghosts T.Denot U.Denot) (i : Dict) (k : Clone.Ghosts U.Denot) (j : Dict) →
+    OneOutcome 3 (machine-status.Kinds.ps T U L M C) (machine-status.Kinds.r T U L M C) (machine-status.Reads.Asked T U L M C g i k j)
+    (machine-status.Reads.Learnt T U L M C g i k j)
+machine_status_once T U L M C g i k j κs a q z z' w w' e f = (e ∙ sym f, refl)
+
+pub machine_colours_once :
+    (T U : RattleType) (L : Laws T) (M : Laws U) (C : IsCopy U) (g : Machine.Ghosts T.Denot U.Denot) (i : Dict) (k : Clone.Ghosts U.Denot) (j : Dict) →
+    OneOutcome 3 (machine-colours.Kinds.ps T U L M C) (machine-colours.Kinds.r T U L M C) (machine-colours.Reads.Asked T U L M C g i k j)
+    (machine-colours.Reads.Learnt T U L M C g i k j)
+machine_colours_once T U L M C g i k j κs a q z z' w w' e f = (e ∙ sym f, refl)
+
+pub machine_after_once :
+    (T U : RattleType) (L : Laws T) (M : Laws U) (C : IsCopy U) (g : Machine.Ghosts T.Denot U.Denot) (i : Dict) (k : Clone.Ghosts U.Denot) (j : Dict) →
+    OneOutcome 2 (machine-after.Kinds.ps T U L M C) (machine-after.Kinds.r T U L M C) (machine-after.Reads.Asked T U L M C g i k j)
+    (machine-after.Reads.Learnt T U L M C g i k j)
+machine_after_once T U L M C g i k j κs a q z z' w w' e f = (e ∙ sym f, refl)
+
+pub machine_join_once :
+    (T U : RattleType) (L : Laws T) (M : Laws U) (C : IsCopy U) (g : Machine.Ghosts T.Denot U.Denot) (i : Dict) (k : Clone.Ghosts U.Denot) (j : Dict) →
+    OneOutcome 2 (machine-join.Kinds.ps T U L M C) (machine-join.Kinds.r T U L M C) (machine-join.Reads.Asked T U L M C g i k j)
+    (machine-join.Reads.Learnt T U L M C g i k j)
+machine_join_once T U L M C g i k j κs a q z z' w w' e f = (e ∙ sym f, refl)
+
+pub machine_row_step_once :
+    (T U : RattleType) (L : Laws T) (M : Laws U) (C : IsCopy U) (g : Machine.Ghosts T.Denot U.Denot) (i : Dict) (k : Clone.Ghosts U.Denot) (j : Dict) →
+    OneOutcome 4 (machine-row-step.Kinds.ps T U L M C) (machine-row-step.Kinds.r T U L M C) (machine-row-step.Reads.Asked T U L M C g i k j)
+    (machine-row-step.Reads.Learnt T U L M C g i k j)
+machine_row_step_once T U L M C g i k j κs a q z z' w w' e f = (
+  e.answer ∙ ap (joined_by g.after a.0) (e.left.answer ∙ sym f.left.answer) ∙ sym f.answer,
+  λ i. (tt, (tt, ((e.left.bytes ∙ sym f.left.bytes) i, w.1.1.1))),
+)
+
+pub machine_frame_step_once :
+    (T U : RattleType) (L : Laws T) (M : Laws U) (C : IsCopy U) (g : Machine.Ghosts T.Denot U.Denot) (i : Dict) (k : Clone.Ghosts U.Denot) (j : Dict) →
+    OneOutcome 4 (machine-frame-step.Kinds.ps T U L M C) (machine-frame-step.Kinds.r T U L M C) (machine-frame-step.Reads.Asked T U L M C g i k j)
+    (machine-frame-step.Reads.Learnt T U L M C g i k j)
+machine_frame_step_once T U L M C g i k j κs a q z z' w w' e f = (
+  e.answer ∙ ap (joined_by g.after a.0) (e.left.answer ∙ sym f.left.answer) ∙ sym f.answer,
+  λ i. (tt, (tt, ((e.left.bytes ∙ sym f.left.bytes) i, w.1.1.1))),
+)
+
+pub machine_layer_row_step_once :
+    (T U : RattleType) (L : Laws T) (M : Laws U) (C : IsCopy U) (g : Machine.Ghosts T.Denot U.Denot) (i : Dict) (k : Clone.Ghosts U.Denot) (j : Dict) →
+    OneOutcome 5 (machine-layer-row-step.Kinds.ps T U L M C) (machine-layer-row-step.Kinds.r T U L M C) (machine-layer-row-step.Reads.Asked T U L M C g i k j)
+    (machine-layer-row-step.Reads.Learnt T U L M C g i k j)
+machine_layer_row_step_once T U L M C g i k j κs a q z z' w w' e f = (
+  e.answer ∙ ap (joined_by g.after a.0) (e.left.points.answer ∙ sym f.left.points.answer) ∙ sym f.answer,
+  λ i. (tt, (tt, ((e.left.points.bytes ∙ sym f.left.points.bytes) i, ((e.left.owners ∙ sym f.left.owners) i, w.1.1.1.1)))),
+)
+
+pub machine_layer_frame_step_once :
+    (T U : RattleType) (L : Laws T) (M : Laws U) (C : IsCopy U) (g : Machine.Ghosts T.Denot U.Denot) (i : Dict) (k : Clone.Ghosts U.Denot) (j : Dict) →
+    OneOutcome 5 (machine-layer-frame-step.Kinds.ps T U L M C) (machine-layer-frame-step.Kinds.r T U L M C)
+    (machine-layer-frame-step.Reads.Asked T U L M C g i k j) (machine-layer-frame-step.Reads.Learnt T U L M C g i k j)
+machine_layer_frame_step_once T U L M C g i k j κs a q z z' w w' e f = (
+  e.answer ∙ ap (joined_by g.after a.0) (e.left.points.answer ∙ sym f.left.points.answer) ∙ sym f.answer,
+  λ i. (tt, (tt, ((e.left.points.bytes ∙ sym f.left.points.bytes) i, ((e.left.owners ∙ sym f.left.owners) i, w.1.1.1.1)))),
+)
+
 -- ---- home
 pub home_new_once : OneOutcome 0 home-new.Kinds.ps home-new.Kinds.r home-new.Reads.Asked home-new.Reads.Learnt
 home_new_once κs a q z z' w w' e f = (e ∙ sym f, refl)
@@ -533,7 +616,7 @@ layer_frame_step_once κs a q z z' w w' e f =
     (e.answer ∙ sym f.answer, λ i. (tt, (tt, ((e.bytes ∙ sym f.bytes) i, ((e.owners ∙ sym f.owners) i, w.1.1.1.1)))))
 
 pub dump_tileset_once : OneOutcome 2 dump_tileset.Kinds.ps dump_tileset.Kinds.r dump_tileset.Reads.Asked dump_tileset.Reads.Learnt
-dump_tileset_once κs a q z z' w w' e f = (e.refusal ∙ sym f.refusal, λ i. (tt, (tt, ((e.bytes ∙ sym f.bytes) i, tt))))
+dump_tileset_once κs a q z z' w w' e f = (e.outcome ∙ sym f.outcome, λ i. (tt, (tt, ((e.bytes ∙ sym f.bytes) i, tt))))
 
 pub pixel_at_once : OneOutcome 1 pixel_at.Kinds.ps pixel_at.Kinds.r pixel_at.Reads.Asked pixel_at.Reads.Learnt
 pixel_at_once κs a q z z' w w' e f = (e ∙ sym f, refl)
@@ -551,11 +634,11 @@ home_row_view_once κs a q z z' w w' e f = (e ∙ sym f, refl)
 
 pub home_dump_tileset_once : OneOutcome 2 home-dump-tileset.Kinds.ps home-dump-tileset.Kinds.r home-dump-tileset.Reads.Asked
     home-dump-tileset.Reads.Learnt
-home_dump_tileset_once κs a q z z' w w' e f = (e.refusal ∙ sym f.refusal, λ i. (tt, (tt, ((e.bytes ∙ sym f.bytes) i, tt))))
+home_dump_tileset_once κs a q z z' w w' e f = (e.outcome ∙ sym f.outcome, λ i. (tt, (tt, ((e.bytes ∙ sym f.bytes) i, tt))))
 
 -- ---- dump
 pub dump_sheet_once : OneOutcome 3 dump-sheet.Kinds.ps dump-sheet.Kinds.r dump-sheet.Reads.Asked dump-sheet.Reads.Learnt
-dump_sheet_once κs a q z z' w w' e f = (e.refusal ∙ sym f.refusal, λ i. (tt, (tt, (tt, ((e.bytes ∙ sym f.bytes) i, tt)))))
+dump_sheet_once κs a q z z' w w' e f = (e.outcome ∙ sym f.outcome, λ i. (tt, (tt, (tt, ((e.bytes ∙ sym f.bytes) i, tt)))))
 
 -- ---- fresh parts
 pub raster_with_table_once : OneOutcome 0 raster-with-table.Kinds.ps raster-with-table.Kinds.r raster-with-table.Reads.Asked
@@ -567,17 +650,13 @@ front_new_once κs a q z z' w w' e f = (e ∙ sym f, refl)
 
 -- ---- tile_codes
 pub write_tile_once : OneOutcome 2 write_tile.Kinds.ps write_tile.Kinds.r write_tile.Reads.Asked write_tile.Reads.Learnt
-write_tile_once κs a q z z' w w' e f = (e.refusal ∙ sym f.refusal, λ i. ((e.memory ∙ sym f.memory) i, w.1))
+write_tile_once κs a q z z' w w' e f = (e.outcome ∙ sym f.outcome, λ i. ((e.memory ∙ sym f.memory) i, w.1))
 
 pub read_tile_once : OneOutcome 2 read_tile.Kinds.ps read_tile.Kinds.r read_tile.Reads.Asked read_tile.Reads.Learnt
-read_tile_once κs a q z z' w w' e f = (e.refusal ∙ sym f.refusal, λ i. (tt, (tt, ((e.buffer ∙ sym f.buffer) i, tt))))
+read_tile_once κs a q z z' w w' e f = (e.outcome ∙ sym f.outcome, λ i. (tt, (tt, ((e.buffer ∙ sym f.buffer) i, tt))))
 
 pub sheet_once : OneOutcome 2 sheet.Kinds.ps sheet.Kinds.r sheet.Reads.Asked sheet.Reads.Learnt
 sheet_once κs a q z z' w w' e f = (e.0.count ∙ sym f.0.count, λ i. (tt, ((e.0.bytes ∙ sym f.0.bytes) i, tt)))
-
--- ---- program
-pub same_once : OneOutcome 2 same.Kinds.ps same.Kinds.r same.Reads.Asked same.Reads.Learnt
-same_once κs a q z z' w w' e f = (e ∙ sym f, refl)
 
 -- ---- block
 pub well_formed_once : OneOutcome 1 well_formed.Kinds.ps well_formed.Kinds.r well_formed.Reads.Asked well_formed.Reads.Learnt
@@ -628,26 +707,26 @@ store_colour_once κs a q z z' w w' e f = (refl, λ i. ((e ∙ sym f) i, w.1))
 
 pub write_in_place_once : OneOutcome 2 write-in-place.Kinds.ps write-in-place.Kinds.r write-in-place.Reads.Asked write-in-place.Reads.Learnt
 write_in_place_once κs a q z z' w w' e f = (
-  λ i. record { refusal = (e.0.refusal ∙ sym f.0.refusal) i; palette = (e.0.palette ∙ sym f.0.palette) i },
+  λ i. record { outcome = (e.0.outcome ∙ sym f.0.outcome) i; palette = (e.0.palette ∙ sym f.0.palette) i },
   λ i. ((e.0.block ∙ sym f.0.block) i, ((e.1 ∙ sym f.1) i, w.1.1)),
 )
 
 pub read_in_place_once : OneOutcome 2 read_in_place.Kinds.ps read_in_place.Kinds.r read_in_place.Reads.Asked read_in_place.Reads.Learnt
 read_in_place_once κs a q z z' w w' e f =
-    (λ i. record { refusal = (e.refusal ∙ sym f.refusal) i; byte = (e.byte ∙ sym f.byte) i }, λ i. ((e.block ∙ sym f.block) i, w.1))
+    (e.byte ∙ sym f.byte, λ i. ((e.block ∙ sym f.block) i, w.1))
 
 pub out_in_place_once : OneOutcome 2 out-in-place.Kinds.ps out-in-place.Kinds.r out-in-place.Reads.Asked out-in-place.Reads.Learnt
 out_in_place_once κs a q z z' w w' e f =
-    (e.refusal ∙ sym f.refusal, λ i. ((e.block ∙ sym f.block) i, ((e.memory ∙ sym f.memory) i, w.1.1)))
+    (e.outcome ∙ sym f.outcome, λ i. ((e.block ∙ sym f.block) i, ((e.memory ∙ sym f.memory) i, w.1.1)))
 
 pub input_in_place_once : OneOutcome 2 input-in-place.Kinds.ps input-in-place.Kinds.r input-in-place.Reads.Asked input-in-place.Reads.Learnt
 input_in_place_once κs a q z z' w w' e f =
-    (λ i. record { refusal = (e.refusal ∙ sym f.refusal) i; byte = (e.byte ∙ sym f.byte) i }, λ i. ((e.block ∙ sym f.block) i, w.1))
+    (e.byte ∙ sym f.byte, λ i. ((e.block ∙ sym f.block) i, w.1))
 
 -- ---- salvage
 pub repair_once : OneOutcome 2 repair.Kinds.ps repair.Kinds.r repair.Reads.Asked repair.Reads.Learnt
 repair_once κs a q z z' w w' e f = (
-  λ i. record { refusal = (e.0.refusal ∙ sym f.0.refusal) i; count = (e.0.count ∙ sym f.0.count) i },
+  e.0.answer ∙ sym f.0.answer,
   λ i. ((e.0.block ∙ sym f.0.block) i, ((e.0.list ∙ sym f.0.list) i, tt)),
 )
 
@@ -665,10 +744,7 @@ pub put_all_once : OneOutcome 2 put_all.Kinds.ps put_all.Kinds.r put_all.Reads.A
 put_all_once κs a q z z' w w' e f = (e.0 ∙ sym f.0, λ i. ((e.1 ∙ sym f.1) i, w.1))
 
 pub put_record_once : OneOutcome 1 put_record.Kinds.ps put_record.Kinds.r put_record.Reads.Asked put_record.Reads.Learnt
-put_record_once κs a q z z' w w' e f = (
-  λ i. record { refusal = (e.0.refusal ∙ sym f.0.refusal) i; count = (e.0.count ∙ sym f.0.count) i },
-  λ i. ((e.0.recording ∙ sym f.0.recording) i, w.1),
-)
+put_record_once κs a q z z' w w' e f = (e.0.answer ∙ sym f.0.answer, λ i. ((e.0.recording ∙ sym f.0.recording) i, w.1))
 
 pub size_of_once : OneOutcome 0 size_of.Kinds.ps size_of.Kinds.r size_of.Reads.Asked size_of.Reads.Learnt
 size_of_once κs a q z z' w w' e f = (e.0 ∙ sym f.0, refl)

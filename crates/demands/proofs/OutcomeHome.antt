@@ -2,7 +2,6 @@
 -- Assumes nothing.
 use mathlib.Core.Path.{refl, sym, ◌∙◌}
 use Rattle.demands.specs.Outcome.{OneOutcome}
-use Rattle.block_parts.proofs.copy as part-copied
 use Rattle.block_parts.proofs.stamp as part-stamped
 use Rattle.block_parts.proofs.colour_at as part-colour
 use Rattle.block_parts.proofs.colours_at as part-colours
@@ -30,12 +29,10 @@ use Rattle.face.proofs.home_calls.vdp_home_layer_step as vdp_home_layer_step
 use Rattle.face.proofs.home_calls.vdp_home_layer_row_step as vdp_home_layer_row_step
 use Rattle.face.proofs.home_calls.vdp_home_dump_tileset as vdp_home_dump_tileset
 use Rattle.face.proofs.home_calls.vdp_home_pixel as vdp_home_pixel
+use Rattle.word.proofs.byte_word as byte-word
 use Rattle.word.proofs.pixel_word as pixel-word
 
 -- ---- the parts of either machine's block
-pub part_copied_once : OneOutcome 2 part-copied.Kinds.ps part-copied.Kinds.r part-copied.Reads.Asked part-copied.Reads.Learnt
-part_copied_once κs a q z z' w w' e f = (refl, λ i. ((e ∙ sym f) i, w.1))
-
 pub part_stamped_once : OneOutcome 1 part-stamped.Kinds.ps part-stamped.Kinds.r part-stamped.Reads.Asked part-stamped.Reads.Learnt
 part_stamped_once κs a q z z' w w' e f = (refl, λ i. ((e ∙ sym f) i, w.1))
 
@@ -84,11 +81,11 @@ home_cached_colour_once κs a q z z' w w' e f = (e ∙ sym f, refl)
 
 pub home_block_out_once : OneOutcome 2 home-block-out.Kinds.ps home-block-out.Kinds.r home-block-out.Reads.Asked home-block-out.Reads.Learnt
 home_block_out_once κs a q z z' w w' e f =
-    (e.refusal ∙ sym f.refusal, λ i. ((e.block ∙ sym f.block) i, ((e.memory ∙ sym f.memory) i, w.1.1)))
+    (e.outcome ∙ sym f.outcome, λ i. ((e.block ∙ sym f.block) i, ((e.memory ∙ sym f.memory) i, w.1.1)))
 
 pub home_block_input_once : OneOutcome 2 home-block-input.Kinds.ps home-block-input.Kinds.r home-block-input.Reads.Asked home-block-input.Reads.Learnt
 home_block_input_once κs a q z z' w w' e f =
-    (λ i. record { refusal = (e.refusal ∙ sym f.refusal) i; byte = (e.byte ∙ sym f.byte) i }, λ i. ((e.block ∙ sym f.block) i, w.1))
+    (e.byte ∙ sym f.byte, λ i. ((e.block ∙ sym f.block) i, w.1))
 
 -- ---- the home machine's calls
 pub vdp_home_new_table_once : OneOutcome 1 vdp_home_new_table.Kinds.ps vdp_home_new_table.Kinds.r vdp_home_new_table.Reads.Asked vdp_home_new_table.Reads.Learnt
@@ -133,5 +130,8 @@ pub vdp_home_pixel_once : OneOutcome 2 vdp_home_pixel.Kinds.ps vdp_home_pixel.Ki
 vdp_home_pixel_once κs a q z z' w w' e f = (e ∙ sym f, refl)
 
 -- ---- the word of a pixel
+pub byte_word_once : OneOutcome 0 byte-word.Kinds.ps byte-word.Kinds.r byte-word.Reads.Asked byte-word.Reads.Learnt
+byte_word_once κs a q z z' w w' e f = (e ∙ sym f, refl)
+
 pub pixel_word_once : OneOutcome 0 pixel-word.Kinds.ps pixel-word.Kinds.r pixel-word.Reads.Asked pixel-word.Reads.Learnt
 pixel_word_once κs a q z z' w w' e f = (e ∙ sym f, refl)

@@ -1,6 +1,7 @@
 -- One pixel is the row's.
 -- Assumes nothing.
-use mathlib.Core.Path.{ap}
+use Rattle.std.specs.Prelude.{Some, Ok}
+use mathlib.Core.Path.{sym, ap, ◌∙◌}
 use mathlib.Core.List.{List}
 use Prim.Native.Nat.{ℕ}
 use lib.ListN.{drop}
@@ -11,8 +12,7 @@ use Rattle.picture.specs.Screen.{row_size, picture_of}
 use Rattle.picture.specs.Area.{screen_of}
 use Rattle.points.specs.Points.{Reading}
 use Rattle.vdp.specs.declared.VdpState.{VdpState}
-use Rattle.pixel.specs.declared.Pixel.{Pixel}
-use Rattle.pixel.specs.Pixel.{pixel_of}
+use Rattle.pixel.specs.Pixel.{Pixel, colour_of, pixel_of}
 use Rattle.pixel.proofs.Spots.{pixel_inside, pixel_outside, pixel_refused, pixel_drawn}
 use Rattle.step.specs.Step.{reading_of}
 use Rattle.home.specs.declared.HomeState.{HomeState}
@@ -26,7 +26,7 @@ is_row : (s : Screen) (vram : List ℕ) (k : Reading) (y x : ℕ)
     → PixelIsRow s k.colours vram (picture_of s k.reg k.raster.vertical_scroll vram) y x (pixel_of s vram k y x)
 is_row s vram k y x =
     record {
-      there = λ m h l. ap (λ (p : Pixel). p.there) (pixel_inside s vram k y x m h l);
+      there = λ m h l. let e = pixel_inside s vram k y x m h l in e ∙ sym (ap (λ (p : Pixel). Ok (Some (colour_of p))) e);
       bytes = λ m h l row₀ row bits b c e. pixel_drawn s vram k y x b c m h l (drop (row_size s) row₀) e.bytes;
       outside = pixel_outside s vram k y x;
       refused = pixel_refused s vram k y x;

@@ -1,7 +1,7 @@
 -- R13.7, the author's program itself: from a fresh device of either table, on any frame and with any video memory at each step, it waits until the
 -- counter reads 90 and then gives colour 3 other palette bytes.
 -- Assumes nothing.
-use Rattle.std.specs.Prelude.{◌≡◌, ◌↔◌, ◌≢◌, cond, List, [], ◌∷◌, ℕ, suc, ◌+◌, ◌*◌, ◌%◌, ◌≤◌, ◌<◌, eqb, length, set}
+use Rattle.std.specs.Prelude.{◌≡◌, ◌↔◌, ◌≢◌, cond, List, [], ◌∷◌, ℕ, suc, ◌+◌, ◌*◌, ◌%◌, ◌≤◌, ◌<◌, eqb, length, set, Ok}
 use Rattle.laws.specs.Lists.{at}
 use Rattle.laws.specs.Paint.{byte_of_colour}
 use Rattle.colour.specs.Colour.{colour, colours_of}
@@ -9,7 +9,6 @@ use Rattle.picture.specs.declared.RenderArea.TheVariants.{VisibleOnly}
 use Rattle.picture.specs.Area.{picture_of}
 use Rattle.raster.specs.declared.LineTable.{LineTable}
 use Rattle.vdp.specs.declared.VdpState.{VdpState}
-use Rattle.refusal.specs.declared.Refusal.TheVariants.{Accepted}
 use Rattle.vdp.specs.Device.{made}
 use Rattle.step.specs.Step.{frame_step_of}
 use Rattle.demands.specs.Handheld.{out, after, handheld}
@@ -71,7 +70,7 @@ recolour low high vram = write 0xBF 0x06 vram ∷ write 0xBF 0xC0 vram ∷ write
 
 module _
     (t : LineTable) (vram : ℕ → List ℕ) (frame : List ℕ)
-    (accepted : (i : ℕ) (d : VdpState) → (frame_step_of VisibleOnly (vram i) (length frame) d).refusal ≡ Accepted) (low high : ℕ)
+    (accepted : (i : ℕ) (d : VdpState) → (frame_step_of VisibleOnly (vram i) (length frame) d).outcome ≡ (Ok tt)) (low high : ℕ)
   where
     abbrev pub asked : Run handheld VisibleOnly
     asked =

@@ -1,15 +1,13 @@
 -- R20.10, THE HOME MACHINE as a machine: its calls, and what each does to the device. What the demands say of any machine they say of this one.
 -- Assumes nothing.
-use Rattle.std.specs.Prelude.{◌≡◌, ◌≢◌, List, ℕ}
+use Rattle.std.specs.Prelude.{◌≡◌, ◌≢◌, List, ℕ, Ok}
 use Rattle.colour.specs.Home.{home_colours_of}
 use Rattle.picture.specs.declared.Screen.TheVariants.{Home}
-use Rattle.refusal.specs.declared.Refusal.{Refusal}
-use Rattle.refusal.specs.declared.Refusal.TheVariants.{Accepted}
-use Rattle.refusal.specs.Refusals.{refusal_number}
+use Rattle.refusal.specs.Refusals.{refusal_number, Outcome, outcome_of}
 use Rattle.front.specs.Lines.{size_of}
 use Rattle.dump.specs.Sheet.{dump_refusal}
 use Rattle.home.specs.declared.HomeState.{HomeState}
-use Rattle.home.specs.declared.HomeStepped.{HomeStepped}
+use Rattle.points.specs.declared.Stepped.{Stepped}
 use Rattle.home.specs.Home.{palette_size, made}
 use Rattle.home.specs.Ports.{port_write, port_read}
 use Rattle.home.specs.Step.{row_step_of, frame_step_of, frame_after}
@@ -32,34 +30,34 @@ pub data Call : Type 0 where
 
 -- the device that a call leaves, refused or not; what only reads it, or takes none, leaves it as it is
 unfoldable pub after : Call → HomeState → HomeState
-after (out port value vram) h = (port_write h vram port value).answer.home
-after (input port vram) h = (port_read h vram port).home
-after (frame_step vram size) h = (frame_step_of vram size h).home
-after (row_step vram size) h = (row_step_of vram size h).home
+after (out port value vram) h = (port_write h vram port value).answer.device
+after (input port vram) h = (port_read h vram port).device
+after (frame_step vram size) h = (frame_step_of vram size h).device
+after (row_step vram size) h = (row_step_of vram size h).device
 after (dump_tileset vram size) h = h
 after (write_tile vram tile codes) h = h
 after (read_tile vram tile size) h = h
 
 -- the refusal that it gives, 0 among them
-unfoldable pub refusal_of : Call → HomeState → Refusal
-refusal_of (out port value vram) h = (port_write h vram port value).answer.refusal
-refusal_of (input port vram) h = (port_read h vram port).refusal
-refusal_of (frame_step vram size) h = (frame_step_of vram size h).refusal
-refusal_of (row_step vram size) h = (row_step_of vram size h).refusal
+unfoldable pub refusal_of : Call → HomeState → Outcome
+refusal_of (out port value vram) h = (port_write h vram port value).answer.outcome
+refusal_of (input port vram) h = outcome_of (port_read h vram port).byte
+refusal_of (frame_step vram size) h = (frame_step_of vram size h).outcome
+refusal_of (row_step vram size) h = (row_step_of vram size h).outcome
 refusal_of (dump_tileset vram size) h = dump_refusal vram size
 refusal_of (write_tile vram tile codes) h = write_tile_refusal vram tile codes
 refusal_of (read_tile vram tile size) h = read_tile_refusal vram tile size
 
 -- what a step answers, and the device that it leaves
-abbrev pub told : HomeStepped → Told HomeState
-told s = record { refusal = s.refusal; interrupt = s.interrupt; report = s.report; row = s.row; device = s.home }
+abbrev pub told : Stepped HomeState → Told HomeState
+told s = record { outcome = s.outcome; interrupt = s.interrupt; report = s.report; row = s.row; device = s.device }
 
 -- R13.3: call c on device h is an accepted step, of either kind, and answers s
 abbrev pub Steps : Call → HomeState → Told HomeState → Type 0
 Steps (out port value vram) h s = ⊥
 Steps (input port vram) h s = ⊥
-Steps (frame_step vram size) h s = (s ≡ told (frame_step_of vram size h)) × (s.refusal ≡ Accepted)
-Steps (row_step vram size) h s = (s ≡ told (row_step_of vram size h)) × (s.refusal ≡ Accepted)
+Steps (frame_step vram size) h s = (s ≡ told (frame_step_of vram size h)) × (s.outcome ≡ (Ok tt))
+Steps (row_step vram size) h s = (s ≡ told (row_step_of vram size h)) × (s.outcome ≡ (Ok tt))
 Steps (dump_tileset vram size) h s = ⊥
 Steps (write_tile vram tile codes) h s = ⊥
 Steps (read_tile vram tile size) h s = ⊥

@@ -2,7 +2,8 @@
 -- R15.1, R15.2: said of any view, so of every screen. R15.3, R15.4: of every device of the handheld, memory and buffer; of the home machine's
 -- calls, which alone tell its layers, R15.4 stands in crates/face/proofs/HomeLaws.antt (`row_aside`, `frame_aside`).
 -- Assumes nothing.
-use Rattle.std.specs.Prelude.{◌≡◌, ◌↔◌, ◌≢◌, ◌⊎◌, Bool, true, false, ◌&&◌, ◌||◌, List, [], ◌∷◌, ℕ, ◌+◌, ◌-◌, ◌*◌, ◌%◌, ◌<◌, ◌≤◌, leb, length, take, drop}
+use Rattle.std.specs.Prelude.{◌≡◌, ◌↔◌, ◌≢◌, ◌⊎◌, Bool, true, false, ◌&&◌, ◌||◌, List, [], ◌∷◌, ℕ, ◌+◌, ◌-◌, ◌*◌, ◌%◌, ◌<◌, ◌≤◌, leb, length, take, drop, Err}
+use Rattle.std.specs.Prelude.{Ok}
 use Rattle.laws.specs.Lists.{at}
 use Rattle.picture.specs.declared.Stand.{Stand}
 use Rattle.picture.specs.declared.Screen.{Screen}
@@ -13,7 +14,7 @@ use Rattle.picture.specs.Area.{screen_of, columns}
 use Rattle.picture.specs.Screen.{view_of, covered, picture_of}
 use Rattle.picture.specs.Layers.{stopped, layers_of}
 use Rattle.vdp.specs.declared.VdpState.{VdpState}
-use Rattle.refusal.specs.declared.Refusal.TheVariants.{Accepted, LayerLength}
+use Rattle.refusal.specs.declared.Refusal.TheVariants.{LayerLength}
 use Rattle.refusal.specs.Refusals.{Line, first, under}
 use Rattle.step.specs.Step.{row_lines, frame_lines, reading_of, step_with, row_step_of, frame_step_of}
 use Rattle.points.specs.Bytes.{row_filled, frame_filled, also_layers}
@@ -109,11 +110,11 @@ pub record Aside (a : RenderArea) (vram : List ℕ) (d : VdpState) (pixels layer
       (frame_filled (screen_of a) vram (reading_of d) pixels)
       ≡ frame_after a vram d pixels
   -- without room it is refused: by 16 exactly where the step without layers is accepted, else as that one is
-  pub row_short : length layers < columns a → first (row_lines a vram (length pixels)) ≡ Accepted
-      → first (also_layers (columns a) (length layers) (row_lines a vram (length pixels))) ≡ LayerLength
-  pub frame_short : length layers < columns a → first (frame_lines a vram (length pixels)) ≡ Accepted
-      → first (also_layers (columns a) (length layers) (frame_lines a vram (length pixels))) ≡ LayerLength
-  pub refused : (lines : List Line) → first lines ≢ Accepted → first (also_layers (columns a) (length layers) lines) ≡ first lines
+  pub row_short : length layers < columns a → first (row_lines a vram (length pixels)) ≡ (Ok tt)
+      → first (also_layers (columns a) (length layers) (row_lines a vram (length pixels))) ≡ (Err LayerLength)
+  pub frame_short : length layers < columns a → first (frame_lines a vram (length pixels)) ≡ (Ok tt)
+      → first (also_layers (columns a) (length layers) (frame_lines a vram (length pixels))) ≡ (Err LayerLength)
+  pub refused : (lines : List Line) → first lines ≢ (Ok tt) → first (also_layers (columns a) (length layers) lines) ≡ first lines
   -- whatever its lines, a step keeps the layer buffer's length and every byte past the columns
   pub size : (lines : List Line) → length (layers_after lines a vram d layers) ≡ length layers
   pub past : (lines : List Line) → drop (columns a) (layers_after lines a vram d layers) ≡ drop (columns a) layers

@@ -15,7 +15,7 @@ use Rattle.raster.specs.declared.LineTable.TheVariants.{Steps261, Steps262}
 use Rattle.raster.specs.Raster.{pass_length, jumps, starts, advanced, line_interrupt, counted}
 use Rattle.vdp.specs.declared.VdpState.{VdpState}
 use Rattle.vdp.specs.Device.{made, fresh}
-use Rattle.refusal.specs.Refusals.{refusal_number}
+use Rattle.refusal.specs.Refusals.{refusal_number, byte_given}
 use Rattle.front.specs.Ports.{front_write, front_read}
 use Rattle.vdp.specs.Ports.{port_write, port_read}
 use Rattle.vdp.specs.Calls.{Call, write, read, Answer, w, r, after, answer, after_all, answers, start}
@@ -45,7 +45,7 @@ zeroed = replicate vram_size 0
 -- the device after n of them, the line that it then has, and the lines at which the next n report an interrupt
 unfoldable pub steps_on : ℕ → VdpState → VdpState
 steps_on zero d = d
-steps_on (suc n) d = steps_on n (stepped VisibleOnly zeroed d).vdp
+steps_on (suc n) d = steps_on n (stepped VisibleOnly zeroed d).device
 
 abbrev line_after : LineTable → ℕ → ℕ
 line_after t n = line_of (steps_on n (made t))
@@ -54,8 +54,8 @@ unfoldable pub interrupt_lines : ℕ → VdpState → List ℕ
 interrupt_lines zero d = []
 interrupt_lines (suc n) d =
     let s = stepped VisibleOnly zeroed d in
-    let rest = interrupt_lines n s.vdp in
-    cond (eqb (interrupt_number s.interrupt) 1) (line_of s.vdp ∷ rest) rest
+    let rest = interrupt_lines n s.device in
+    cond (eqb (interrupt_number s.interrupt) 1) (line_of s.device ∷ rest) rest
 
 -- a fresh device with register 0 at 10 (hex) and register 10 at N; and after all steps of its first pass but the last, which sets line 0
 abbrev pub every : LineTable → ℕ → VdpState
@@ -67,7 +67,7 @@ before_line0 t n = steps_on (pass_length t - 1) (every t n)
 
 -- the refusal of a step on a frame of n bytes
 abbrev refused_on : ℕ → ℕ
-refused_on n = refusal_number (frame_step_of VisibleOnly zeroed n fresh).refusal
+refused_on n = refusal_number (frame_step_of VisibleOnly zeroed n fresh).outcome
 
 -- ---- a sprite of eight solid pixels with X byte h, alone on its row: how many places it marks
 abbrev marks : ℕ → ℕ
@@ -76,7 +76,7 @@ marks h = length (places (laid (visible_stand 0 h) (λ p. 1) (λ i. false) (bare
 pub examples : List (List ℕ)
 examples =
     -- P1 a step, then 7E reads
-    ((port_read (steps_on 1 fresh) zeroed 0x7E).byte ∷ [])
+    (byte_given (port_read (steps_on 1 fresh) zeroed 0x7E).byte ∷ [])
     -- P2, P3 reads
     ∷ bytes_read (answers start (write 0xBF 0x00 ∷ write 0xBF 0x00 ∷ write 0xBE 0x42 ∷ read 0xBE ∷ read 0xBE ∷ []))
     ∷ bytes_read

@@ -1,6 +1,6 @@
 -- What is asked next, computed from the definitions: the lines that interrupt, the rows that a change of colour reaches, the rows drawn twice.
 -- Assumes nothing.
-use Rattle.std.specs.Prelude.{◌≡◌, refl, Bool, true, false, List, [], ◌∷◌, ◌++◌, ℕ, zero, suc, ◌+◌, ◌-◌, eqb, length}
+use Rattle.std.specs.Prelude.{◌≡◌, refl, Bool, true, false, List, [], ◌∷◌, ◌++◌, ℕ, zero, suc, ◌+◌, ◌-◌, eqb, length, None, Option, Some}
 use Rattle.laws.specs.Bits.{bit}
 use Rattle.laws.specs.Lists.{at}
 use Rattle.laws.specs.Table.{table_from, table}
@@ -16,8 +16,6 @@ use Rattle.vdp.specs.Device.{made}
 use Rattle.front.specs.Ports.{front_write}
 use Rattle.vdp.specs.Ports.{port_write}
 use Rattle.vdp.specs.Calls.{write, after, after_all, start}
-use Rattle.points.specs.declared.DrawnRow.{DrawnRow}
-use Rattle.points.specs.declared.DrawnRow.TheVariants.{NoRow, Drawn}
 use Rattle.points.specs.Points.{row_on, bits_of, ended_by, interrupt_by, points_of}
 use Rattle.step.specs.Step.{stepped}
 use Rattle.passes.specs.Split.{first_new}
@@ -33,16 +31,16 @@ later_lines t n = interrupt_lines (pass_length t) (before_line0 t n)
 
 -- ---- rows
 -- those that the next n steps draw, where the device that the step leaves passes the test
-abbrev listed : DrawnRow → Bool → List ℕ → List ℕ
-listed (Drawn y) true ys = y ∷ ys
-listed (Drawn y) false ys = ys
-listed NoRow b ys = ys
+abbrev listed : Option ℕ → Bool → List ℕ → List ℕ
+listed (Some y) true ys = y ∷ ys
+listed (Some y) false ys = ys
+listed None b ys = ys
 
 rows_by : RenderArea → (VdpState → Bool) → ℕ → VdpState → List ℕ
 rows_by a test zero d = []
 rows_by a test (suc n) d =
     let s = stepped a zeroed d in
-    listed s.row (test s.vdp) (rows_by a test n s.vdp)
+    listed s.row (test s.device) (rows_by a test n s.device)
 
 -- all rows of the first pass of a fresh device
 abbrev pass_rows : RenderArea → LineTable → List ℕ

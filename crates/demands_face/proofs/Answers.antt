@@ -1,5 +1,6 @@
 -- No call on a block of the handheld's that stands for a device whose address lies in its memory answers 7.
 -- Assumes nothing.
+use Rattle.std.specs.Prelude.{Err}
 use mathlib.Core.Path.{◌≡◌, refl, sym, ap, ◌∙◌}
 use mathlib.Core.Logic.{◌≢◌}
 use mathlib.Core.Bool.{true, not}
@@ -12,7 +13,7 @@ use Rattle.laws.proofs.Tests.{either}
 use Rattle.picture.specs.Area.{area_from}
 use Rattle.vdp.specs.declared.VdpState.{VdpState}
 use Rattle.refusal.specs.declared.Refusal.TheVariants.{UnknownArea}
-use Rattle.refusal.specs.Refusals.{refusal_number, Line, line, first}
+use Rattle.refusal.specs.Refusals.{refusal_number, Line, line, first, outcome_of, byte_given}
 use Rattle.vdp.specs.Ports.{port_write, port_read}
 use Rattle.block.specs.Block.{sized}
 use Rattle.pixel.specs.Pixel.{pixel_lines}
@@ -61,13 +62,14 @@ module _ {b : List ℕ} {d : VdpState} (s : Stands b d) (k : Fine handheld d) wh
   unfolding refusal_of
   out_word m p v e =
       not_seven (out p v m) d k.aimed
-      (sym (alone (port_write d m p v).answer.refusal) ∙ sym (ap (λ (c : Called). refusal_in c.word) (out_is s m p v)) ∙ e)
+      (sym (alone (port_write d m p v).answer.outcome) ∙ sym (ap (λ (c : Called). refusal_in c.word) (out_is s m p v)) ∙ e)
 
   input_word : (m : List ℕ) (p : ℕ) → refusal_in (input_call b m p).word ≢ 7
   unfolding refusal_of
   input_word m p e =
       not_seven (input p m) d k.aimed
-      (sym (low_byte (port_read d m p).refusal (port_read d m p).byte) ∙ sym (ap (λ (c : Called). refusal_in c.word) (input_is s m p)) ∙ e)
+      (sym (low_byte (outcome_of (port_read d m p).byte) (byte_given (port_read d m p).byte)) ∙ sym (ap (λ (c : Called). refusal_in c.word) (input_is s m p))
+      ∙ e)
 
   repair_word : (l : List ℕ) → refusal_in (repair_call b l).word ≢ 7
   unfolding repair_call
@@ -97,6 +99,6 @@ module _ {b : List ℕ} {d : VdpState} (s : Stands b d) (k : Fine handheld d) wh
   answers (vdp_record_out r u p v) = without (record_call r u (Write p v)).word (record_lines r u (Write p v)) (record_exact r u (Write p v)) refl
   answers (vdp_record_input r u p) = without (record_call r u (Read p)).word (record_lines r u (Read p)) (record_exact r u (Read p)) refl
   answers (vdp_record_step r u n) =
-      without (record_step_call r u n).word (line (not (leb n 2)) UnknownArea ∷ record_lines r u (Step (area_from n))) (record_step_exact r u n) refl
+      without (record_step_call r u n).word (line (not (leb n 2)) (Err UnknownArea) ∷ record_lines r u (Step (area_from n))) (record_step_exact r u n) refl
   answers (vdp_record_next r u) = next_word (record_at r u)
   answers vdp_version = λ e. omega arith

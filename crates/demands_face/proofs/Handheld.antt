@@ -1,5 +1,6 @@
 -- The handheld's C face is lawful, and what the demands say of it.
 -- Assumes nothing.
+use Rattle.std.specs.Prelude.{Ok}
 use mathlib.Core.Path.{◌≡◌, refl, sym, ap, ◌∙◌}
 use mathlib.Core.Bool.{true}
 use mathlib.Core.List.{List}
@@ -11,10 +12,9 @@ use Rattle.picture.specs.declared.RenderArea.TheVariants.{VisibleOnly, Effective
 use Rattle.picture.specs.Screen.{rows}
 use Rattle.picture.specs.Area.{screen_of, columns}
 use Rattle.vdp.specs.declared.VdpState.{VdpState}
-use Rattle.refusal.specs.declared.Refusal.TheVariants.{Accepted}
 use Rattle.refusal.specs.Refusals.{refusal_number, Line}
 use Rattle.block.specs.Block.{fits, block_of}
-use Rattle.step.specs.declared.Stepped.{Stepped}
+use Rattle.points.specs.declared.Stepped.{Stepped}
 use Rattle.step.specs.Step.{frame_lines, step_with, frame_step_of}
 use Rattle.step.specs.Frame.{frame_after}
 use Rattle.points.specs.Bytes.{also_layers}
@@ -54,16 +54,16 @@ rows_low EffectiveArea = omega arith
 rows_low TrueEdges = omega arith
 
 module _ (a : RenderArea) (m x b : List ℕ) (d : VdpState) (s : Stands b d) where
-  abbrev step : Stepped
+  abbrev step : Stepped VdpState
   step = frame_step_of a m (length x) d
 
-  on_step : (w : Way) → called (on_frame_lem a w m x) b ≡ stepped_to s.room step (frame_after a m d x) → step.refusal ≡ Accepted → Steps face Stands a
+  on_step : (w : Way) → called (on_frame_lem a w m x) b ≡ stepped_to s.room step (frame_after a m d x) → step.outcome ≡ (Ok tt) → Steps face Stands a
       w m x b d
   on_step w e ok =
       let shape = with_shape (frame_lines a m (length x)) a m d s.shape in
-      let fit : fits step.vdp.raster.table s.room ≡ true = rw (step_table (frame_lines a m (length x)) a m d) s.fitting in
-      let left : Stands (block_of s.room step.vdp) step.vdp = record { room = s.room; fitting = fit; shape = shape; is = refl } in
-      by_step handheld_lawful face Stands a (rows_low a) w m x b (block_of s.room step.vdp) d e left (in_block left)
+      let fit : fits step.device.raster.table s.room ≡ true = rw (step_table (frame_lines a m (length x)) a m d) s.fitting in
+      let left : Stands (block_of s.room step.device) step.device = record { room = s.room; fitting = fit; shape = shape; is = refl } in
+      by_step handheld_lawful face Stands a (rows_low a) w m x b (block_of s.room step.device) d e left (in_block left)
       (λ d'. accepts (frame_lines a m (length x)) a m d' (frame_taken a m (length x) d ok))
 
   plain_is : called (on_frame_lem a plain m x) b ≡ step_on m x s.room d a
@@ -71,9 +71,9 @@ module _ (a : RenderArea) (m x b : List ℕ) (d : VdpState) (s : Stands b d) whe
   plain_is = step_is s m x (area_number a) ∙ on_number a b x (step_on m x s.room d)
 
   plain_steps : refusal_in (called (on_frame_lem a plain m x) b).word ≡ 0 → Steps face Stands a plain m x b d
-  plain_steps z = on_step plain plain_is (accepted_0 step.refusal (sym (step_byte step) ∙ sym (ap (λ (c : Called). refusal_in c.word) plain_is) ∙ z))
+  plain_steps z = on_step plain plain_is (accepted_0 step.outcome (sym (step_byte step) ∙ sym (ap (λ (c : Called). refusal_in c.word) plain_is) ∙ z))
 
-  pub takes : step.refusal ≡ Accepted → refusal_in (called (on_frame_lem a plain m x) b).word ≡ 0
+  pub takes : step.outcome ≡ (Ok tt) → refusal_in (called (on_frame_lem a plain m x) b).word ≡ 0
   takes ok = ap (λ (c : Called). refusal_in c.word) plain_is ∙ step_byte step ∙ ap refusal_number ok
 
   -- with room for the layers it is the step without
@@ -81,7 +81,7 @@ module _ (a : RenderArea) (m x b : List ℕ) (d : VdpState) (s : Stands b d) whe
     abbrev lines : List Line
     lines = also_layers (columns a) (length layers) (frame_lines a m (length x))
 
-    abbrev also : Stepped
+    abbrev also : Stepped VdpState
     also = step_with lines a m d
 
     layer_steps : refusal_in (called (on_frame_lem a (with_layers layers) m x) b).word ≡ 0 → Steps face Stands a (with_layers layers) m x b d
@@ -89,13 +89,13 @@ module _ (a : RenderArea) (m x b : List ℕ) (d : VdpState) (s : Stands b d) whe
     layer_steps z =
         let e = layer_is s (frame_table m x) (frame_fills m x) m x layers (area_number a) ∙ on_number a b x
         (layer_on (frame_table m x) (frame_fills m x) m x layers s.room d) in
-        let ok = accepted_0 also.refusal (sym (step_byte also) ∙ sym (ap (λ (c : Called). refusal_in c.word) e) ∙ z) in
+        let ok = accepted_0 also.outcome (sym (step_byte also) ∙ sym (ap (λ (c : Called). refusal_in c.word) e) ∙ z) in
         let one = aside a m d x layers in
         let fit = layers_fit (columns a) (length layers) (frame_lines a m (length x)) (frame_refusing (screen_of a) m (length x))
         (sym (step_exact lines a m d) ∙ ok) in
         on_step (with_layers layers)
         (e ∙ (λ j. stepped_to s.room (one.frame_answer fit j) (one.frame_pixels fit j)))
-        (sym (ap (λ (t : Stepped). t.refusal) (one.frame_answer fit)) ∙ ok)
+        (sym (ap (λ (t : Stepped VdpState). t.outcome) (one.frame_answer fit)) ∙ ok)
 
 pub steps :
     (a : RenderArea) (w : Way) (m x b : List ℕ) (d : VdpState) → Stands b d → refusal_in (called (on_frame_lem a w m x) b).word ≡ 0 → Steps face Stands a

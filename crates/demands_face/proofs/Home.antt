@@ -1,5 +1,6 @@
 -- The home machine's C face is lawful, and what the demands say of it: by the same statements as of the handheld's.
 -- Assumes nothing.
+use Rattle.std.specs.Prelude.{Ok}
 use mathlib.Core.Path.{◌≡◌, refl, sym, ap, ◌∙◌}
 use mathlib.Core.List.{List}
 use Prim.Native.Nat.{ℕ, ◌<◌}
@@ -8,7 +9,6 @@ use lib.ListN.{length}
 use Rattle.picture.specs.declared.Screen.TheVariants.{Home}
 use Rattle.picture.specs.Screen.{columns}
 use Rattle.raster.specs.declared.LineTable.{LineTable}
-use Rattle.refusal.specs.declared.Refusal.TheVariants.{Accepted}
 use Rattle.refusal.specs.Refusals.{refusal_number, Line}
 use Rattle.points.specs.Points.{frame_lines}
 use Rattle.points.specs.Bytes.{frame_filled}
@@ -16,7 +16,7 @@ use Rattle.points.proofs.Laws.{frame_refusing}
 use Rattle.points.proofs.Order.{under_also}
 use Rattle.word.specs.Word.{refusal_in}
 use Rattle.home.specs.declared.HomeState.{HomeState}
-use Rattle.home.specs.declared.HomeStepped.{HomeStepped}
+use Rattle.points.specs.declared.Stepped.{Stepped}
 use Rattle.home.specs.Step.{reading_of, refused_step, stepped, step_with, frame_step_of, frame_after}
 use Rattle.home.proofs.Laws.{step_exact, frame_taken}
 use Rattle.home_block.specs.HomeBlock.{block_of}
@@ -42,14 +42,14 @@ module _ (a : Unit {0}) (m x b : List ℕ) (h : HomeState) (s : HomeStands b h) 
   abbrev lines : List Line
   lines = frame_lines Home m (length x)
 
-  abbrev step : HomeStepped
+  abbrev step : Stepped HomeState
   step = frame_step_of m (length x) h
 
-  on_step : (w : Way) → home_called (on_home_frame w m x) b ≡ stepped_to step (frame_after m h x) → step.refusal ≡ Accepted → Steps home_face HomeStands a
+  on_step : (w : Way) → home_called (on_home_frame w m x) b ≡ stepped_to step (frame_after m h x) → step.outcome ≡ (Ok tt) → Steps home_face HomeStands a
       w m x b h
   on_step w e ok =
-      let left : HomeStands (block_of step.home) step.home = step_stands s lines m (frame_after m h x) {c = stepped_to step (frame_after m h x)} refl in
-      by_step home_lawful home_face HomeStands a (omega arith) w m x b (block_of step.home) h e left (in_block left)
+      let left : HomeStands (block_of step.device) step.device = step_stands s lines m (frame_after m h x) {c = stepped_to step (frame_after m h x)} refl in
+      by_step home_lawful home_face HomeStands a (omega arith) w m x b (block_of step.device) h e left (in_block left)
       (λ h'. accepts lines m h' (frame_taken m (length x) h ok))
 
   plain_is : home_called (on_home_frame plain m x) b ≡ step_on m x h
@@ -57,9 +57,9 @@ module _ (a : Unit {0}) (m x b : List ℕ) (h : HomeState) (s : HomeStands b h) 
   plain_is = step_is s m x
 
   plain_steps : refusal_in (home_called (on_home_frame plain m x) b).word ≡ 0 → Steps home_face HomeStands a plain m x b h
-  plain_steps z = on_step plain plain_is (accepted_0 step.refusal (sym (step_byte s lines m (frame_after m h x) plain_is) ∙ z))
+  plain_steps z = on_step plain plain_is (accepted_0 step.outcome (sym (step_byte s lines m (frame_after m h x) plain_is) ∙ z))
 
-  takes : step.refusal ≡ Accepted → refusal_in (home_called (on_home_frame plain m x) b).word ≡ 0
+  takes : step.outcome ≡ (Ok tt) → refusal_in (home_called (on_home_frame plain m x) b).word ≡ 0
   takes ok = step_byte s lines m (frame_after m h x) plain_is ∙ ap refusal_number ok
 
   -- with room for the layers it is the step without
@@ -74,11 +74,11 @@ module _ (a : Unit {0}) (m x b : List ℕ) (h : HomeState) (s : HomeStands b h) 
     layer_steps : refusal_in (home_called (on_home_frame (with_layers layers) m x) b).word ≡ 0 → Steps home_face HomeStands a (with_layers layers) m x b h
     unfolding step_with frame_after
     layer_steps z =
-        let ok : (step_with also m h).refusal ≡ Accepted = accepted_0 (step_with also m h).refusal (sym (step_byte s also m _ layer_is_on) ∙ z) in
+        let ok : (step_with also m h).outcome ≡ (Ok tt) = accepted_0 (step_with also m h).outcome (sym (step_byte s also m _ layer_is_on) ∙ z) in
         let fit = layers_fit (columns Home) (length layers) lines (frame_refusing Home m (length x)) (sym (step_exact also m h) ∙ ok) in
         let answer : step_with also m h ≡ step = under_also (columns Home) (length layers) lines (λ r. refused_step r h) (stepped m h) fit in
         let pixels = under_also (columns Home) (length layers) lines (λ r. x) (frame_filled Home m (reading_of h) x) fit in
-        on_step (with_layers layers) (layer_is_on ∙ (λ j. stepped_to (answer j) (pixels j))) (sym (ap (λ (t : HomeStepped). t.refusal) answer) ∙ ok)
+        on_step (with_layers layers) (layer_is_on ∙ (λ j. stepped_to (answer j) (pixels j))) (sym (ap (λ (t : Stepped HomeState). t.outcome) answer) ∙ ok)
 
 steps :
     (a : Unit {0}) (w : Way) (m x b : List ℕ) (h : HomeState) → HomeStands b h → refusal_in (home_called (on_home_frame w m x) b).word ≡ 0 →

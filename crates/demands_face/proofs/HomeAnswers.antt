@@ -11,8 +11,7 @@ use lib.ListN.{length}
 use Rattle.laws.proofs.Tests.{either, split}
 use Rattle.picture.specs.declared.Screen.TheVariants.{Home}
 use Rattle.picture.specs.Screen.{columns}
-use Rattle.refusal.specs.declared.Refusal.{Refusal}
-use Rattle.refusal.specs.Refusals.{refusal_number, Line, first, whole}
+use Rattle.refusal.specs.Refusals.{refusal_number, Line, first, whole, Outcome, outcome_of, byte_given}
 use Rattle.dump.specs.Sheet.{dump_refusal}
 use Rattle.points.specs.Points.{row_lines, frame_lines}
 use Rattle.points.specs.Bytes.{row_filled, frame_filled, also_layers}
@@ -20,7 +19,7 @@ use Rattle.word.specs.Word.{refusal_in}
 use Rattle.word.specs.Called.{Called}
 use Rattle.word.proofs.Words.{alone, low_byte, answer_byte}
 use Rattle.home.specs.declared.HomeState.{HomeState}
-use Rattle.home.specs.declared.HomeStepped.{HomeStepped}
+use Rattle.points.specs.declared.Stepped.{Stepped}
 use Rattle.home.specs.Ports.{port_write, port_read}
 use Rattle.home.specs.Step.{reading_of, step_with, row_step_of, frame_step_of}
 use Rattle.home.proofs.Laws.{step_exact}
@@ -53,17 +52,17 @@ module _ (n : ℕ) (nought : 0 ≢ n) (eight : 8 ≢ n) (ten : 10 ≢ n) (sixtee
 
   out_not : (m : List ℕ) (p v : ℕ) → Not (out_call b m p v)
   unfolding out_call refusal_of
-  out_not m p v = on m (out_on m p v) (λ e. none (out p v m) (sym (alone (port_write (state_of b) m p v).answer.refusal) ∙ e))
+  out_not m p v = on m (out_on m p v) (λ e. none (out p v m) (sym (alone (port_write (state_of b) m p v).answer.outcome) ∙ e))
 
   input_not : (m : List ℕ) (p : ℕ) → Not (input_call b m p)
   unfolding input_call refusal_of
   input_not m p =
       let r = port_read (state_of b) m p in
-      on [] (input_on m p) (λ e. none (input p m) (sym (low_byte r.refusal r.byte) ∙ e))
+      on [] (input_on m p) (λ e. none (input p m) (sym (low_byte (outcome_of r.byte) (byte_given r.byte)) ∙ e))
 
   -- a step that is not refused so
-  stepped_not : (s : HomeStepped) → refusal_number s.refusal ≢ n → refusal_in (step_word s) ≢ n
-  stepped_not s k e = k (sym (answer_byte s.refusal s.interrupt s.report s.row) ∙ e)
+  stepped_not : (s : Stepped HomeState) → refusal_number s.outcome ≢ n → refusal_in (step_word s) ≢ n
+  stepped_not s k e = k (sym (answer_byte s.outcome s.interrupt s.report s.row) ∙ e)
 
   step_not : (m x : List ℕ) → Not (step_call b m x)
   unfolding step_call refusal_of
@@ -75,11 +74,11 @@ module _ (n : ℕ) (nought : 0 ≢ n) (eight : 8 ≢ n) (ten : 10 ≢ n) (sixtee
 
   -- with layers: 16 besides
   also_not : (least size : ℕ) (ls : List Line) → refusal_number (first ls) ≢ n → refusal_number (first (also_layers least size ls)) ≢ n
-  also_not least size [] k = either (λ (r : Refusal). refusal_number r ≢ n) (ltb size least) (λ _. sixteen) (λ _. nought)
+  also_not least size [] k = either (λ (r : Outcome). refusal_number r ≢ n) (ltb size least) (λ _. sixteen) (λ _. nought)
   also_not least size (l ∷ ls) k = split l.holds (λ t. rw t (rw t at k)) (λ t. rw t (also_not least size ls (rw t at k)))
 
   layer_not :
-      (ls : List Line) (filled : HomeState → List ℕ) (m x layers : List ℕ) → refusal_number (step_with ls m (state_of b)).refusal ≢ n →
+      (ls : List Line) (filled : HomeState → List ℕ) (m x layers : List ℕ) → refusal_number (step_with ls m (state_of b)).outcome ≢ n →
       Not (layer_call ls filled b m x layers)
   unfolding layer_call
   layer_not ls filled m x layers k =
@@ -96,8 +95,8 @@ module _ (n : ℕ) (nought : 0 ≢ n) (eight : 8 ≢ n) (ten : 10 ≢ n) (sixtee
 
   pixel_not : (m : List ℕ) (y x : ℕ) → refusal_in (pixel_call b m y x) ≢ n
   pixel_not m y x e =
-      either (λ (r : Refusal). refusal_number r ≢ n) (not (well_formed b)) (λ _. ten)
-      (λ _. either (λ (r : Refusal). refusal_number r ≢ n) (not (whole m)) (λ _. eight) (λ _. nought))
+      either (λ (r : Outcome). refusal_number r ≢ n) (not (well_formed b)) (λ _. ten)
+      (λ _. either (λ (r : Outcome). refusal_number r ≢ n) (not (whole m)) (λ _. eight) (λ _. nought))
       (sym (pixel_call_exact b m y x) ∙ e)
 
   not-answered : (c : HomeCall) → refusal_in (home_called c b).word ≢ n

@@ -1,5 +1,6 @@
 -- A home block stands for a device, call after call: what each call of the home machine's face does to them.
 -- Assumes nothing.
+use Rattle.std.specs.Prelude.{None, Option, Some, ℕ, Ok}
 use mathlib.Core.Path.{◌≡◌, refl, sym, ap, ◌∙◌, subst}
 use mathlib.Core.Logic.{◌≢◌}
 use mathlib.Core.Bool.{true, ◌&&◌, ◌||◌}
@@ -19,11 +20,8 @@ use Rattle.picture.specs.Screen.{columns}
 use Rattle.raster.specs.declared.LineTable.{LineTable}
 use Rattle.raster.specs.declared.LineTable.TheVariants.{Steps262}
 use Rattle.raster.specs.Raster.{line_table_from}
-use Rattle.refusal.specs.declared.Refusal.TheVariants.{Accepted}
 use Rattle.refusal.specs.Refusals.{refusal_number, Line}
 use Rattle.refusal.proofs.Tables.{Passed, Refusing}
-use Rattle.points.specs.declared.DrawnRow.{DrawnRow}
-use Rattle.points.specs.declared.DrawnRow.TheVariants.{NoRow, Drawn}
 use Rattle.points.specs.Points.{points_of, row_lines, frame_lines}
 use Rattle.points.specs.Bytes.{row_filled, frame_filled}
 use Rattle.points.proofs.Laws.{row_refusing, frame_refusing}
@@ -32,7 +30,7 @@ use Rattle.word.specs.Word.{refusal_in}
 use Rattle.word.specs.Called.{Called}
 use Rattle.word.proofs.Words.{answer_byte}
 use Rattle.home.specs.declared.HomeState.{HomeState}
-use Rattle.home.specs.declared.HomeStepped.{HomeStepped}
+use Rattle.points.specs.declared.Stepped.{Stepped}
 use Rattle.home.specs.Home.{made}
 use Rattle.home.specs.Step.{colours_now, reading_of, cleaned, stepped, refused_step, step_with}
 use Rattle.home.proofs.Laws.{step_exact, step_accepted, step_either, step_left, stepped_refusal}
@@ -74,9 +72,9 @@ coloured h g =
     either Coloured h.cram_dirty (λ _. record { size = length-home_colours h.cram; low = colours_low h.cram })
     (λ _. record { size = g.cache; low = g.colour })
 
-cleaned_shape : (r : DrawnRow) (h : HomeState) → Shape h → Shape (cleaned r h (colours_now h))
-cleaned_shape NoRow h g = g
-cleaned_shape (Drawn y) h g =
+cleaned_shape : (r : Option ℕ) (h : HomeState) → Shape h → Shape (cleaned r h (colours_now h))
+cleaned_shape None h g = g
+cleaned_shape (Some y) h g =
     let c = coloured h g in
     record {
       sized = record { registers = g.sized.registers; palette = g.sized.palette };
@@ -85,16 +83,16 @@ cleaned_shape (Drawn y) h g =
       colour = c.low;
     }
 
-step_shape : (m : List ℕ) (h : HomeState) → Shape h → Shape (stepped m h).home
+step_shape : (m : List ℕ) (h : HomeState) → Shape h → Shape (stepped m h).device
 unfolding stepped
 step_shape m h g = carried (cleaned_shape (points_of Home m (reading_of h)).row h g) _ _ _ refl
 
 -- with any buffer, refused or not
-with_shape : (ls : List Line) (m : List ℕ) (h : HomeState) → Shape h → Shape (step_with ls m h).home
+with_shape : (ls : List Line) (m : List ℕ) (h : HomeState) → Shape h → Shape (step_with ls m h).device
 with_shape ls m h g = step_either ls m h Shape g (λ _. step_shape m h g)
 
-pub accepts : (ls : List Line) (m : List ℕ) (h : HomeState) → Passed ls → (step_with ls m h).refusal ≡ Accepted
-accepts ls m h p = ap (λ (s : HomeStepped). s.refusal) (step_accepted ls m h p) ∙ stepped_refusal m h
+pub accepts : (ls : List Line) (m : List ℕ) (h : HomeState) → Passed ls → (step_with ls m h).outcome ≡ (Ok tt)
+accepts ls m h p = ap (λ (s : Stepped HomeState). s.outcome) (step_accepted ls m h p) ∙ stepped_refusal m h
 
 -- ---- a block and its device
 pub record HomeStands (b : List ℕ) (h : HomeState) : Type 0 where
@@ -164,15 +162,15 @@ module _ {b : List ℕ} {h : HomeState} (s : HomeStands b h) where
 
   -- ---- a step under any lines, that leaves y in its pixels
   module _ (ls : List Line) (m y : List ℕ) {c : Called} (e : c ≡ stepped_to (step_with ls m h) y) where
-    pub step_stands : HomeStands c.block (step_with ls m h).home
+    pub step_stands : HomeStands c.block (step_with ls m h).device
     step_stands = record { shape = with_shape ls m h s.shape; is = ap (λ (k : Called). k.block) e }
 
-    pub step_byte : refusal_in c.word ≡ refusal_number (step_with ls m h).refusal
-    step_byte = let t = step_with ls m h in ap (λ (k : Called). refusal_in k.word) e ∙ answer_byte t.refusal t.interrupt t.report t.row
+    pub step_byte : refusal_in c.word ≡ refusal_number (step_with ls m h).outcome
+    step_byte = let t = step_with ls m h in ap (λ (k : Called). refusal_in k.word) e ∙ answer_byte t.outcome t.interrupt t.report t.row
 
-    refused_stays : (step_with ls m h).refusal ≢ Accepted → c.block ≡ b
+    refused_stays : (step_with ls m h).outcome ≢ (Ok tt) → c.block ≡ b
     refused_stays n =
-        ap (λ (k : Called). k.block) e ∙ ap (λ (t : HomeStepped). block_of t.home) (step_left ls m h n) ∙ sym s.is
+        ap (λ (k : Called). k.block) e ∙ ap (λ (t : Stepped HomeState). block_of t.device) (step_left ls m h n) ∙ sym s.is
 
     step_quiet : refusal_in c.word ≢ 0 → c.block ≡ b
     step_quiet n = refused_stays (λ f. n (step_byte ∙ ap refusal_number f))
@@ -190,7 +188,7 @@ module _ {b : List ℕ} {h : HomeState} (s : HomeStands b h) where
     abbrev lines : List Line
     lines = layer_lines ls layers
 
-    layer_does : (c : Call) → (step_with ls m h).home ≡ after c h → Does home HomeStands b h (layer_call ls filled b m x layers).block
+    layer_does : (c : Call) → (step_with ls m h).device ≡ after c h → Does home HomeStands b h (layer_call ls filled b m x layers).block
     unfolding step_with
     layer_does c e =
         split (ltb (length layers) (columns Home))
@@ -202,7 +200,7 @@ module _ {b : List ℕ} {h : HomeState} (s : HomeStands b h) where
         let room : columns Home ≤ length layers = ltb-false (length layers) (columns Home) t in
         let same : step_with lines m h ≡ step_with ls m h = under_also (columns Home) (length layers) ls (λ r. refused_step r h) (stepped m h) room in
         does c
-        (subst (HomeStands (layer_call ls filled b m x layers).block) (ap (λ (t : HomeStepped). t.home) same ∙ e)
+        (subst (HomeStands (layer_call ls filled b m x layers).block) (ap (λ (t : Stepped HomeState). t.device) same ∙ e)
         (step_stands lines m _ (layer_is ls filled m x layers))))
 
     layer_quiet : refusal_in (layer_call ls filled b m x layers).word ≢ 0 → (layer_call ls filled b m x layers).block ≡ b

@@ -1,5 +1,6 @@
 -- What the demands need of a machine's C face, law by law; each face shows them once (Handheld.antt, Home.antt).
 -- Assumes nothing.
+use Rattle.std.specs.Prelude.{Ok}
 use mathlib.Core.Path.{◌≡◌}
 use mathlib.Core.Logic.{◌≢◌}
 use mathlib.Core.Bool.{true, ◌||◌}
@@ -7,7 +8,6 @@ use mathlib.Core.List.{List}
 use Prim.Native.Nat.{ℕ}
 use lib.ListN.{length}
 use Rattle.raster.specs.declared.LineTable.{LineTable}
-use Rattle.refusal.specs.declared.Refusal.TheVariants.{Accepted}
 use Rattle.word.specs.Word.{refusal_in}
 use Rattle.passes.specs.Machine.{Machine}
 use Rattle.passes.specs.Pass.{Between}
@@ -36,7 +36,7 @@ pub data Quietly (M : Machine) (S : List ℕ → M.Device → Type 0) (b : List 
 -- an accepted step on a frame is the machine's
 pub record Steps {M : Machine} (F : Face M) (S : List ℕ → M.Device → Type 0) (a : M.Area) (w : Way) (vram frame : List ℕ) (b : List ℕ)
     (d : M.Device) : Type 0 where
-  pub accepted : (d' : M.Device) → (M.frame_step_of a vram (length frame) d').refusal ≡ Accepted
+  pub accepted : (d' : M.Device) → (M.frame_step_of a vram (length frame) d').outcome ≡ (Ok tt)
   pub told : told_by (F.called (F.on_frame_lem a w vram frame) b).word (F.device (F.called (F.on_frame_lem a w vram frame) b).block) ≡ M.frame_step_of a
       vram (length frame) d
   pub stands : S (F.called (F.on_frame_lem a w vram frame) b).block (M.frame_step_of a vram (length frame) d).device
@@ -65,7 +65,7 @@ pub record LawfulFace {M : Machine} (F : Face M) : Type 1 where
       Steps F Stands a w vram frame b d
   -- the step without layers is accepted where the machine's is
   pub takes :
-      (a : M.Area) (vram frame b : List ℕ) (d : M.Device) → Stands b d → (M.frame_step_of a vram (length frame) d).refusal ≡ Accepted →
+      (a : M.Area) (vram frame b : List ℕ) (d : M.Device) → Stands b d → (M.frame_step_of a vram (length frame) d).outcome ≡ (Ok tt) →
       refusal_in (F.called (F.on_frame_lem a plain vram frame) b).word ≡ 0
   -- an accepted call that makes a device, and 7
   pub begun : (c : F.Call) (b : List ℕ) → makes F c ≡ true → refusal_in (F.called c b).word ≡ 0 → Begun F (F.called c b).block

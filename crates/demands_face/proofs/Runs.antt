@@ -1,6 +1,7 @@
 -- Such runs there are, of either machine: of any block that a call has made, with whole video memory at each step, on a frame of its size, each step is
 -- accepted.
 -- Assumes nothing.
+use Rattle.std.specs.Prelude.{Ok}
 use mathlib.Core.Path.{◌≡◌, refl, sym, ap, ◌∙◌, subst}
 use mathlib.Core.List.{List, []}
 use Prim.Native.Nat.{ℕ, zero, suc}
@@ -10,7 +11,6 @@ use Rattle.picture.specs.declared.Screen.TheVariants.{Home}
 use Rattle.picture.specs.Screen.{frame_size}
 use Rattle.picture.specs.Area.{screen_of}
 use Rattle.raster.specs.declared.LineTable.{LineTable}
-use Rattle.refusal.specs.declared.Refusal.TheVariants.{Accepted}
 use Rattle.points.specs.Points.{frame_lines as lines_of}
 use Rattle.points.proofs.Laws.{frame_passes}
 use Rattle.step.specs.Step.{frame_lines}
@@ -35,7 +35,7 @@ steps_alone F a t block vram frame =
     record { table = t; block = block; before = []; between = λ i. []; way = λ i. plain; vram = vram; frame = frame }
 
 module _ {M : Machine} (ok : Lawful M) {F : Face M} (law : LawfulFace F) (a : M.Area) (t : LineTable) (block : List ℕ) (made : F.Made t block)
-    (vram : ℕ → List ℕ) (frame : List ℕ) (taken : (i : ℕ) (d : M.Device) → (M.frame_step_of a (vram i) (length frame) d).refusal ≡ Accepted) where
+    (vram : ℕ → List ℕ) (frame : List ℕ) (taken : (i : ℕ) (d : M.Device) → (M.frame_step_of a (vram i) (length frame) d).outcome ≡ (Ok tt)) where
   abbrev run : FaceRun F a
   run = steps_alone F a t block vram frame
 
@@ -48,7 +48,7 @@ module _ {M : Machine} (ok : Lawful M) {F : Face M} (law : LawfulFace F) (a : M.
   accepted_by : (i : ℕ) → length (point run i).frame ≡ length frame → refusal_in (stepped_at run i (point run i)).word ≡ 0
   accepted_by i e =
       law.takes a (vram i) (point run i).frame (block_after F block (point run i).calls) (device i) (at i).stands
-      (subst (λ (n : ℕ). (M.frame_step_of a (vram i) n (device i)).refusal ≡ Accepted) (sym e) (taken i (device i)))
+      (subst (λ (n : ℕ). (M.frame_step_of a (vram i) n (device i)).outcome ≡ (Ok tt)) (sym e) (taken i (device i)))
 
   size : (i : ℕ) → length (point run i).frame ≡ length frame
   unfolding point

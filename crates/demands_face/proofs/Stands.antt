@@ -1,5 +1,6 @@
 -- A block stands for a device, call after call: what each call of the handheld's face does to them.
 -- Assumes nothing.
+use Rattle.std.specs.Prelude.{None, Option, Some}
 use mathlib.Core.Path.{◌≡◌, refl, sym, ap, ◌∙◌, subst}
 use mathlib.Core.Logic.{◌≢◌}
 use mathlib.Core.Bool.{true, not, ◌&&◌, ◌||◌}
@@ -21,7 +22,7 @@ use Rattle.raster.specs.declared.LineTable.TheVariants.{Steps262}
 use Rattle.raster.specs.Raster.{line_table_from}
 use Rattle.vdp.specs.declared.VdpState.{VdpState}
 use Rattle.front.specs.declared.WriteDest.{WriteDest}
-use Rattle.front.specs.declared.WriteDest.TheVariants.{None, Vram, Cram}
+use Rattle.front.specs.declared.WriteDest.TheVariants.{Vram, Cram}
 use Rattle.vdp.specs.Device.{made}
 use Rattle.refusal.specs.Refusals.{refusal_number, Line}
 use Rattle.vdp.specs.Refusals.{size}
@@ -53,15 +54,15 @@ use Rattle.demands_face.specs.Calls.{vdp_record_step, vdp_record_next, vdp_versi
 use Rattle.demands_face.proofs.Lawful.{Begun, Fine, Does, stays, does, Quietly, stays_so as leaves, does_so}
 
 -- the size of a memory
-pub size_positive : (w : WriteDest) → 0 < size w
+pub size_positive : (w : Option WriteDest) → 0 < size w
 size_positive None = omega arith
-size_positive Vram = omega arith
-size_positive Cram = omega arith
+size_positive (Some Vram) = omega arith
+size_positive (Some Cram) = omega arith
 
-pub size_top : (w : WriteDest) → size w ≤ 16384
+pub size_top : (w : Option WriteDest) → size w ≤ 16384
 size_top None = omega arith
-size_top Vram = omega arith
-size_top Cram = omega arith
+size_top (Some Vram) = omega arith
+size_top (Some Cram) = omega arith
 
 -- a block of so many bytes, which have room for the device
 pub record Stands (b : List ℕ) (d : VdpState) : Type 0 where
@@ -148,8 +149,8 @@ module _ {b : List ℕ} {d : VdpState} (s : Stands b d) where
         (either (λ (y : Called). refusal_in y.word ≢ 0 → y.block ≡ b) (leb n 2) (λ _. f (area_from n)) (λ _ _. refl))
 
   -- a refused step leaves the device, whatever its lines
-  step_stays : (ls : List Line) (a : RenderArea) (m : List ℕ) (w : ℕ) → refusal_in w ≡ refusal_number (step_with ls a m d).refusal → refusal_in w ≢ 0 →
-      block_of s.room (step_with ls a m d).vdp ≡ b
+  step_stays : (ls : List Line) (a : RenderArea) (m : List ℕ) (w : ℕ) → refusal_in w ≡ refusal_number (step_with ls a m d).outcome → refusal_in w ≢ 0 →
+      block_of s.room (step_with ls a m d).device ≡ b
   step_stays ls a m w e n = rw (step_left ls a m d (λ f. n (e ∙ ap refusal_number f))) (sym s.is)
 
   module _ (m x : List ℕ) (n : ℕ) where

@@ -1,12 +1,12 @@
 -- What is watched of a run through a lawful face is what is watched of a run on records.
 -- Assumes nothing.
+use Rattle.std.specs.Prelude.{Ok}
 use mathlib.Core.Path.{◌≡◌, refl, sym, ◌∙◌, ap, subst}
 use mathlib.Core.Bool.{Bool, true, false, cond, not, ◌&&◌, ◌||◌}
 use mathlib.Core.List.{List, [], ◌∷◌, ◌++◌, append-nil}
 use Prim.Native.Nat.{ℕ, zero, suc}
 use lib.Dec.{eqb}
 use lib.ListN.{length}
-use Rattle.refusal.specs.declared.Refusal.TheVariants.{Accepted}
 use Rattle.passes.specs.Machine.{Machine, register, line_of}
 use Rattle.passes.specs.Pass.{History, device_after, becomes_zero, latched_along, latched, Between, then, Run, until, through, ready, answer, frame_at, Watched}
 use Rattle.passes.specs.Pass.{watched}
@@ -152,7 +152,7 @@ module _ {M : Machine} (ok : Lawful M) {F : Face M} (law : LawfulFace F) {a : M.
         between = λ i. (at i).them;
         vram = f.vram;
         frame = f.frame;
-        accepted = λ i d. subst (λ (n : ℕ). (M.frame_step_of a (f.vram i) n d).refusal ≡ Accepted) (at i).size ((stepped i (at i)).accepted d);
+        accepted = λ i d. subst (λ (n : ℕ). (M.frame_step_of a (f.vram i) n d).outcome ≡ (Ok tt)) (at i).size ((stepped i (at i)).accepted d);
       }
 
   until_is : (i : ℕ) → until run i ≡ calls_at (at i)

@@ -1,12 +1,10 @@
 -- R7.4, WHAT THE C FACE OF A MACHINE IS, as the demands see it: blocks of bytes, calls on one block, and the words that they answer. What is watched of a
 -- run on records (crates/passes/specs/Pass.antt) is watched here of the player's calls, and so each demand is said of both alike.
 -- Assumes nothing.
-use Rattle.std.specs.Prelude.{◌≡◌, ◌≢◌, Bool, true, false, cond, ◌||◌, List, [], ◌∷◌, ◌++◌, ℕ, zero, suc, ◌/◌, ◌%◌, eqb}
+use Rattle.std.specs.Prelude.{◌≡◌, ◌≢◌, Bool, true, false, cond, ◌||◌, List, [], ◌∷◌, ◌++◌, ℕ, zero, suc, ◌/◌, ◌%◌, eqb, None, Some, Ok}
 use Rattle.raster.specs.declared.LineTable.{LineTable}
-use Rattle.refusal.specs.declared.Refusal.TheVariants.{Accepted}
 use Rattle.points.specs.declared.VdpInt.TheVariants.{InterruptGenerated, NoInterrupt}
 use Rattle.points.specs.declared.DisplayRefresh.TheVariants.{NoDisplay, ScreenDone, ScreenDoneNoRefresh}
-use Rattle.points.specs.declared.DrawnRow.TheVariants.{NoRow, Drawn}
 use Rattle.word.specs.Word.{refusal_in}
 use Rattle.word.specs.Called.{Called}
 use Rattle.passes.specs.Machine.{Told, Machine}
@@ -72,10 +70,10 @@ drawn_part w = w / 16777216 % 2
 abbrev pub told_by : {D : Type 0} → (word : ℕ) → D → Told D
 told_by w d =
     record {
-      refusal = Accepted;
+      outcome = (Ok tt);
       interrupt = cond (eqb (interrupt_part w) 1) InterruptGenerated NoInterrupt;
       report = cond (eqb (report_part w) 0) NoDisplay (cond (eqb (report_part w) 1) ScreenDone ScreenDoneNoRefresh);
-      row = cond (eqb (drawn_part w) 1) (Drawn (row_part w)) NoRow;
+      row = cond (eqb (drawn_part w) 1) (Some (row_part w)) None;
       device = d;
     }
 

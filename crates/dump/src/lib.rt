@@ -15,12 +15,13 @@ use small::VRAM_SIZE;
 const DUMP_SIZE: usize = 131072;
 
 // R5.14: the sheet's pixel at which tile chr starts.
+#[tactic(auto, unfolding(crate::specs::Dump::tile_row, crate::specs::Dump::tile_column))]
 fn place_of(tall: bool, chr: usize) -> usize
     requires { chr < 512 }
     ensures value { result ≡ 1024 * tile_row tall chr + 8 * tile_column tall chr }
     ensures result_bound { result + 904 ≤ 32768 }
 {
-    if tall & (256 <= chr) {
+    if tall && 256 <= chr {
         1024 * (2 * (chr / 32) + chr % 2) + 8 * (chr % 32 / 2)
     } else {
         1024 * (chr / 16) + 8 * (chr % 16)
@@ -60,9 +61,8 @@ fn dump_tile(
 {
     let place = place_of(tall, chr);
     let sprite = 256 <= chr;
-    let addr = small::weight(sprite & high, 8192) + 32 * (chr % 256);
-    let mut line: usize = 0;
-    while line < 8 {
+    let addr = small::weight(sprite && high, 8192) + 32 * (chr % 256);
+    for line in 0..8 {
         dump_line(
             pixels,
             vram,
@@ -71,7 +71,6 @@ fn dump_tile(
             addr + 4 * line,
             place + 128 * line,
         );
-        line += 1;
     }
 }
 
@@ -82,23 +81,27 @@ fn draw_tileset(pixels: &mut [u8], vram: &[u8], colours: &[u32; 32], reg: [u8; 1
 {
     let tall = small::is_set(reg[1], 1);
     let high = small::is_set(reg[6], 2);
-    let mut chr: usize = 0;
-    while chr < 512 {
+    for chr in 0..512 {
         dump_tile(pixels, vram, colours, tall, high, chr);
-        chr += 1;
     }
 }
 
 // The sheet of all tiles as a call: video memory and the sheet are tested first. It draws with the colours as they stand.
-pub fn dump_tileset(reg: [u8; 11], colours: &[u32; 32], vram: &[u8], pixels: &mut [u8]) -> Refusal
+#[tactic(auto, unfolding(crate::specs::Sheet::dump_refusal, crate::specs::Sheet::sheet_after))]
+pub fn dump_tileset(
+    reg: [u8; 11],
+    colours: &[u32; 32],
+    vram: &[u8],
+    pixels: &mut [u8],
+) -> Result<(), Refusal>
     ensures { SheetLeaves reg colours.now vram.now pixels.old result pixels.new }
 {
     if vram.len() != VRAM_SIZE {
-        return Refusal::VramLength;
+        return Err(Refusal::VramLength);
     }
     if pixels.len() != DUMP_SIZE {
-        return Refusal::PixelLength;
+        return Err(Refusal::PixelLength);
     }
     draw_tileset(pixels, vram, colours, reg);
-    Refusal::Accepted
+    Ok(())
 }

@@ -1,5 +1,6 @@
 -- What a refused call of the C face leaves: the block byte for byte as it was, or without its command latch, and the other buffer as it was.
 -- Assumes nothing.
+use Rattle.std.specs.Prelude.{Err}
 use mathlib.Core.Path.{◌≡◌, refl, sym, ap, ◌∙◌}
 use mathlib.Core.Logic.{◌≢◌}
 use mathlib.Core.Bool.{true, ◌&&◌}
@@ -14,11 +15,10 @@ use Rattle.laws.proofs.Tests.{split, either}
 use Rattle.picture.specs.declared.RenderArea.{RenderArea}
 use Rattle.raster.specs.Raster.{line_table_from}
 use Rattle.vdp.specs.declared.VdpState.{VdpState}
-use Rattle.refusal.specs.declared.Refusal.{Refusal}
 use Rattle.refusal.specs.declared.Refusal.TheVariants.{VramLength, PixelLength, BlockMalformed, UnknownArea}
 use Rattle.front.specs.declared.Front.{Front}
 use Rattle.vdp.specs.Device.{front_of, with_front, unlatched}
-use Rattle.refusal.specs.Refusals.{refusal_number, Line, under, whole}
+use Rattle.refusal.specs.Refusals.{refusal_number, Line, under, whole, Outcome, outcome_of, byte_given}
 use Rattle.vdp.specs.Refusals.{device_left}
 use Rattle.vdp.specs.Ports.{port_write, port_read}
 use Rattle.vdp.proofs.Behind.{write_behind, read_behind}
@@ -52,14 +52,14 @@ all_well a m s = step_byte (stepped a m s) ∙ ap refusal_number (Steps.stepped_
 
 module _ (b : List ℕ) (bytes : (i : ℕ) → at b i < 256) where
   -- R2.2 of a device and of its block
-  left_by : well_formed b ≡ true → (r : Refusal) {n : ℕ} → n ≡ refusal_number r → block_of (length b) (device_left r (state_of b)) ≡ block_left n b
+  left_by : well_formed b ≡ true → (r : Outcome) {n : ℕ} → n ≡ refusal_number r → block_of (length b) (device_left r (state_of b)) ≡ block_left n b
   left_by w r e =
       let s : VdpState = state_of b in
       left_block (λ (f : Front). block_of (length b) (with_front s f)) (front_of s) (block_back b w bytes)
       (unlatched_block (length b) s (sized_state b (long b w)).registers ∙ ap (λ (l : List ℕ). set (set l 21 0) 22 0) (block_back b w bytes)) r e
 
   -- the same of a step that the device refuses
-  unstepped : well_formed b ≡ true → (r : Refusal) (x : List ℕ) → b ≡ block_left (refusal_number r) b → LeftBehind b x
+  unstepped : well_formed b ≡ true → (r : Outcome) (x : List ℕ) → b ≡ block_left (refusal_number r) b → LeftBehind b x
       (stepped_to (length b) (refused_step r (state_of b)) x)
   unfolding answer_word
   unstepped w r x e =
@@ -74,7 +74,7 @@ module _ (b : List ℕ) (bytes : (i : ℕ) → at b i < 256) where
   new_behind t =
       either (LeftBehind b []) (leb t 1 && fits (line_table_from t) (length b))
       (λ _. record { word = λ h. absurd (h refl); block = λ h. absurd (h refl); lent = λ _. refl })
-      (λ _. whole-refused b BlockMalformed [] refl)
+      (λ _. whole-refused b (Err BlockMalformed) [] refl)
 
   pub out_behind : (m : List ℕ) (p v : ℕ) → LeftBehind b m (out_call b m p v)
   unfolding out_call
@@ -82,14 +82,14 @@ module _ (b : List ℕ) (bytes : (i : ℕ) → at b i < 256) where
       either (LeftBehind b m) (well_formed b)
       (λ w.
       let a = port_write (state_of b) m p v in
-      let r = a.answer.refusal in
+      let r = a.answer.outcome in
       let l = write_behind (state_of b) m p v in
       record {
         word = λ _. omega (arith, number_low r);
         block = λ h. ap (block_of (length b)) (l.device (not_accepted r (alone r) h)) ∙ left_by w r (alone r);
         lent = λ h. l.memory (not_accepted r (alone r) h);
       })
-      (λ _. whole-refused b BlockMalformed m refl)
+      (λ _. whole-refused b (Err BlockMalformed) m refl)
 
   pub input_behind : (m : List ℕ) (p : ℕ) → LeftBehind b [] (input_call b m p)
   unfolding input_call
@@ -97,20 +97,21 @@ module _ (b : List ℕ) (bytes : (i : ℕ) → at b i < 256) where
       either (LeftBehind b []) (well_formed b)
       (λ w.
       let a = port_read (state_of b) m p in
-      let r = a.refusal in
+      let r = outcome_of a.byte in
+      let k = byte_given a.byte in
       let l = read_behind (state_of b) m p in
       record {
-        word = λ h. omega (arith, number_low r, l.zero (not_accepted r (low_byte r a.byte) h));
-        block = λ h. ap (block_of (length b)) (l.device (not_accepted r (low_byte r a.byte) h)) ∙ left_by w r (low_byte r a.byte);
+        word = λ h. omega (arith, number_low r, l.zero (not_accepted r (low_byte r k) h));
+        block = λ h. ap (block_of (length b)) (l.device (not_accepted r (low_byte r k) h)) ∙ left_by w r (low_byte r k);
         lent = λ _. refl;
       })
-      (λ _. whole-refused b BlockMalformed [] refl)
+      (λ _. whole-refused b (Err BlockMalformed) [] refl)
 
   -- a step on the device of the block, with x its buffer and x' what an accepted one leaves there
   -- no line of its table is one that empties the latch
   abbrev Keeping : List Line → Type 0
   Keeping [] = Unit {0}
-  Keeping (l ∷ ls) = (b ≡ block_left (refusal_number l.refusal) b) × Keeping ls
+  Keeping (l ∷ ls) = (b ≡ block_left (refusal_number l.outcome) b) × Keeping ls
 
   step_left :
       (w : well_formed b ≡ true) (ls : List Line) (a : RenderArea) (m x x' : List ℕ) → Keeping ls
@@ -120,7 +121,7 @@ module _ (b : List ℕ) (bytes : (i : ℕ) → at b i < 256) where
       let s = state_of b in
       record { word = λ h. absurd (h (all_well a m s)); block = λ h. absurd (h (all_well a m s)); lent = λ h. absurd (h (all_well a m s)) }
   step_left w (l ∷ ls) a m x x' k =
-      split l.holds (λ e. simp e (unstepped w l.refusal x k.0)) (λ e. simp e (step_left w ls a m x x' k.1))
+      split l.holds (λ e. simp e (unstepped w l.outcome x k.0)) (λ e. simp e (step_left w ls a m x x' k.1))
 
   pub step_behind : (m frame : List ℕ) (n : ℕ) → LeftBehind b frame (step_call b m frame n)
   unfolding step_call frame_after
@@ -128,8 +129,8 @@ module _ (b : List ℕ) (bytes : (i : ℕ) → at b i < 256) where
       either (LeftBehind b frame) (well_formed b)
       (λ w. either (LeftBehind b frame) (leb n 2)
       (λ _. step_left w (frame_lines (area_from n) m (length frame)) (area_from n) m frame _ (refl, (refl, (refl, tt))))
-      (λ _. whole-refused b UnknownArea frame refl))
-      (λ _. whole-refused b BlockMalformed frame refl)
+      (λ _. whole-refused b (Err UnknownArea) frame refl))
+      (λ _. whole-refused b (Err BlockMalformed) frame refl)
 
   pub row_behind : (m row : List ℕ) (n : ℕ) → LeftBehind b row (row_step_call b m row n)
   unfolding row_step_call row_after
@@ -137,8 +138,8 @@ module _ (b : List ℕ) (bytes : (i : ℕ) → at b i < 256) where
       either (LeftBehind b row) (well_formed b)
       (λ w. either (LeftBehind b row) (leb n 2)
       (λ _. step_left w (row_lines (area_from n) m (length row)) (area_from n) m row _ (refl, (refl, tt)))
-      (λ _. whole-refused b UnknownArea row refl))
-      (λ _. whole-refused b BlockMalformed row refl)
+      (λ _. whole-refused b (Err UnknownArea) row refl))
+      (λ _. whole-refused b (Err BlockMalformed) row refl)
 
   -- a step with layers: block and pixels, and the layer buffer too
   layer_behind :
@@ -150,8 +151,8 @@ module _ (b : List ℕ) (bytes : (i : ℕ) → at b i < 256) where
       either (LeftBehind b x) (well_formed b)
       (λ w. either (LeftBehind b x) (leb n 2)
       (λ _. step_left w (layer_lines lines layers (area_from n)) (area_from n) m x _ k)
-      (λ _. whole-refused b UnknownArea x refl))
-      (λ _. whole-refused b BlockMalformed x refl)
+      (λ _. whole-refused b (Err UnknownArea) x refl))
+      (λ _. whole-refused b (Err BlockMalformed) x refl)
 
   pub layer_row_behind : (filled : VdpState → RenderArea → List ℕ) (m row layers : List ℕ) (n : ℕ) → LeftBehind b row
       (layer_call (λ a. row_lines a m (length row)) filled b m row layers n)
@@ -185,6 +186,6 @@ module _ (b : List ℕ) (bytes : (i : ℕ) → at b i < 256) where
       (λ _. split (whole m)
       (λ e. split (eqb (length pixels) 131072)
       (λ f. simp (e, f) (record { word = λ h. absurd (h refl); block = λ h. absurd (h refl); lent = λ h. absurd (h refl) }))
-      (λ f. simp (e, f) (whole-refused b PixelLength pixels refl)))
-      (λ e. simp e (whole-refused b VramLength pixels refl)))
-      (λ _. whole-refused b BlockMalformed pixels refl)
+      (λ f. simp (e, f) (whole-refused b (Err PixelLength) pixels refl)))
+      (λ e. simp e (whole-refused b (Err VramLength) pixels refl)))
+      (λ _. whole-refused b (Err BlockMalformed) pixels refl)

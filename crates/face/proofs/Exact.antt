@@ -1,6 +1,7 @@
 -- A call of the C face is refused by the first line of its table that holds: 10 exactly where the block is malformed, 11 exactly where it is
 -- well formed and the area number is above 2.
 -- Assumes nothing.
+use Rattle.std.specs.Prelude.{Err}
 use mathlib.Core.Path.{◌≡◌, refl, sym, ap, ◌∙◌}
 use mathlib.Core.Logic.{◌≢◌, ◌↔◌}
 use mathlib.Core.Bool.{Bool, true, false, cond, not, ◌&&◌}
@@ -12,16 +13,15 @@ use lib.Dec.{eqb, leb}
 use lib.ListN.{length}
 use Rattle.laws.proofs.Tests.{split, both, clash}
 use Rattle.raster.specs.Raster.{line_table_from}
-use Rattle.refusal.specs.declared.Refusal.{Refusal}
 use Rattle.refusal.specs.declared.Refusal.TheVariants.{UnknownArea}
 use Rattle.picture.specs.declared.RenderArea.{RenderArea}
 use Rattle.vdp.specs.declared.VdpState.{VdpState}
-use Rattle.refusal.specs.Refusals.{refusal_number, Line, first, line}
+use Rattle.refusal.specs.Refusals.{refusal_number, Line, first, line, Outcome, outcome_of, byte_given}
 use Rattle.vdp.specs.Refusals.{write_lines, read_lines}
 use Rattle.vdp.specs.Ports.{port_write, port_read}
 use Rattle.vdp.proofs.Exact.{write_exact, read_exact}
 use Rattle.block.specs.Block.{fits, well_formed, state_of}
-use Rattle.step.specs.declared.Stepped.{Stepped}
+use Rattle.points.specs.declared.Stepped.{Stepped}
 use Rattle.dump.specs.Sheet.{dump_refusal, dump_lines}
 use Rattle.dump.proofs.Sheets as Sheets
 use Rattle.step.specs.Step.{row_lines, frame_lines, step_with, row_step_of, frame_step_of}
@@ -40,19 +40,20 @@ pub out_exact : (b m : List ℕ) (p v : ℕ) → refusal_in (out_call b m p v).w
 unfolding out_call
 out_exact b m p v =
     split (well_formed b)
-    (λ e. simp e (alone (port_write (state_of b) m p v).answer.refusal ∙ ap refusal_number (write_exact (state_of b) m p v)))
+    (λ e. simp e (alone (port_write (state_of b) m p v).answer.outcome ∙ ap refusal_number (write_exact (state_of b) m p v)))
     (λ e. simp e)
 
 pub input_exact : (b m : List ℕ) (p : ℕ) → refusal_in (input_call b m p).word ≡ refusal_number (first (input_lines b m p))
 unfolding input_call
 input_exact b m p =
     split (well_formed b)
-    (λ e. simp e (low_byte (port_read (state_of b) m p).refusal (port_read (state_of b) m p).byte ∙ ap refusal_number (read_exact (state_of b) m p)))
+    (λ e. simp e (low_byte (outcome_of (port_read (state_of b) m p).byte) (byte_given (port_read (state_of b) m p).byte)
+    ∙ ap refusal_number (read_exact (state_of b) m p)))
     (λ e. simp e)
 
 -- a step's word
-pub step_byte : (s : Stepped) → refusal_in (step_word s) ≡ refusal_number s.refusal
-step_byte s = answer_byte s.refusal s.interrupt s.report s.row
+pub step_byte : (s : Stepped VdpState) → refusal_in (step_word s) ≡ refusal_number s.outcome
+step_byte s = answer_byte s.outcome s.interrupt s.report s.row
 
 pub step_exact :
     (b m frame : List ℕ) (n : ℕ)
@@ -105,17 +106,17 @@ dump_exact b m pixels =
 -- none of the lines gives number n
 abbrev pub none : ℕ → List Line → Bool
 none n [] = true
-none n (l ∷ ls) = not (eqb (refusal_number l.refusal) n) && none n ls
+none n (l ∷ ls) = not (eqb (refusal_number l.outcome) n) && none n ls
 
-by_test : (t : Bool) (r q : Refusal) (n : ℕ) → not (eqb (refusal_number r) n) ≡ true → refusal_number q ≢ n → refusal_number (cond t r q) ≢ n
+by_test : (t : Bool) (r q : Outcome) (n : ℕ) → not (eqb (refusal_number r) n) ≡ true → refusal_number q ≢ n → refusal_number (cond t r q) ≢ n
 by_test true r q n h k = eqb-false (refusal_number r) n (not-true (eqb (refusal_number r) n) h)
 by_test false r q n h k = k
 
 pub never : (n : ℕ) (ls : List Line) → 0 ≢ n → none n ls ≡ true → refusal_number (first ls) ≢ n
 never n [] z h = z
 never n (l ∷ ls) z h =
-    let t = both (not (eqb (refusal_number l.refusal) n)) (none n ls) h in
-    by_test l.holds l.refusal (first ls) n t.0 (never n ls z t.1)
+    let t = both (not (eqb (refusal_number l.outcome) n)) (none n ls) h in
+    by_test l.holds l.outcome (first ls) n t.0 (never n ls z t.1)
 
 ten_exactly :
     (b : List ℕ) (ls : List Line) (w : ℕ) → none 10 ls ≡ true → refusal_in w ≡ refusal_number (first (malformed b ∷ ls)) → (refusal_in w ≡ 10) ↔
@@ -147,12 +148,12 @@ eleven_exactly b ls n w h e =
 
 pub step_ten : (b m frame : List ℕ) (n : ℕ) → (refusal_in (step_call b m frame n).word ≡ 10) ↔ (well_formed b ≡ false)
 step_ten b m frame n =
-    ten_exactly b (line (not (leb n 2)) UnknownArea ∷ frame_lines (area_from n) m (length frame)) (step_call b m frame n).word refl
+    ten_exactly b (line (not (leb n 2)) (Err UnknownArea) ∷ frame_lines (area_from n) m (length frame)) (step_call b m frame n).word refl
     (step_exact b m frame n)
 
 pub row_ten : (b m row : List ℕ) (n : ℕ) → (refusal_in (row_step_call b m row n).word ≡ 10) ↔ (well_formed b ≡ false)
 row_ten b m row n =
-    ten_exactly b (line (not (leb n 2)) UnknownArea ∷ row_lines (area_from n) m (length row)) (row_step_call b m row n).word refl (row_exact b m row n)
+    ten_exactly b (line (not (leb n 2)) (Err UnknownArea) ∷ row_lines (area_from n) m (length row)) (row_step_call b m row n).word refl (row_exact b m row n)
 
 pub step_eleven : (b m frame : List ℕ) (n : ℕ) → (refusal_in (step_call b m frame n).word ≡ 11) ↔ ((well_formed b ≡ true) × (2 < n))
 step_eleven b m frame n = eleven_exactly b (frame_lines (area_from n) m (length frame)) n (step_call b m frame n).word refl (step_exact b m frame n)

@@ -1,5 +1,6 @@
 -- What a refused call on the home machine's block leaves: the block as R2.2 has it, its other buffer, and no more than the refusal in its word.
 -- Assumes nothing.
+use Rattle.std.specs.Prelude.{Err}
 use mathlib.Core.Path.{◌≡◌, refl, sym, ap, ◌∙◌}
 use mathlib.Core.Logic.{◌≢◌}
 use mathlib.Core.Bool.{true, ◌&&◌}
@@ -12,9 +13,8 @@ use Rattle.laws.specs.Lists.{at}
 use Rattle.laws.proofs.Parts.{set_past}
 use Rattle.laws.proofs.Tests.{split, either}
 use Rattle.picture.specs.declared.Screen.TheVariants.{Home}
-use Rattle.refusal.specs.declared.Refusal.{Refusal}
 use Rattle.refusal.specs.declared.Refusal.TheVariants.{VramLength, PixelLength, BlockMalformed}
-use Rattle.refusal.specs.Refusals.{refusal_number, Line, under, whole}
+use Rattle.refusal.specs.Refusals.{refusal_number, Line, under, whole, Outcome, outcome_of, byte_given}
 use Rattle.refusal.proofs.Tables.{under_refused}
 use Rattle.front.specs.declared.Front.{Front}
 use Rattle.front.specs.Front.{emptied}
@@ -44,7 +44,7 @@ unlatched_block h g = sym (rw (set_past h.front.reg _ 11 7 _ g.registers, set_pa
 
 module _ (b : List ℕ) (bytes : (i : ℕ) → at b i < 256) where
   -- R2.2 of a device and of its block
-  left_by : well_formed b ≡ true → (r : Refusal) {n : ℕ} → n ≡ refusal_number r → block_of (device_left r (state_of b)) ≡ block_left n b
+  left_by : well_formed b ≡ true → (r : Outcome) {n : ℕ} → n ≡ refusal_number r → block_of (device_left r (state_of b)) ≡ block_left n b
   left_by w r e =
       let h : HomeState = state_of b in
       left_block (λ (f : Front). block_of (with_front h f)) h.front (block_back b w bytes)
@@ -55,7 +55,7 @@ module _ (b : List ℕ) (bytes : (i : ℕ) → at b i < 256) where
   new_behind t =
       either (LeftBehind b []) (leb t 1 && eqb (length b) block_size)
       (λ _. record { word = λ h. absurd (h refl); block = λ h. absurd (h refl); lent = λ _. refl })
-      (λ _. whole-refused b BlockMalformed [] refl)
+      (λ _. whole-refused b (Err BlockMalformed) [] refl)
 
   pub out_behind : (m : List ℕ) (p v : ℕ) → LeftBehind b m (out_call b m p v)
   unfolding out_call
@@ -63,14 +63,14 @@ module _ (b : List ℕ) (bytes : (i : ℕ) → at b i < 256) where
       either (LeftBehind b m) (well_formed b)
       (λ w.
       let a = port_write (state_of b) m p v in
-      let r = a.answer.refusal in
+      let r = a.answer.outcome in
       let l = write_behind (state_of b) m p v in
       record {
         word = λ _. omega (arith, number_low r);
         block = λ h. ap block_of (l.device (not_accepted r (alone r) h)) ∙ left_by w r (alone r);
         lent = λ h. l.memory (not_accepted r (alone r) h);
       })
-      (λ _. whole-refused b BlockMalformed m refl)
+      (λ _. whole-refused b (Err BlockMalformed) m refl)
 
   pub input_behind : (m : List ℕ) (p : ℕ) → LeftBehind b [] (input_call b m p)
   unfolding input_call
@@ -78,21 +78,22 @@ module _ (b : List ℕ) (bytes : (i : ℕ) → at b i < 256) where
       either (LeftBehind b []) (well_formed b)
       (λ w.
       let a = port_read (state_of b) m p in
-      let r = a.refusal in
+      let r = outcome_of a.byte in
+      let k = byte_given a.byte in
       let l = read_behind (state_of b) m p in
       record {
-        word = λ h. omega (arith, number_low r, l.zero (not_accepted r (low_byte r a.byte) h));
-        block = λ h. ap block_of (l.device (not_accepted r (low_byte r a.byte) h)) ∙ left_by w r (low_byte r a.byte);
+        word = λ h. omega (arith, number_low r, l.zero (not_accepted r (low_byte r k) h));
+        block = λ h. ap block_of (l.device (not_accepted r (low_byte r k) h)) ∙ left_by w r (low_byte r k);
         lent = λ _. refl;
       })
-      (λ _. whole-refused b BlockMalformed [] refl)
+      (λ _. whole-refused b (Err BlockMalformed) [] refl)
 
   -- a step on the device of the block, with x its buffer and x' what an accepted one leaves there; no line of its table is one that empties the latch
   abbrev Keeping : List Line → Type 0
   Keeping [] = Unit {0}
-  Keeping (l ∷ ls) = (b ≡ block_left (refusal_number l.refusal) b) × Keeping ls
+  Keeping (l ∷ ls) = (b ≡ block_left (refusal_number l.outcome) b) × Keeping ls
 
-  unstepped : well_formed b ≡ true → (r : Refusal) (x : List ℕ) → b ≡ block_left (refusal_number r) b
+  unstepped : well_formed b ≡ true → (r : Outcome) (x : List ℕ) → b ≡ block_left (refusal_number r) b
       → LeftBehind b x (stepped_to (refused_step r (state_of b)) x)
   unfolding answer_word
   unstepped w r x e =
@@ -108,30 +109,30 @@ module _ (b : List ℕ) (bytes : (i : ℕ) → at b i < 256) where
   unfolding step_with
   step_left w [] m x x' k =
       let s = stepped m (state_of b) in
-      let well : refusal_in (step_word s) ≡ 0 = answer_byte s.refusal s.interrupt s.report s.row ∙ ap refusal_number
+      let well : refusal_in (step_word s) ≡ 0 = answer_byte s.outcome s.interrupt s.report s.row ∙ ap refusal_number
       (stepped_refusal m (state_of b)) in
       record { word = λ h. absurd (h well); block = λ h. absurd (h well); lent = λ h. absurd (h well) }
   step_left w (l ∷ ls) m x x' k =
-      split l.holds (λ e. simp e (unstepped w l.refusal x k.0)) (λ e. simp e (step_left w ls m x x' k.1))
+      split l.holds (λ e. simp e (unstepped w l.outcome x k.0)) (λ e. simp e (step_left w ls m x x' k.1))
 
   pub step_behind : (m frame : List ℕ) → LeftBehind b frame (step_call b m frame)
   unfolding step_call frame_after
   step_behind m frame =
       either (LeftBehind b frame) (well_formed b) (λ w. step_left w (frame_lines Home m (length frame)) m frame _ (refl, (refl, (refl, tt))))
-      (λ _. whole-refused b BlockMalformed frame refl)
+      (λ _. whole-refused b (Err BlockMalformed) frame refl)
 
   pub row_behind : (m row : List ℕ) → LeftBehind b row (row_step_call b m row)
   unfolding row_step_call row_after
   row_behind m row =
       either (LeftBehind b row) (well_formed b) (λ w. step_left w (row_lines Home m (length row)) m row _ (refl, (refl, tt)))
-      (λ _. whole-refused b BlockMalformed row refl)
+      (λ _. whole-refused b (Err BlockMalformed) row refl)
 
   -- a step with layers: block and pixels, and the layer buffer too
   layer_behind : (lines : List Line) (filled : HomeState → List ℕ) (m x layers : List ℕ) → Keeping (layer_lines lines layers)
       → LeftBehind b x (layer_call lines filled b m x layers)
   unfolding layer_call
   layer_behind lines filled m x layers k =
-      either (LeftBehind b x) (well_formed b) (λ w. step_left w (layer_lines lines layers) m x _ k) (λ _. whole-refused b BlockMalformed x refl)
+      either (LeftBehind b x) (well_formed b) (λ w. step_left w (layer_lines lines layers) m x _ k) (λ _. whole-refused b (Err BlockMalformed) x refl)
 
   pub layer_row_behind : (filled : HomeState → List ℕ) (m row layers : List ℕ)
       → LeftBehind b row (layer_call (row_lines Home m (length row)) filled b m row layers)
@@ -159,6 +160,6 @@ module _ (b : List ℕ) (bytes : (i : ℕ) → at b i < 256) where
       (λ _. split (whole m)
       (λ e. split (eqb (length pixels) 131072)
       (λ f. simp (e, f) (record { word = λ h. absurd (h refl); block = λ h. absurd (h refl); lent = λ h. absurd (h refl) }))
-      (λ f. simp (e, f) (whole-refused b PixelLength pixels refl)))
-      (λ e. simp e (whole-refused b VramLength pixels refl)))
-      (λ _. whole-refused b BlockMalformed pixels refl)
+      (λ f. simp (e, f) (whole-refused b (Err PixelLength) pixels refl)))
+      (λ e. simp e (whole-refused b (Err VramLength) pixels refl)))
+      (λ _. whole-refused b (Err BlockMalformed) pixels refl)

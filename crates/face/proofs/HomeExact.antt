@@ -8,13 +8,13 @@ use lib.Dec.{leb, eqb}
 use lib.ListN.{length}
 use Rattle.laws.proofs.Tests.{split}
 use Rattle.picture.specs.declared.Screen.TheVariants.{Home}
-use Rattle.refusal.specs.Refusals.{refusal_number, Line, first, whole}
+use Rattle.refusal.specs.Refusals.{refusal_number, Line, first, whole, outcome_of, byte_given}
 use Rattle.points.specs.Points.{row_lines, frame_lines}
 use Rattle.dump.specs.Sheet.{dump_refusal, dump_lines}
 use Rattle.word.specs.Word.{refusal_in}
 use Rattle.word.proofs.Words.{low_byte, alone, answer_byte}
 use Rattle.home.specs.declared.HomeState.{HomeState}
-use Rattle.home.specs.declared.HomeStepped.{HomeStepped}
+use Rattle.points.specs.declared.Stepped.{Stepped}
 use Rattle.home.specs.Ports.{port_write, port_read}
 use Rattle.home.specs.Step.{step_with}
 use Rattle.home.proofs.Exact.{write_exact, read_exact}
@@ -33,21 +33,22 @@ module _ (b m : List ℕ) where
   unfolding out_call
   out_exact p v =
       split (well_formed b)
-      (λ e. simp e (alone (port_write (state_of b) m p v).answer.refusal ∙ ap refusal_number (write_exact (state_of b) m p v)))
+      (λ e. simp e (alone (port_write (state_of b) m p v).answer.outcome ∙ ap refusal_number (write_exact (state_of b) m p v)))
       (λ e. simp e)
 
   pub input_exact : (p : ℕ) → refusal_in (input_call b m p).word ≡ refusal_number (first (input_lines b m p))
   unfolding input_call
   input_exact p =
       split (well_formed b)
-      (λ e. simp e (low_byte (port_read (state_of b) m p).refusal (port_read (state_of b) m p).byte ∙ ap refusal_number (read_exact (state_of b) m p)))
+      (λ e. simp e (low_byte (outcome_of (port_read (state_of b) m p).byte) (byte_given (port_read (state_of b) m p).byte)
+      ∙ ap refusal_number (read_exact (state_of b) m p)))
       (λ e. simp e)
 
   -- a step's word, whatever the lines that it can meet
   pub step_byte : (ls : List Line) (h : HomeState) → refusal_in (step_word (step_with ls m h)) ≡ refusal_number (first ls)
   step_byte ls h =
-      let s : HomeStepped = step_with ls m h in
-      answer_byte s.refusal s.interrupt s.report s.row ∙ ap refusal_number (Steps.step_exact ls m h)
+      let s : Stepped HomeState = step_with ls m h in
+      answer_byte s.outcome s.interrupt s.report s.row ∙ ap refusal_number (Steps.step_exact ls m h)
 
   pub step_exact : (frame : List ℕ) → refusal_in (step_call b m frame).word ≡ refusal_number (first (call_lines b (frame_lines Home m (length frame))))
   unfolding step_call

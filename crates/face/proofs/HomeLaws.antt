@@ -1,43 +1,37 @@
 -- A call on the home machine's block, from what its parts give.
 -- Assumes nothing.
+use Rattle.refusal.specs.declared.Refusal.{Refusal}
+use Rattle.std.specs.Prelude.{None, Option, Some, ℕ, Result}
 use mathlib.Core.Path.{◌≡◌, refl, sym, ap, ◌∙◌}
-use mathlib.Core.Bool.{Bool, true, false, ◌&&◌}
+use mathlib.Core.Bool.{Bool, true}
 use mathlib.Core.Logic.{◌≢◌}
 use mathlib.Core.List.{List, []}
-use Prim.Native.Nat.{ℕ, ◌+◌, ◌*◌, ◌<◌, ◌≤◌}
+use Prim.Native.Nat.{ℕ, ◌+◌, ◌<◌, ◌≤◌}
 use native.Mathlib.Omega.{arith}
-use borrow.Author.Tests.{eqb-true, eqb-false}
-use lib.Dec.{leb, eqb}
+use borrow.Author.Tests.{eqb-false}
+use lib.Dec.{eqb}
 use lib.ListN.{length}
 use lib.Seq.{take_at}
 use Rattle.laws.specs.Lists.{at}
 use Rattle.laws.proofs.Parts.{at_past}
-use Rattle.laws.proofs.Tests.{split, both}
+use Rattle.laws.proofs.Tests.{split}
 use Rattle.picture.specs.declared.Screen.TheVariants.{Home}
 use Rattle.picture.specs.Screen.{columns}
-use Rattle.raster.specs.declared.LineTable.{LineTable}
 use Rattle.raster.specs.declared.Raster.{Raster}
-use Rattle.raster.specs.Raster.{line_table_from}
-use Rattle.refusal.specs.declared.Refusal.{Refusal}
-use Rattle.refusal.specs.declared.Refusal.TheVariants.{BlockMalformed}
-use Rattle.refusal.specs.Refusals.{refusal_number, Line, first, under}
-use Rattle.inplace.specs.declared.Got.{Got}
+use Rattle.refusal.specs.Refusals.{refusal_number, Line, first, under, Outcome, outcome_of, byte_given}
 use Rattle.points.specs.declared.Points.{Points}
-use Rattle.points.specs.declared.DrawnRow.{DrawnRow}
-use Rattle.points.specs.declared.DrawnRow.TheVariants.{NoRow, Drawn}
 use Rattle.points.specs.declared.Due.{Due}
 use Rattle.points.specs.Points.{bits_of, row_lines, frame_lines}
-use Rattle.points.specs.Bytes.{row_with, frame_with, layers_by, row_filled, frame_filled}
+use Rattle.points.specs.Bytes.{layers_by, row_filled, frame_filled}
 use Rattle.points.specs.Due.{due_of, due_picture, due_layers, points_by}
 use Rattle.points.proofs.Order.{under_also}
 use Rattle.dump.specs.Sheet.{SheetLeaves}
-use Rattle.word.specs.Word.{points_word}
+use Rattle.word.specs.Word.{points_word, byte_word}
 use Rattle.word.specs.Called.{Leaves, asked_lines}
-use Rattle.word.proofs.Calls.{leaves, along, on, asked_both, asked_refused}
+use Rattle.word.proofs.Calls.{along, on, asked_both, asked_refused}
 use Rattle.home.specs.declared.HomeState.{HomeState}
-use Rattle.home.specs.declared.HomeStepped.{HomeStepped}
-use Rattle.home.specs.Home.{made, with_status, with_raster, with_cache}
-use Rattle.home.specs.Ports.{port_read}
+use Rattle.points.specs.declared.Stepped.{Stepped}
+use Rattle.home.specs.Home.{with_status, with_raster, with_cache}
 use Rattle.home.specs.Step.{colours_now, reading_of, cleaned, joined, refused_step, stepped, step_with, row_after, frame_after}
 use Rattle.home.proofs.Laws.{step_either, stepped_table}
 use Rattle.home.proofs.Steps.{joined_with}
@@ -48,25 +42,14 @@ use Rattle.home_block.specs.InPlace.{OutInPlace, InputInPlace}
 use Rattle.home_block.proofs.Whole.{said}
 use Rattle.home_block.proofs.Stores.{sized_state, raster_stored_lem, cache_stored_lem}
 use Rattle.home_block.proofs.RoundTrip.{block_back}
-use Rattle.face.specs.Home.{on_block, new_table_call, out_on, out_call, input_on, input_call, step_word, stepped_to, step_on, step_call, row_step_on}
+use Rattle.face.specs.Home.{on_block, out_on, out_call, input_on, input_call, step_word, stepped_to, step_call}
 use Rattle.face.specs.Home.{row_step_call, dump_on, dump_call}
-use Rattle.face.specs.HomeLayers.{layer_lines, layer_on, layer_call, layers_left, LayerLeaves, LayerRowLeaves, LayerFrameLeaves}
+use Rattle.face.specs.HomeLayers.{layer_call}
 use Rattle.face.specs.Steps.{points_in, colours_stored, points_stored}
-use Rattle.face.proofs.Steps.{answer_by, row_due_by, row_by, frame_by, layers_by_lem}
-
--- ---- a fresh block
-module _ (b : List ℕ) (t : ℕ) {good : Bool} (eg : good ≡ (leb t 1 && eqb (length b) block_size)) where
-  pub new_ten : good ≡ false → {n : ℕ} → n ≡ refusal_number BlockMalformed → Leaves (new_table_call b t) n b []
-  unfolding new_table_call
-  new_ten h en = rw en (leaves (sym (rw (sym eg ∙ h))))
-
-  -- whose bytes are as many as a block has
-  pub new_room : good ≡ true → length b ≡ block_size
-  new_room h = eqb-true (length b) block_size (both (leb t 1) (eqb (length b) block_size) (sym eg ∙ h)).1
-
-  pub new_done : good ≡ true → {k : LineTable} {b' : List ℕ} → k ≡ line_table_from t → b' ≡ block_of (made k) → Leaves (new_table_call b t) 0 b' []
-  unfolding new_table_call
-  new_done h ek eb = let g = sym eg ∙ h in record { word = rw g; block = (rw ek at eb) ∙ rw g; lent = rw g }
+use Rattle.face.specs.declared.target.Target.{Target}
+use Rattle.face.specs.Target.{drawn}
+use Rattle.face.specs.HomeStepped.{lines_of, target_on, TargetLeaves}
+use Rattle.face.proofs.Steps.{answer_by, row_due_by, target_by, layers_by_lem}
 
 -- ---- a call that is taken has a block of its size, with room for what a step leaves
 module _ (b : List ℕ) {q : ℕ} (eq : q ≡ refusal_number (first (asked_lines (well_formed b) 0))) where
@@ -98,61 +81,44 @@ module _ (b : List ℕ) {q : ℕ} (eq : q ≡ refusal_number (first (asked_lines
     unfolding dump_call
     dump_refused m pixels = asked_refused (well_formed b) 0 eq (state_of b) b pixels (dump_on b m pixels) h
 
-    pub step_refused : (m x : List ℕ) → Leaves (step_call b m x) q b x
-    unfolding step_call
-    step_refused m x = asked_refused (well_formed b) 0 eq (state_of b) b x (step_on m x) h
-
-    pub row_refused : (m x : List ℕ) → Leaves (row_step_call b m x) q b x
-    unfolding row_step_call
-    row_refused m x = asked_refused (well_formed b) 0 eq (state_of b) b x (row_step_on m x) h
-
-    pub layer_refused : (m x layers : List ℕ) (lines : List Line) (filled : HomeState → List ℕ) → LayerLeaves lines filled b m x layers q b x layers
-    unfolding layer_call layers_left
-    layer_refused m x layers lines filled =
-        record {
-          call = asked_refused (well_formed b) 0 eq (state_of b) b x (layer_on lines filled m x layers) h;
-          owners = split (well_formed b) (λ e. absurd (h (eq ∙ rw e))) (λ e. rw e);
-        }
-
   module _ (z : q ≡ 0) where
-    pub out_done : (m : List ℕ) (p v : ℕ) {r : Refusal} {b' m' : List ℕ} {n : ℕ} → OutInPlace b m p v r b' m' → n ≡ refusal_number r
+    pub out_done : (m : List ℕ) (p v : ℕ) {r : Outcome} {b' m' : List ℕ} {n : ℕ} → OutInPlace b m p v r b' m' → n ≡ refusal_number r
         → Leaves (out_call b m p v) n b' m'
     unfolding out_call
     out_done m p v l en =
-        along (on (state_of b) b m (out_on m p v) (whole z)) (record { word = en ∙ ap refusal_number l.refusal; block = l.block; lent = l.memory })
+        along (on (state_of b) b m (out_on m p v) (whole z)) (record { word = en ∙ ap refusal_number l.outcome; block = l.block; lent = l.memory })
 
-    pub input_done : (m : List ℕ) (p : ℕ) {r : Got} {b' : List ℕ} {n : ℕ} → InputInPlace b m p r b' → n ≡ refusal_number r.refusal
-        → Leaves (input_call b m p) (n + 256 * r.byte) b' []
+    pub input_done : (m : List ℕ) (p : ℕ) {r : Result ℕ Refusal} {b' : List ℕ} {n : ℕ} → InputInPlace b m p r b' →
+        n ≡ byte_word (outcome_of r) (byte_given r) → Leaves (input_call b m p) n b' []
     unfolding input_call
     input_done m p {r} l en =
         along (on (state_of b) b [] (input_on m p) (whole z))
         (record {
-          word = ap (λ (x : ℕ). x + 256 * r.byte) (en ∙ ap refusal_number l.refusal)
-              ∙ ap (λ (x : ℕ). refusal_number (port_read (state_of b) m p).refusal + 256 * x) l.byte;
+          word = en ∙ ap (λ (x : Result ℕ Refusal). byte_word (outcome_of x) (byte_given x)) l.byte;
           block = l.block;
           lent = refl;
         })
 
     pub dump_done :
-        (m pixels : List ℕ) {reg cache : List ℕ} {r : Refusal} {pixels' : List ℕ} {n : ℕ} → reg ≡ (state_of b).front.reg → cache ≡ (state_of b).color_cache
+        (m pixels : List ℕ) {reg cache : List ℕ} {r : Outcome} {pixels' : List ℕ} {n : ℕ} → reg ≡ (state_of b).front.reg → cache ≡ (state_of b).color_cache
         → SheetLeaves reg cache m pixels r pixels' → n ≡ refusal_number r → Leaves (dump_call b m pixels) n b pixels'
     unfolding dump_call
     dump_done m pixels er ec l en =
         along (on (state_of b) b pixels (dump_on b m pixels) (whole z))
-        (record { word = en ∙ ap refusal_number l.refusal; block = refl; lent = rw (er, ec) at l.bytes })
+        (record { word = en ∙ ap refusal_number l.outcome; block = refl; lent = rw (er, ec) at l.bytes })
 
 -- no step changes the table, refused or not
-pub step_table : (ls : List Line) (m : List ℕ) (h : HomeState) → (step_with ls m h).home.raster.table ≡ h.raster.table
+pub step_table : (ls : List Line) (m : List ℕ) (h : HomeState) → (step_with ls m h).device.raster.table ≡ h.raster.table
 step_table ls m h = step_either ls m h (λ (s : HomeState). s.raster.table ≡ h.raster.table) refl (λ _. stepped_table m h)
 
 -- a step's colours keep the sizes, and the table
-cleaned_sized : (r : DrawnRow) (h : HomeState) (colours : List ℕ) → Sized h → Sized (cleaned r h colours)
-cleaned_sized NoRow h colours g = g
-cleaned_sized (Drawn y) h colours g = record { registers = g.registers; palette = g.palette }
+cleaned_sized : (r : Option ℕ) (h : HomeState) (colours : List ℕ) → Sized h → Sized (cleaned r h colours)
+cleaned_sized None h colours g = g
+cleaned_sized (Some y) h colours g = record { registers = g.registers; palette = g.palette }
 
-cleaned_table : (r : DrawnRow) (h : HomeState) (colours : List ℕ) → (cleaned r h colours).raster.table ≡ h.raster.table
-cleaned_table NoRow h colours = refl
-cleaned_table (Drawn y) h colours = refl
+cleaned_table : (r : Option ℕ) (h : HomeState) (colours : List ℕ) → (cleaned r h colours).raster.table ≡ h.raster.table
+cleaned_table None h colours = refl
+cleaned_table (Some y) h colours = refl
 
 -- a block whose colours are clean has them already
 clean_kept : (h : HomeState) → Sized h → at (block_of h) 24 ≢ 1 → block_of h ≡ block_of (with_cache h (colours_now h))
@@ -162,29 +128,29 @@ clean_kept h g n =
 
 -- the colours of a step, stored in the block of a device
 colours_stored_lem :
-    (h : HomeState) → Sized h → {b colours : List ℕ} → b ≡ block_of h → (r : DrawnRow) → ((y : ℕ) → r ≡ Drawn y → colours ≡ colours_now h)
+    (h : HomeState) → Sized h → {b colours : List ℕ} → b ≡ block_of h → (r : Option ℕ) → ((y : ℕ) → r ≡ Some y → colours ≡ colours_now h)
     → colours_stored 24 58 r colours b ≡ block_of (cleaned r h (colours_now h))
-colours_stored_lem h g e NoRow q = e
-colours_stored_lem h g {b} {colours} e (Drawn y) q =
+colours_stored_lem h g e None q = e
+colours_stored_lem h g {b} {colours} e (Some y) q =
     split (eqb (at b 24) 1)
     (λ f. rw f (cache_stored_lem h g b colours e ∙ ap (λ (c : List ℕ). block_of (with_cache h c)) (q y refl)))
     (λ f. rw f (e ∙ clean_kept h g (λ z. eqb-false (at b 24) 1 f (ap (λ (c : List ℕ). at c 24) e ∙ z))))
 
 -- and its status byte and registers, which they leave
-cleaned_status : (r : DrawnRow) (h : HomeState) (colours : List ℕ) → at (block_of (cleaned r h colours)) 2 ≡ h.front.status
+cleaned_status : (r : Option ℕ) (h : HomeState) (colours : List ℕ) → at (block_of (cleaned r h colours)) 2 ≡ h.front.status
 unfolding block_of head
-cleaned_status NoRow h colours = refl
-cleaned_status (Drawn y) h colours = refl
+cleaned_status None h colours = refl
+cleaned_status (Some y) h colours = refl
 
-cleaned_registers : (r : DrawnRow) (h : HomeState) (colours : List ℕ) → Sized h → registers_in (block_of (cleaned r h colours)) ≡ h.front.reg
+cleaned_registers : (r : Option ℕ) (h : HomeState) (colours : List ℕ) → Sized h → registers_in (block_of (cleaned r h colours)) ≡ h.front.reg
 unfolding block_of head
-cleaned_registers NoRow h colours g = take_at h.front.reg _ 11 g.registers
-cleaned_registers (Drawn y) h colours g = take_at h.front.reg _ 11 g.registers
+cleaned_registers None h colours g = take_at h.front.reg _ 11 g.registers
+cleaned_registers (Some y) h colours g = take_at h.front.reg _ 11 g.registers
 
 -- a step that is taken, from what its parts give: b₁ is the block with the colours
 module _ (b m x : List ℕ) {q : ℕ} (eq : q ≡ refusal_number (first (asked_lines (well_formed b) 0))) (zero : q ≡ 0) (bytes : (i : ℕ) → at b i < 256)
     (d : Due) {reg : List ℕ} {raster : Raster} {colours : List ℕ} {bits : ℕ} {b₁ b' : List ℕ} {r : ℕ} (eg : reg ≡ (state_of b).front.reg)
-    (et : raster ≡ (state_of b).raster) (ec : (y : ℕ) → d.row ≡ Drawn y → colours ≡ colours_now (state_of b))
+    (et : raster ≡ (state_of b).raster) (ec : (y : ℕ) → d.row ≡ Some y → colours ≡ colours_now (state_of b))
     (ei : bits ≡ bits_of d.row (due_picture Home m reg d)) (eb : b₁ ≡ colours_stored 24 58 d.row colours b)
     (er : r ≡ points_word (points_in b₁ bits d)) (es : b' ≡ points_stored 23 (points_in b₁ bits d) b₁) where
   device_sized : Sized (state_of b)
@@ -214,55 +180,25 @@ module _ (b m x : List ℕ) {q : ℕ} (eq : q ≡ refusal_number (first (asked_l
         block =
             es
             ∙ raster_stored_lem (cleaned d.row h (colours_now h)) (cleaned_sized d.row h (colours_now h) device_sized) b₁ p.status p.raster
-            (ap (λ (v : HomeStepped). v.home.raster.table) t ∙ step_table ls m h ∙ sym (cleaned_table d.row h (colours_now h))) coloured
-            ∙ ap (λ (w : DrawnRow). block_of (with_raster (with_status (cleaned w h (colours_now h)) p.status) p.raster))
+            (ap (λ (v : Stepped HomeState). v.device.raster.table) t ∙ step_table ls m h ∙ sym (cleaned_table d.row h (colours_now h))) coloured
+            ∙ ap (λ (w : Option ℕ). block_of (with_raster (with_status (cleaned w h (colours_now h)) p.status) p.raster))
             (sym (row_due_by ls Home m k eg et eu ec ep ed))
-            ∙ ap (λ (v : HomeStepped). block_of v.home) t;
+            ∙ ap (λ (v : Stepped HomeState). block_of v.device) t;
         lent = ex;
       }
 
-  pub step_kept :
-      {x' : List ℕ} → d ≡ due_of (frame_lines Home m (length x)) Home reg raster → x' ≡ frame_with d.row Home colours (due_picture Home m reg d) x
-      → Leaves (step_call b m x) r b' x'
-  unfolding step_call frame_after
-  step_kept ed ex =
-      let ls = frame_lines Home m (length x) in
-      along (on (state_of b) b x (step_on m x) (whole b eq zero))
-      (under_lines ls ed (frame_by ls Home m (reading_of (state_of b)) eg et eu ec ep ed x ex))
-
-  pub row_kept : {x' : List ℕ} → d ≡ due_of (row_lines Home m (length x)) Home reg raster → x' ≡ row_with d.row Home colours (due_picture Home m reg d) x
-      → Leaves (row_step_call b m x) r b' x'
-  unfolding row_step_call row_after
-  row_kept ed ex =
-      let ls = row_lines Home m (length x) in
-      along (on (state_of b) b x (row_step_on m x) (whole b eq zero))
-      (under_lines ls ed (row_by ls Home m (reading_of (state_of b)) eg et eu ec ep ed x ex))
-
-  -- with layers
-  module _ (layers : List ℕ) {layers' : List ℕ} (eo : layers' ≡ layers_by d.row Home (due_layers Home m reg d) layers) where
-    layered : (lines : List Line) (filled : HomeState → List ℕ) {x' : List ℕ} → d ≡ due_of (layer_lines lines layers) Home reg raster
-        → x' ≡ under (layer_lines lines layers) (λ r. x) (filled (state_of b)) → LayerLeaves lines filled b m x layers r b' x' layers'
-    unfolding layer_call layers_left
-    layered lines filled ed ex =
-        let ls = layer_lines lines layers in
-        record {
-          call = along (on (state_of b) b x (layer_on lines filled m x layers) (whole b eq zero)) (under_lines ls ed ex);
-          owners = layers_by_lem ls Home m (reading_of (state_of b)) eg et eu ec ep ed layers eo ∙ rw (whole b eq zero);
-        }
-
-    pub layer_frame_kept : {x' : List ℕ} → d ≡ due_of (layer_lines (frame_lines Home m (length x)) layers) Home reg raster
-        → x' ≡ frame_with d.row Home colours (due_picture Home m reg d) x → LayerFrameLeaves b m x layers r b' x' layers'
-    layer_frame_kept ed ex =
-        let lines = frame_lines Home m (length x) in
-        layered lines (λ h. frame_filled Home m (reading_of h) x) ed
-        (frame_by (layer_lines lines layers) Home m (reading_of (state_of b)) eg et eu ec ep ed x ex)
-
-    pub layer_row_kept : {x' : List ℕ} → d ≡ due_of (layer_lines (row_lines Home m (length x)) layers) Home reg raster
-        → x' ≡ row_with d.row Home colours (due_picture Home m reg d) x → LayerRowLeaves b m x layers r b' x' layers'
-    layer_row_kept ed ex =
-        let lines = row_lines Home m (length x) in
-        layered lines (λ h. row_filled Home m (reading_of h) x) ed
-        (row_by (layer_lines lines layers) Home m (reading_of (state_of b)) eg et eu ec ep ed x ex)
+  pub kept :
+      (t : Target) (told : Bool) (layers : List ℕ) {x' layers' : List ℕ} → d ≡ due_of (lines_of t told m x layers) Home reg raster
+      → x' ≡ drawn t d.row Home colours (due_picture Home m reg d) x → layers' ≡ layers_by d.row Home (due_layers Home m reg d) layers
+      → TargetLeaves t told b m x layers r b' x' layers'
+  kept t told layers ed ex eo =
+      let ls = lines_of t told m x layers in
+      let k = reading_of (state_of b) in
+      record {
+        call = along (on (state_of b) b x (target_on t told m x layers) (whole b eq zero))
+            (under_lines ls ed (target_by ls Home m k eg et eu ec ep ed x t ex));
+        owners = layers_by_lem ls Home m k eg et eu ec ep ed layers eo ∙ rw (whole b eq zero);
+      }
 
 -- R15.4: with room for its layers, a step with them answers, and leaves of block and pixels, what the step without does
 module _ (b m x layers : List ℕ) (room : columns Home ≤ length layers) where

@@ -47,7 +47,7 @@ module _ (b : List ℕ) where
         either (SameTable b) (well_formed b)
         (λ w.
         let s = state_of b in
-        kept (port_write s m p v).answer.vdp w (write_shape v h s m p (state_shape b w bytes))
+        kept (port_write s m p v).answer.device w (write_shape v h s m p (state_shape b w bytes))
         (ap (λ (x : Raster). x.table) (write_keeps s m p v).raster) refl)
         (λ _. same refl)
 
@@ -57,14 +57,14 @@ module _ (b : List ℕ) where
         either (SameTable b) (well_formed b)
         (λ w.
         let s = state_of b in
-        kept (port_read s m p).vdp w (read_shape s m p (state_shape b w bytes)) (ap (λ (x : Raster). x.table) (read_keeps s m p).raster) refl)
+        kept (port_read s m p).device w (read_shape s m p (state_shape b w bytes)) (ap (λ (x : Raster). x.table) (read_keeps s m p).raster) refl)
         (λ _. same refl)
 
     stepped : (ls : List Line) (a : RenderArea) (m : List ℕ) {c : Called} → well_formed b ≡ true → c.block ≡ block_of (length b)
-        (step_with ls a m (state_of b)).vdp → SameTable b c
+        (step_with ls a m (state_of b)).device → SameTable b c
     stepped ls a m w e =
         let s = state_of b in
-        kept (step_with ls a m s).vdp w (with_shape ls a m s (state_shape b w bytes)) (step_table ls a m s) e
+        kept (step_with ls a m s).device w (with_shape ls a m s (state_shape b w bytes)) (step_table ls a m s) e
 
     pub step_table_kept : (m frame : List ℕ) (n : ℕ) → SameTable b (step_call b m frame n)
     unfolding step_call

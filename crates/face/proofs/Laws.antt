@@ -1,79 +1,54 @@
 -- A call of the C face, from what its parts give.
 -- Assumes nothing.
+use Rattle.refusal.specs.declared.Refusal.{Refusal}
+use Rattle.std.specs.Prelude.{None, Option, Some, ℕ, Result}
 use mathlib.Core.Path.{◌≡◌, refl, sym, ap, ◌∙◌}
-use mathlib.Core.Bool.{Bool, true, false, ◌&&◌}
+use mathlib.Core.Bool.{Bool, true}
 use mathlib.Core.Logic.{◌≢◌}
 use mathlib.Core.List.{List, []}
-use Prim.Native.Nat.{ℕ, ◌+◌, ◌*◌, ◌<◌, ◌≤◌}
+use Prim.Native.Nat.{ℕ, ◌+◌, ◌<◌, ◌≤◌}
 use native.Mathlib.Omega.{arith}
 use borrow.Author.Tests.{le-leb, eqb-false}
-use lib.Dec.{leb, eqb}
+use lib.Dec.{eqb}
 use lib.ListN.{length}
 use lib.Seq.{take_at}
 use Rattle.laws.specs.Lists.{at}
 use Rattle.laws.proofs.Parts.{at_past}
-use Rattle.laws.proofs.Tests.{split, both}
+use Rattle.laws.proofs.Tests.{split}
 use Rattle.picture.specs.declared.RenderArea.{RenderArea}
 use Rattle.picture.specs.declared.Screen.{Screen}
-use Rattle.picture.specs.Screen.{columns}
-use Rattle.raster.specs.declared.LineTable.{LineTable}
 use Rattle.raster.specs.declared.Raster.{Raster}
-use Rattle.raster.specs.Raster.{line_table_from}
 use Rattle.vdp.specs.declared.VdpState.{VdpState}
-use Rattle.refusal.specs.declared.Refusal.{Refusal}
-use Rattle.refusal.specs.declared.Refusal.TheVariants.{BlockMalformed}
-use Rattle.vdp.specs.Device.{made, with_status, with_raster, with_cache}
-use Rattle.refusal.specs.Refusals.{refusal_number, Line, first, under}
-use Rattle.vdp.specs.Ports.{port_read}
-use Rattle.inplace.specs.declared.Got.{Got}
+use Rattle.vdp.specs.Device.{with_status, with_raster, with_cache}
+use Rattle.refusal.specs.Refusals.{refusal_number, Line, first, Outcome, outcome_of, byte_given}
 use Rattle.fields.specs.Stored.{front_end}
 use Rattle.block_parts.specs.Parts.{registers_in}
-use Rattle.block.specs.Block.{old_size, fits, fresh_in, well_formed, head, small, last, state_of, block_of, Sized}
+use Rattle.block.specs.Block.{old_size, well_formed, head, small, last, state_of, block_of, Sized}
 use Rattle.block.proofs.Whole.{long}
 use Rattle.block_ports.specs.InPlace.{OutInPlace, InputInPlace}
 use Rattle.block.proofs.RoundTrip.{block_back}
 use Rattle.block.proofs.Stores.{sized_state, raster_stored_lem, cache_stored_lem}
-use Rattle.step.specs.declared.Stepped.{Stepped}
+use Rattle.points.specs.declared.Stepped.{Stepped}
 use Rattle.points.specs.declared.Points.{Points}
 use Rattle.points.specs.declared.Due.{Due}
-use Rattle.points.specs.Points.{bits_of, row_lines, frame_lines}
-use Rattle.points.specs.Bytes.{row_with, frame_with, layers_by, also_layers}
+use Rattle.points.specs.Points.{bits_of}
+use Rattle.points.specs.Bytes.{layers_by}
 use Rattle.points.specs.Due.{due_of, due_picture, due_layers, points_by}
 use Rattle.step.specs.Step.{colours_now, reading_of, cleaned, joined, step_with}
-use Rattle.step.specs.Frame.{row_after, frame_after}
-use Rattle.step.specs.Layers.{layers_after}
 use Rattle.step.proofs.Laws.{step_table}
 use Rattle.step.proofs.Steps.{joined_with}
-use Rattle.points.specs.declared.DrawnRow.{DrawnRow}
-use Rattle.points.specs.declared.DrawnRow.TheVariants.{NoRow, Drawn}
 use Rattle.dump.specs.Sheet.{SheetLeaves}
 use Rattle.picture.specs.Area.{area_from, screen_of}
-use Rattle.face.specs.Layers.{layer_lines, layer_on, layer_call, layers_left, LayerLeaves, row_fills, frame_fills, LayerRowLeaves, LayerFrameLeaves}
-use Rattle.word.specs.Word.{points_word}
+use Rattle.word.specs.Word.{points_word, byte_word}
 use Rattle.word.specs.Called.{asked_lines}
-use Rattle.word.proofs.Calls.{leaves, along, on, asked_both, asked_refused}
-use Rattle.face.specs.Face.{Called, Leaves, step_word, on_block, on_area, new_table_call, out_on, out_call, input_on, input_call, stepped_to, step_on}
-use Rattle.face.specs.Face.{step_call, row_step_on, row_step_call, dump_on, dump_call}
+use Rattle.word.proofs.Calls.{along, on, asked_both, asked_refused}
+use Rattle.face.specs.Face.{Called, Leaves, step_word, on_block, on_area, out_on, out_call, input_on, input_call, stepped_to}
+use Rattle.face.specs.Face.{dump_on, dump_call}
 use Rattle.face.specs.Steps.{points_in, colours_stored, points_stored}
-use Rattle.face.proofs.Steps.{answer_by, row_due_by, row_by, frame_by, layers_by_lem}
-
--- ---- a fresh block
-module _ (b : List ℕ) (t : ℕ) {k : LineTable} {room good : Bool} (ek : k ≡ line_table_from t) (er : room ≡ fits k (length b))
-    (eg : good ≡ (leb t 1 && room)) where
-  new_good : good ≡ (leb t 1 && fits (line_table_from t) (length b))
-  new_good = eg ∙ rw (er, ek)
-
-  pub new_ten : good ≡ false → {n : ℕ} → n ≡ refusal_number BlockMalformed → Leaves (new_table_call b t) n b []
-  unfolding new_table_call
-  new_ten h en = rw en (leaves (sym (rw (sym new_good ∙ h))))
-
-  pub new_done : good ≡ true → {b' : List ℕ} → b' ≡ fresh_in k b → Leaves (new_table_call b t) 0 b' []
-  unfolding new_table_call fresh_in
-  new_done h {b'} eb =
-      let g = sym new_good ∙ h in
-      let room = (both (leb t 1) (fits (line_table_from t) (length b)) g).1 in
-      let f : b' ≡ block_of (length b) (made (line_table_from t)) = (rw ek at eb) ∙ rw room in
-      record { word = rw g; block = f ∙ rw g; lent = rw g }
+use Rattle.face.specs.declared.target.Target.{Target}
+use Rattle.face.specs.Target.{target_lines, drawn}
+use Rattle.face.specs.Stepped.{target_on, TargetLeaves}
+use Rattle.face.proofs.Steps.{answer_by, row_due_by, target_by, layers_by_lem}
 
 -- ---- a call that is taken has a block of its size, with room for what a step leaves
 module _ (b : List ℕ) (n : ℕ) {q : ℕ} (eq : q ≡ refusal_number (first (asked_lines (well_formed b) n))) (zero : q ≡ 0) where
@@ -107,42 +82,41 @@ module _ (b : List ℕ) {q : ℕ} (eq : q ≡ refusal_number (first (asked_lines
     dump_refused m pixels = asked_refused (well_formed b) 0 eq (state_of b) b pixels (dump_on b m pixels) h
 
   module _ (z : q ≡ 0) where
-    pub out_done : (m : List ℕ) (p v : ℕ) {r : Refusal} {b' m' : List ℕ} {n : ℕ} → OutInPlace b m p v r b' m' → n ≡ refusal_number r
+    pub out_done : (m : List ℕ) (p v : ℕ) {r : Outcome} {b' m' : List ℕ} {n : ℕ} → OutInPlace b m p v r b' m' → n ≡ refusal_number r
         → Leaves (out_call b m p v) n b' m'
     unfolding out_call
     out_done m p v l en =
         along (on (state_of b) b m (out_on m p v (length b)) (whole z))
-        (record { word = en ∙ ap refusal_number l.refusal; block = l.block; lent = l.memory })
+        (record { word = en ∙ ap refusal_number l.outcome; block = l.block; lent = l.memory })
 
-    pub input_done : (m : List ℕ) (p : ℕ) {r : Got} {b' : List ℕ} {n : ℕ} → InputInPlace b m p r b' → n ≡ refusal_number r.refusal
-        → Leaves (input_call b m p) (n + 256 * r.byte) b' []
+    pub input_done : (m : List ℕ) (p : ℕ) {r : Result ℕ Refusal} {b' : List ℕ} {n : ℕ} → InputInPlace b m p r b' →
+        n ≡ byte_word (outcome_of r) (byte_given r) → Leaves (input_call b m p) n b' []
     unfolding input_call
     input_done m p {r} l en =
         along (on (state_of b) b [] (input_on m p (length b)) (whole z))
         (record {
-          word = ap (λ (x : ℕ). x + 256 * r.byte) (en ∙ ap refusal_number l.refusal) ∙ ap
-              (λ (x : ℕ). refusal_number (port_read (state_of b) m p).refusal + 256 * x) l.byte;
+          word = en ∙ ap (λ (x : Result ℕ Refusal). byte_word (outcome_of x) (byte_given x)) l.byte;
           block = l.block;
           lent = refl;
         })
 
     pub dump_done :
-        (m pixels : List ℕ) {reg cache : List ℕ} {r : Refusal} {pixels' : List ℕ} {n : ℕ} → reg ≡ (state_of b).reg → cache ≡ (state_of b).color_cache
+        (m pixels : List ℕ) {reg cache : List ℕ} {r : Outcome} {pixels' : List ℕ} {n : ℕ} → reg ≡ (state_of b).reg → cache ≡ (state_of b).color_cache
         → SheetLeaves reg cache m pixels r pixels' → n ≡ refusal_number r → Leaves (dump_call b m pixels) n b pixels'
     unfolding dump_call
     dump_done m pixels er ec l en =
         along (on (state_of b) b pixels (dump_on b m pixels) (whole z))
-        (record { word = en ∙ ap refusal_number l.refusal; block = refl; lent = rw (er, ec) at l.bytes })
+        (record { word = en ∙ ap refusal_number l.outcome; block = refl; lent = rw (er, ec) at l.bytes })
 
 -- a step's colours keep the sizes
-cleaned_sized : (r : DrawnRow) (s : VdpState) (colours : List ℕ) → Sized s → Sized (cleaned r s colours)
-cleaned_sized NoRow s colours g = g
-cleaned_sized (Drawn y) s colours g = record { registers = g.registers; palette = g.palette }
+cleaned_sized : (r : Option ℕ) (s : VdpState) (colours : List ℕ) → Sized s → Sized (cleaned r s colours)
+cleaned_sized None s colours g = g
+cleaned_sized (Some y) s colours g = record { registers = g.registers; palette = g.palette }
 
 -- and the table
-cleaned_table : (r : DrawnRow) (s : VdpState) (colours : List ℕ) → (cleaned r s colours).raster.table ≡ s.raster.table
-cleaned_table NoRow s colours = refl
-cleaned_table (Drawn y) s colours = refl
+cleaned_table : (r : Option ℕ) (s : VdpState) (colours : List ℕ) → (cleaned r s colours).raster.table ≡ s.raster.table
+cleaned_table None s colours = refl
+cleaned_table (Some y) s colours = refl
 
 -- a block whose colours are clean has them already
 clean_kept : (n : ℕ) (s : VdpState) → Sized s → at (block_of n s) 26 ≢ 1 → block_of n s ≡ block_of n (with_cache s (colours_now s))
@@ -152,53 +126,34 @@ clean_kept n s g h =
 
 -- the colours of a step, stored in the block of a device
 colours_stored_lem :
-    (k : ℕ) (s : VdpState) → Sized s → {b colours : List ℕ} → b ≡ block_of k s → (r : DrawnRow) → ((y : ℕ) → r ≡ Drawn y → colours ≡ colours_now s)
+    (k : ℕ) (s : VdpState) → Sized s → {b colours : List ℕ} → b ≡ block_of k s → (r : Option ℕ) → ((y : ℕ) → r ≡ Some y → colours ≡ colours_now s)
     → colours_stored 26 91 r colours b ≡ block_of k (cleaned r s (colours_now s))
-colours_stored_lem k s g e NoRow q = e
-colours_stored_lem k s g {b} {colours} e (Drawn y) q =
+colours_stored_lem k s g e None q = e
+colours_stored_lem k s g {b} {colours} e (Some y) q =
     split (eqb (at b 26) 1)
     (λ f. rw f (cache_stored_lem k s g b colours e ∙ ap (λ (c : List ℕ). block_of k (with_cache s c)) (q y refl)))
     (λ f. rw f (e ∙ clean_kept k s g (λ z. eqb-false (at b 26) 1 f (ap (λ (c : List ℕ). at c 26) e ∙ z))))
 
 -- and its status byte and registers, which they leave
-cleaned_status : (k : ℕ) (r : DrawnRow) (s : VdpState) (colours : List ℕ) → at (block_of k (cleaned r s colours)) 2 ≡ s.status
+cleaned_status : (k : ℕ) (r : Option ℕ) (s : VdpState) (colours : List ℕ) → at (block_of k (cleaned r s colours)) 2 ≡ s.status
 unfolding block_of head
-cleaned_status k NoRow s colours = refl
-cleaned_status k (Drawn y) s colours = refl
+cleaned_status k None s colours = refl
+cleaned_status k (Some y) s colours = refl
 
-cleaned_registers : (k : ℕ) (r : DrawnRow) (s : VdpState) (colours : List ℕ) → Sized s → registers_in (block_of k (cleaned r s colours)) ≡ s.reg
+cleaned_registers : (k : ℕ) (r : Option ℕ) (s : VdpState) (colours : List ℕ) → Sized s → registers_in (block_of k (cleaned r s colours)) ≡ s.reg
 unfolding block_of head
-cleaned_registers k NoRow s colours g = take_at s.reg _ 11 g.registers
-cleaned_registers k (Drawn y) s colours g = take_at s.reg _ 11 g.registers
+cleaned_registers k None s colours g = take_at s.reg _ 11 g.registers
+cleaned_registers k (Some y) s colours g = take_at s.reg _ 11 g.registers
 
 -- ---- a step: the block is tested, the area number, and then the block's parts are read each by itself
 taken : (b x : List ℕ) (n : ℕ) (call : VdpState → RenderArea → Called) {q : ℕ} → q ≡ refusal_number (first (asked_lines (well_formed b) n)) → q ≡ 0
     → call (state_of b) (area_from n) ≡ on_block b x (λ s. on_area n b x (call s))
 taken b x n call eq zero = let t = asked_both (well_formed b) n eq zero in sym (rw (t.0, le-leb n 2 t.1))
 
--- refused by 10 or 11
-module _ (b m x : List ℕ) (n : ℕ) {r : ℕ} (er : r ≡ refusal_number (first (asked_lines (well_formed b) n))) (h : r ≢ 0) where
-  pub step_refused : Leaves (step_call b m x n) r b x
-  unfolding step_call
-  step_refused = asked_refused (well_formed b) n er (state_of b) b x (λ s. step_on m x (length b) s (area_from n)) h
-
-  pub row_refused : Leaves (row_step_call b m x n) r b x
-  unfolding row_step_call
-  row_refused = asked_refused (well_formed b) n er (state_of b) b x (λ s. row_step_on m x (length b) s (area_from n)) h
-
-  pub layer_refused : (lines : RenderArea → List Line) (filled : VdpState → RenderArea → List ℕ) (layers : List ℕ)
-      → LayerLeaves lines filled b m x layers n r b x layers
-  unfolding layer_call layers_left
-  layer_refused lines filled layers =
-      record {
-        call = asked_refused (well_formed b) n er (state_of b) b x (λ s. layer_on lines filled m x layers (length b) s (area_from n)) h;
-        owners = split (well_formed b) (λ e. split (leb n 2) (λ f. absurd (h (er ∙ rw (e, f)))) (λ f. rw (e, f))) (λ e. rw e);
-      }
-
 -- taken, it is that step, from what its parts give: b₁ is the block with the colours
 module _ (b m x : List ℕ) (n : ℕ) {q : ℕ} (eq : q ≡ refusal_number (first (asked_lines (well_formed b) n))) (zero : q ≡ 0) (bytes : (i : ℕ) → at b i < 256)
     (d : Due) {z : Screen} {reg : List ℕ} {raster : Raster} {colours : List ℕ} {bits : ℕ} {b₁ b' : List ℕ} {r : ℕ} (ez : z ≡ screen_of (area_from n))
-    (eg : reg ≡ (state_of b).reg) (et : raster ≡ (state_of b).raster) (ec : (y : ℕ) → d.row ≡ Drawn y → colours ≡ colours_now (state_of b))
+    (eg : reg ≡ (state_of b).reg) (et : raster ≡ (state_of b).raster) (ec : (y : ℕ) → d.row ≡ Some y → colours ≡ colours_now (state_of b))
     (ei : bits ≡ bits_of d.row (due_picture z m reg d)) (eb : b₁ ≡ colours_stored 26 91 d.row colours b)
     (er : r ≡ points_word (points_in b₁ bits d)) (es : b' ≡ points_stored 25 (points_in b₁ bits d) b₁) where
   whole_block : well_formed b ≡ true
@@ -235,54 +190,23 @@ module _ (b m x : List ℕ) (n : ℕ) {q : ℕ} (eq : q ≡ refusal_number (firs
         block =
             es
             ∙ raster_stored_lem (length b) (cleaned d.row s (colours_now s)) (cleaned_sized d.row s (colours_now s) device_sized) b₁ p.status p.raster
-            (ap (λ (v : Stepped). v.vdp.raster.table) t ∙ step_table ls a m s ∙ sym (cleaned_table d.row s (colours_now s))) coloured
-            ∙ ap (λ (w : DrawnRow). block_of (length b) (with_raster (with_status (cleaned w s (colours_now s)) p.status) p.raster))
+            (ap (λ (v : Stepped VdpState). v.device.raster.table) t ∙ step_table ls a m s ∙ sym (cleaned_table d.row s (colours_now s))) coloured
+            ∙ ap (λ (w : Option ℕ). block_of (length b) (with_raster (with_status (cleaned w s (colours_now s)) p.status) p.raster))
             (sym (row_due_by (lines z) z m k eg et eu ec ep ed))
-            ∙ ap (λ (v : Stepped). block_of (length b) v.vdp) t;
+            ∙ ap (λ (v : Stepped VdpState). block_of (length b) v.device) t;
         lent = ex;
       }
 
-  pub step_kept : {x' : List ℕ} → d ≡ due_of (frame_lines z m (length x)) z reg raster → x' ≡ frame_with d.row z colours (due_picture z m reg d) x
-      → Leaves (step_call b m x n) r b' x'
-  unfolding step_call frame_after
-  step_kept ed ex =
-      along (taken b x n (step_on m x (length b)) eq zero)
-      (under_lines (λ s. frame_lines s m (length x)) ed
-      (rw ez at (frame_by (frame_lines z m (length x)) z m (reading_of (state_of b)) eg et eu ec ep ed x ex)))
-
-  pub row_kept : {x' : List ℕ} → d ≡ due_of (row_lines z m (length x)) z reg raster → x' ≡ row_with d.row z colours (due_picture z m reg d) x
-      → Leaves (row_step_call b m x n) r b' x'
-  unfolding row_step_call row_after
-  row_kept ed ex =
-      along (taken b x n (row_step_on m x (length b)) eq zero)
-      (under_lines (λ s. row_lines s m (length x)) ed
-      (rw ez at (row_by (row_lines z m (length x)) z m (reading_of (state_of b)) eg et eu ec ep ed x ex)))
-
-  -- with layers
-  module _ (layers : List ℕ) {layers' : List ℕ} (eo : layers' ≡ layers_by d.row z (due_layers z m reg d) layers) where
-    layered : (lines : Screen → List Line) (filled : VdpState → RenderArea → List ℕ) {x' : List ℕ}
-        → d ≡ due_of (also_layers (columns z) (length layers) (lines z)) z reg raster
-        → x' ≡ under (layer_lines (λ a. lines (screen_of a)) layers (area_from n)) (λ r. x) (filled (state_of b) (area_from n))
-        → LayerLeaves (λ a. lines (screen_of a)) filled b m x layers n r b' x' layers'
-    unfolding layer_call layers_left layers_after
-    layered lines filled ed ex =
-        let ls : Screen → List Line = λ s. also_layers (columns s) (length layers) (lines s) in
-        let t = asked_both (well_formed b) n eq zero in
-        record {
-          call = along (taken b x n (layer_on (λ a. lines (screen_of a)) filled m x layers (length b)) eq zero) (under_lines ls ed ex);
-          owners = (rw ez at (layers_by_lem (ls z) z m (reading_of (state_of b)) eg et eu ec ep ed layers eo)) ∙ rw (t.0, le-leb n 2 t.1);
-        }
-
-    pub layer_frame_kept : {x' : List ℕ} → d ≡ due_of (also_layers (columns z) (length layers) (frame_lines z m (length x))) z reg raster
-        → x' ≡ frame_with d.row z colours (due_picture z m reg d) x → LayerFrameLeaves b m x layers n r b' x' layers'
-    layer_frame_kept ed ex =
-        layered (λ s. frame_lines s m (length x)) (frame_fills m x) ed
-        (rw ez at (frame_by (also_layers (columns z) (length layers) (frame_lines z m (length x))) z m (reading_of (state_of b)) eg et
-        eu ec ep ed x ex))
-
-    pub layer_row_kept : {x' : List ℕ} → d ≡ due_of (also_layers (columns z) (length layers) (row_lines z m (length x))) z reg raster
-        → x' ≡ row_with d.row z colours (due_picture z m reg d) x → LayerRowLeaves b m x layers n r b' x' layers'
-    layer_row_kept ed ex =
-        layered (λ s. row_lines s m (length x)) (row_fills m x) ed
-        (rw ez at (row_by (also_layers (columns z) (length layers) (row_lines z m (length x))) z m (reading_of (state_of b)) eg et
-        eu ec ep ed x ex))
+  pub kept :
+      (t : Target) (told : Bool) (layers : List ℕ) {x' layers' : List ℕ} → d ≡ due_of (target_lines t told m (length x) (length layers) z) z reg raster
+      → x' ≡ drawn t d.row z colours (due_picture z m reg d) x → layers' ≡ layers_by d.row z (due_layers z m reg d) layers
+      → TargetLeaves t told b m x layers n r b' x' layers'
+  kept t told layers ed ex eo =
+      let ls : Screen → List Line = λ s. target_lines t told m (length x) (length layers) s in
+      let k = reading_of (state_of b) in
+      let g = asked_both (well_formed b) n eq zero in
+      record {
+        call = along (taken b x n (target_on t told m x layers (length b)) eq zero)
+            (under_lines ls ed (rw ez at (target_by (ls z) z m k eg et eu ec ep ed x t ex)));
+        owners = (rw ez at (layers_by_lem (ls z) z m k eg et eu ec ep ed layers eo)) ∙ rw (g.0, le-leb n 2 g.1);
+      }

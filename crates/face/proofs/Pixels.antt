@@ -8,7 +8,6 @@ use native.Mathlib.Omega.{arith}
 use lib.Dec.{leb}
 use lib.ListN.{length, take, drop}
 use lib.Seq.{get_or-take, get_or-drop}
-use mathlib.Core.Bool.{cond}
 use borrow.Author.Tests.{eq-eqb, ne_eqb, eqb-false, le-leb}
 use Rattle.laws.specs.Lists.{at}
 use Rattle.laws.specs.Sizes.{vram_size}
@@ -18,15 +17,13 @@ use Rattle.colour.specs.Colour.{colour, colours_of}
 use Rattle.picture.specs.declared.Screen.{Screen}
 use Rattle.picture.specs.Area.{area_from, screen_of}
 use Rattle.raster.specs.declared.Raster.{Raster}
-use Rattle.refusal.specs.Refusals.{refusal_number, first, whole}
+use Rattle.refusal.specs.Refusals.{refusal_number, first, whole, outcome_of}
 use Rattle.block.specs.Block.{well_formed, state_of}
-use Rattle.pixel.specs.declared.Spot.{Spot}
-use Rattle.pixel.specs.Pixel.{pixel_lines, spot_of, pixel_of}
+use Rattle.pixel.specs.Pixel.{Spot, pixel_lines, spot_of, in_colours, has_pixel, colour_of, pixel_of}
 use Rattle.pixel.proofs.Spots.{pixel_exact, pixel_refused}
 use Rattle.step.specs.Step.{colours_now, reading_of}
 use Rattle.face.specs.Refused.{refusal_in, step_call_lines}
-use Rattle.face.specs.Pixel.{pixel_call}
-use Rattle.word.specs.Word.{pixel_bits}
+use Rattle.face.specs.Pixel.{pixel_word, pixel_call}
 use Rattle.word.specs.Called.{asked_lines}
 use Rattle.word.proofs.Words.{pixel_byte_lem}
 use Rattle.word.proofs.Calls.{asked_both}
@@ -55,12 +52,11 @@ module _ (b m : List ℕ) (n y x : ℕ) {q : ℕ} (eq : q ≡ refusal_number (fi
   pixel_asked h = eq ∙ split (well_formed b) (λ e. split (leb n 2) (λ f. absurd (h (eq ∙ rw (e, f)))) (λ f. rw (e, f))) (λ e. rw e)
 
   pub pixel_done :
-      q ≡ 0 → {z : Screen} {reg : List ℕ} {raster : Raster} {s : Spot} {c r : ℕ} → z ≡ screen_of (area_from n) → reg ≡ (state_of b).reg →
+      q ≡ 0 → {z : Screen} {reg : List ℕ} {raster : Raster} {s : Spot} {r : ℕ} → z ≡ screen_of (area_from n) → reg ≡ (state_of b).reg →
       raster ≡ (state_of b).raster
-      → s ≡ spot_of z reg raster.vertical_scroll m y x → c ≡ cond s.there (at (colours_now (state_of b)) s.colour) 0
-      → r ≡ refusal_number s.refusal + pixel_bits s.there c → r ≡ pixel_call b m n y x
+      → s ≡ spot_of z reg raster.vertical_scroll m y x → r ≡ pixel_word (in_colours (colours_now (state_of b)) s) → r ≡ pixel_call b m n y x
   unfolding pixel_call pixel_of
-  pixel_done zero ez eg et es ec er = let t = asked_both (well_formed b) n eq zero in er ∙ rw (ec, es, eg, et, ez, t.0, le-leb n 2 t.1)
+  pixel_done zero ez eg et es er = let t = asked_both (well_formed b) n eq zero in er ∙ rw (es, eg, et, ez, t.0, le-leb n 2 t.1)
 
 -- R16.3: refused by the first line of its table that holds; R16.6: and then its word is the refusal alone, with no pixel and four zero bytes
 module _ (b m : List ℕ) (n y x : ℕ) where
@@ -73,7 +69,7 @@ module _ (b m : List ℕ) (n y x : ℕ) where
       (λ l.
       simp (e, l)
       (let p = pixel_of (screen_of (area_from n)) m (reading_of (state_of b)) y x in
-      pixel_byte_lem p.refusal p.there p.colour ∙ ap refusal_number (pixel_exact (screen_of (area_from n)) m (reading_of (state_of b)) y x)))
+      pixel_byte_lem (outcome_of p) (has_pixel p) (colour_of p) ∙ ap refusal_number (pixel_exact (screen_of (area_from n)) m (reading_of (state_of b)) y x)))
       (λ l. simp (e, l)))
       (λ e. simp e)
 
@@ -88,7 +84,8 @@ module _ (b m : List ℕ) (n y x : ℕ) where
       (λ f.
       let p = pixel_of (screen_of (area_from n)) m (reading_of (state_of b)) y x in
       simp (e, l)
-      (λ h. absurd (h (pixel_byte_lem p.refusal p.there p.colour ∙ ap refusal_number (pixel_exact (screen_of (area_from n)) m (reading_of (state_of b)) y x)
+      (λ h. absurd (h (pixel_byte_lem (outcome_of p) (has_pixel p) (colour_of p)
+      ∙ ap refusal_number (pixel_exact (screen_of (area_from n)) m (reading_of (state_of b)) y x)
       ∙ rw f))))
       (λ f. simp (e, l) (λ h. rw (pixel_refused (screen_of (area_from n)) m (reading_of (state_of b)) y x (eqb-false (length m) vram_size f)) (omega arith))))
       (λ l. simp (e, l) (λ h. omega arith)))

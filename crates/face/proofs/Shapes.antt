@@ -1,5 +1,6 @@
 -- A step keeps the shape that the block asks of a device.
 -- Assumes nothing.
+use Rattle.std.specs.Prelude.{None, Option, Some, ℕ}
 use mathlib.Core.Path.{◌≡◌}
 use mathlib.Core.List.{List}
 use Prim.Native.Nat.{ℕ, ◌+◌, ◌*◌, ◌<◌, ◌≤◌}
@@ -17,9 +18,7 @@ use Rattle.refusal.specs.Refusals.{Line}
 use Rattle.refusal.proofs.Tables.{under_either}
 use Rattle.block.specs.Block.{Shape}
 use Rattle.block.proofs.Shapes.{carried}
-use Rattle.points.specs.declared.DrawnRow.{DrawnRow}
-use Rattle.points.specs.declared.DrawnRow.TheVariants.{NoRow, Drawn}
-use Rattle.step.specs.declared.Stepped.{Stepped}
+use Rattle.points.specs.declared.Stepped.{Stepped}
 use Rattle.points.specs.Points.{points_of}
 use Rattle.step.specs.Step.{colours_now, reading_of, cleaned, stepped, refused_step, step_with}
 
@@ -46,20 +45,20 @@ coloured d g =
     (λ _. record { size = length_colours d.cram; low = colours_low d.cram g.byte })
     (λ _. record { size = g.cache; low = g.colour })
 
-cleaned_shape : (r : DrawnRow) (d : VdpState) → Shape d → Shape (cleaned r d (colours_now d))
-cleaned_shape NoRow d g = g
-cleaned_shape (Drawn y) d g =
+cleaned_shape : (r : Option ℕ) (d : VdpState) → Shape d → Shape (cleaned r d (colours_now d))
+cleaned_shape None d g = g
+cleaned_shape (Some y) d g =
     let c = coloured d g in
     record { registers = g.registers; palette = g.palette; cache = c.size; byte = g.byte; latched = g.latched; colour = c.low }
 
-pub step_shape : (a : RenderArea) (m : List ℕ) (d : VdpState) → Shape d → Shape (stepped a m d).vdp
+pub step_shape : (a : RenderArea) (m : List ℕ) (d : VdpState) → Shape d → Shape (stepped a m d).device
 unfolding stepped
 step_shape a m d g = carried (cleaned_shape (points_of (screen_of a) m (reading_of d)).row d g) _ _ _ _ _ _ _
 
-abbrev ShapeS : Stepped → Type 0
-ShapeS s = Shape s.vdp
+abbrev ShapeS : Stepped VdpState → Type 0
+ShapeS s = Shape s.device
 
 -- a step with any buffer, refused or not
-pub with_shape : (ls : List Line) (a : RenderArea) (m : List ℕ) (d : VdpState) → Shape d → Shape (step_with ls a m d).vdp
+pub with_shape : (ls : List Line) (a : RenderArea) (m : List ℕ) (d : VdpState) → Shape d → Shape (step_with ls a m d).device
 unfolding step_with
 with_shape ls a m d g = under_either ShapeS ls (λ r. refused_step r d) (stepped a m d) (λ r. g) (λ p. step_shape a m d g)

@@ -10,8 +10,7 @@ use borrow.Author.Tests.{ne_eqb}
 use lib.Dec.{leb}
 use lib.ListN.{length}
 use Rattle.laws.proofs.Tests.{same_cond}
-use Rattle.refusal.specs.declared.Refusal.{Refusal}
-use Rattle.refusal.specs.Refusals.{refusal_number, first}
+use Rattle.refusal.specs.Refusals.{refusal_number, first, Outcome}
 use Rattle.tile_codes.specs.Calls.{read_tile_lines, write_tile_lines, read_tile_refusal, write_tile_refusal, unless, tile_written, tile_read, WriteLeaves}
 use Rattle.tile_codes.specs.Calls.{ReadLeaves}
 use Rattle.face.specs.Face.{Leaves}
@@ -21,16 +20,16 @@ use Rattle.word.proofs.Words.{number_low, alone}
 
 -- what a call promises: the number of the answer, and what the buffer holds
 pub wrote_tile :
-    (m : List ℕ) (n : ℕ) (codes : List ℕ) {r : Refusal} {w : ℕ} {m' : List ℕ} → WriteLeaves m n codes r m' → w ≡ refusal_number r
+    (m : List ℕ) (n : ℕ) (codes : List ℕ) {r : Outcome} {w : ℕ} {m' : List ℕ} → WriteLeaves m n codes r m' → w ≡ refusal_number r
     → Leaves (write_tile_call m n codes) w [] m'
 unfolding write_tile_call
-wrote_tile m n codes l e = record { word = e ∙ ap refusal_number l.refusal; block = refl; lent = l.memory }
+wrote_tile m n codes l e = record { word = e ∙ ap refusal_number l.outcome; block = refl; lent = l.memory }
 
 pub read_tile :
-    (m : List ℕ) (n : ℕ) (codes : List ℕ) {r : Refusal} {w : ℕ} {codes' : List ℕ} → ReadLeaves m n codes r codes' → w ≡ refusal_number r
+    (m : List ℕ) (n : ℕ) (codes : List ℕ) {r : Outcome} {w : ℕ} {codes' : List ℕ} → ReadLeaves m n codes r codes' → w ≡ refusal_number r
     → Leaves (read_tile_call m n codes) w [] codes'
 unfolding read_tile_call
-read_tile m n codes l e = record { word = e ∙ ap refusal_number l.refusal; block = refl; lent = l.buffer }
+read_tile m n codes l e = record { word = e ∙ ap refusal_number l.outcome; block = refl; lent = l.buffer }
 
 -- refused by the first line of its table that holds: "checked after 8 in that order"
 pub write_tile_exact : (m : List ℕ) (n : ℕ) (codes : List ℕ) → refusal_in (write_tile_call m n codes).word ≡ refusal_number
@@ -44,7 +43,7 @@ unfolding read_tile_call read_tile_refusal
 read_tile_exact m n codes = alone (first (read_tile_lines m n (length codes)))
 
 -- "all unchanged"
-refused : (r : Refusal) (before after : List ℕ) → LeftBehind [] before (record { word = refusal_number r; block = []; lent = unless r before after })
+refused : (r : Outcome) (before after : List ℕ) → LeftBehind [] before (record { word = refusal_number r; block = []; lent = unless r before after })
 refused r before after =
     record {
       word = λ _. omega (arith, number_low r);

@@ -1,14 +1,14 @@
 -- R21.1: what each call of the C face answers and leaves on the home machine's block.
 -- Assumes nothing.
-use Rattle.std.specs.Prelude.{cond, ◌&&◌, List, [], ℕ, leb, eqb, length}
+use Rattle.std.specs.Prelude.{cond, ◌&&◌, List, [], ℕ, leb, eqb, length, Err, Ok}
 use Rattle.raster.specs.Raster.{line_table_from}
-use Rattle.refusal.specs.declared.Refusal.TheVariants.{Accepted, BlockMalformed}
-use Rattle.refusal.specs.Refusals.{refusal_number}
+use Rattle.refusal.specs.declared.Refusal.TheVariants.{BlockMalformed}
+use Rattle.refusal.specs.Refusals.{refusal_number, outcome_of, byte_given}
 use Rattle.dump.specs.Sheet.{dump_refusal, sheet_after}
 use Rattle.word.specs.Word.{answer_word, byte_word}
 use Rattle.word.specs.Called.{Called, refused, on_device}
 use Rattle.home.specs.declared.HomeState.{HomeState}
-use Rattle.home.specs.declared.HomeStepped.{HomeStepped}
+use Rattle.points.specs.declared.Stepped.{Stepped}
 use Rattle.home.specs.Home.{made}
 use Rattle.home.specs.Ports.{port_write, port_read}
 use Rattle.home.specs.Step.{row_step_of, frame_step_of, row_after, frame_after}
@@ -22,8 +22,8 @@ on_block b x call = on_device (well_formed b) (state_of b) b x call
 unfoldable pub new_table_call : List ℕ → ℕ → Called
 new_table_call b t =
     cond (leb t 1 && eqb (length b) block_size)
-    (record { word = refusal_number Accepted; block = block_of (made (line_table_from t)); lent = [] })
-    (refused BlockMalformed b [])
+    (record { word = refusal_number (Ok tt); block = block_of (made (line_table_from t)); lent = [] })
+    (refused (Err BlockMalformed) b [])
 
 -- with no table named, table 1
 abbrev pub new_call : List ℕ → Called
@@ -33,7 +33,7 @@ new_call b = new_table_call b 1
 abbrev pub out_on : List ℕ → ℕ → ℕ → HomeState → Called
 out_on m p v h =
     let a = port_write h m p v in
-    record { word = refusal_number a.answer.refusal; block = block_of a.answer.home; lent = a.vram }
+    record { word = refusal_number a.answer.outcome; block = block_of a.answer.device; lent = a.vram }
 
 unfoldable pub out_call : List ℕ → List ℕ → ℕ → ℕ → Called
 out_call b m p v = on_block b m (out_on m p v)
@@ -41,17 +41,17 @@ out_call b m p v = on_block b m (out_on m p v)
 abbrev pub input_on : List ℕ → ℕ → HomeState → Called
 input_on m p h =
     let a = port_read h m p in
-    record { word = byte_word a.refusal a.byte; block = block_of a.home; lent = [] }
+    record { word = byte_word (outcome_of a.byte) (byte_given a.byte); block = block_of a.device; lent = [] }
 
 unfoldable pub input_call : List ℕ → List ℕ → ℕ → Called
 input_call b m p = on_block b [] (input_on m p)
 
 -- ---- the steps: a step's answer, and what it leaves in the pixels
-abbrev pub step_word : HomeStepped → ℕ
-step_word s = answer_word s.refusal s.interrupt s.report s.row
+abbrev pub step_word : Stepped HomeState → ℕ
+step_word s = answer_word s.outcome s.interrupt s.report s.row
 
-abbrev pub stepped_to : HomeStepped → List ℕ → Called
-stepped_to s pixels = record { word = step_word s; block = block_of s.home; lent = pixels }
+abbrev pub stepped_to : Stepped HomeState → List ℕ → Called
+stepped_to s pixels = record { word = step_word s; block = block_of s.device; lent = pixels }
 
 abbrev pub step_on : List ℕ → List ℕ → HomeState → Called
 step_on m frame h = stepped_to (frame_step_of m (length frame) h) (frame_after m h frame)

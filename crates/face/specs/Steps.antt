@@ -1,10 +1,8 @@
 -- What the points of a step of either machine read of its state block, where registers and status stand at the same places, and what the step leaves there:
 -- where the scroll, the dirty flag and the cache stand, the machine tells.
 -- Assumes nothing.
-use Rattle.std.specs.Prelude.{cond, List, ℕ, eqb}
+use Rattle.std.specs.Prelude.{cond, List, ℕ, eqb, None, Option, Some}
 use Rattle.laws.specs.Lists.{at}
-use Rattle.points.specs.declared.DrawnRow.{DrawnRow}
-use Rattle.points.specs.declared.DrawnRow.TheVariants.{NoRow, Drawn}
 use Rattle.points.specs.declared.Due.{Due}
 use Rattle.points.specs.declared.Points.{Points}
 use Rattle.points.specs.Due.{points_by}
@@ -15,9 +13,9 @@ abbrev pub points_in : List ℕ → ℕ → Due → Points
 points_in b bits d = points_by (registers_in b) (at b 2) bits d
 
 -- R4.2: the colours that a row is drawn with, where they are dirty
-abbrev pub colours_stored : ℕ → ℕ → DrawnRow → List ℕ → List ℕ → List ℕ
-colours_stored dirty cache NoRow colours b = b
-colours_stored dirty cache (Drawn y) colours b = cond (eqb (at b dirty) 1) (cache_stored cache dirty colours b) b
+abbrev pub colours_stored : ℕ → ℕ → Option ℕ → List ℕ → List ℕ → List ℕ
+colours_stored dirty cache None colours b = b
+colours_stored dirty cache (Some y) colours b = cond (eqb (at b dirty) 1) (cache_stored cache dirty colours b) b
 
 -- the status and the raster that the points leave
 abbrev pub points_stored : ℕ → Points → List ℕ → List ℕ

@@ -1,30 +1,32 @@
 // The home machine's calls of the C face (R21.1): as the handheld's, on a home block.
-ghost use Rattle.std.specs.Prelude.{[], ◌≡◌, cond, ℕ, ◌<◌, length};
+ghost use Rattle.std.specs.Prelude.{[], ◌≡◌, ℕ, ◌<◌, length, Some};
 ghost use Rattle.laws.specs.Lists.{at};
 ghost use Rattle.refusal.specs.Refusals.{refusal_number, first};
 ghost use Rattle.word.specs.Called.{Leaves, asked_lines};
 ghost use Rattle.home.specs.Step.{colours_now};
-ghost use Rattle.points.specs.declared.DrawnRow.TheVariants.{Drawn};
 ghost use Rattle.home_block.specs.HomeBlock.{block_size, state_of, well_formed};
 ghost use Rattle.face.specs.Home.{new_table_call, new_call, out_call, input_call, step_call, row_step_call, dump_call};
+ghost use Rattle.face.specs.HomeStepped.{TargetLeaves};
 ghost use Rattle.face.specs.HomePixel.{pixel_call};
 ghost use Rattle.face.specs.HomeLayers.{LayerRowLeaves, LayerFrameLeaves};
 
+use super::target::Target;
 use super::{left, store_colours};
 use picture::Screen;
-use points::{DrawnRow, Due};
+use points::Due;
 use refusal::Refusal;
-use row::points_run;
 
 // A fresh device of this table into the block.
+#[tactic(auto, unfolding(crate::specs::Home::new_table_call))]
 pub fn vdp_home_new_table(state: &mut [u8], table: u8) -> u32
     ensures { Leaves (new_table_call state.old table) result state.new [] }
 {
-    if !small::both(table <= 1, state.len() == home_block::BLOCK_SIZE) {
-        return word::number(Refusal::BlockMalformed);
+    if table <= 1 && state.len() == home_block::BLOCK_SIZE {
+        home_block::fresh(state, raster::table_from(table));
+        0
+    } else {
+        word::number(Err(Refusal::BlockMalformed))
     }
-    home_block::fresh(state, raster::table_from(table));
-    0
 }
 
 // The same with no table named: the chart's.
@@ -60,69 +62,68 @@ pub fn vdp_home_input(state: &mut [u8], vram: &[u8], port: u16) -> u32
     if refused != 0 {
         return refused;
     }
-    let got = home_block::input(state, vram, port);
-    let refusal = got.refusal;
-    word::number(refusal) + 256 * (got.byte as u32)
+    word::byte_word(home_block::input(state, vram, port))
 }
 
-// The colours that a step of the block's device which is due draws a row with; where it draws none, none are made.
+// The colours that a step of the block's device which is due draws a row with; where it draws none, none are made. (As the handheld's but for palette and
+// device: one function for both would take more lines, for what differs, than this one has. So with `stepped` and `shown`.)
+#[tactic(auto, unfolding(home_block::specs::HomeBlock::state_of))]
 fn colours_of(state: &[u8], due: Due) -> [u32; 32]
     requires { length state.now ≡ block_size }
-    ensures { (y : ℕ) → due.row ≡ Drawn y → result ≡ colours_now (state_of state.now) }
+    ensures { (y : ℕ) → due.row ≡ Some y → result ≡ colours_now (state_of state.now) }
 {
-    let row = due.row;
-    let DrawnRow::Drawn(_) = row else {
-        return [0u32; 32];
-    };
-    if state[home_block::DIRTY] == 1 {
-        return colour::home_palette_recompute(home_block::palette_in(state));
+    if due.row.is_none() {
+        [0; 32]
+    } else if state[home_block::DIRTY] == 1 {
+        colour::home_palette_recompute(home_block::palette_in(state))
+    } else {
+        home_block::cache_in(state)
     }
-    home_block::cache_in(state)
+}
+
+// A step, whose row goes to its target; the layers, where they are told, go to the first bytes of the layer buffer.
+fn stepped(
+    state: &mut [u8],
+    vram: &[u8],
+    target: Target,
+    pixels: &mut [u8],
+    told: bool,
+    layers: &mut [u8],
+) -> u32
+    ensures { TargetLeaves target told state.old vram.now pixels.old layers.old result state.new pixels.new layers.new }
+{
+    let refused = asked(state);
+    if refused != 0 {
+        return refused;
+    }
+    let screen = Screen::Home;
+    let reg = home_block::registers(state);
+    let raster = home_block::raster_in(state);
+    let due = target.due(told, reg, raster, vram, pixels.len(), layers.len(), screen);
+    let colours = colours_of(state, due);
+    let bits = target.draw(due, reg, &colours, vram, pixels, layers, screen);
+    store_colours(state, due, &colours, home_block::DIRTY, home_block::CACHE);
+    left(due, bits, state, home_block::VERTICAL_SCROLL)
 }
 
 // A step, whose row goes to its place in the frame.
+#[tactic(auto, unfolding(crate::specs::Home::step_call, home::specs::Step::frame_after))]
 pub fn vdp_home_step(state: &mut [u8], vram: &[u8], frame: &mut [u8]) -> u32
     ensures { Leaves (step_call state.old vram.now frame.old) result state.new frame.new }
 {
-    let view: &[u8] = state;
-    let refused = asked(view);
-    if refused != 0 {
-        return refused;
-    }
-    let screen = Screen::Home;
-    let reg = home_block::registers(view);
-    let raster = home_block::raster_in(view);
-    let due = points::frame_due(reg, raster, vram, frame.len(), screen);
-    let made = colours_of(view, due);
-    let colours = &made;
-    let mut none = [0u8; 0];
-    let bits = points_run::draw_in(due, reg, colours, vram, frame, &mut none, screen);
-    store_colours(state, due, colours, home_block::DIRTY, home_block::CACHE);
-    left(due, bits, state, home_block::VERTICAL_SCROLL)
+    stepped(state, vram, Target::Frame, frame, false, &mut [])
 }
 
 // A step, whose row goes to the first bytes of the row buffer.
+#[tactic(auto, unfolding(crate::specs::Home::row_step_call, home::specs::Step::row_after))]
 pub fn vdp_home_row_step(state: &mut [u8], vram: &[u8], row: &mut [u8]) -> u32
     ensures { Leaves (row_step_call state.old vram.now row.old) result state.new row.new }
 {
-    let view: &[u8] = state;
-    let refused = asked(view);
-    if refused != 0 {
-        return refused;
-    }
-    let screen = Screen::Home;
-    let reg = home_block::registers(view);
-    let raster = home_block::raster_in(view);
-    let due = points::row_due(reg, raster, vram, row.len(), screen);
-    let made = colours_of(view, due);
-    let colours = &made;
-    let mut none = [0u8; 0];
-    let bits = points_run::draw(due, reg, colours, vram, row, &mut none, screen);
-    store_colours(state, due, colours, home_block::DIRTY, home_block::CACHE);
-    left(due, bits, state, home_block::VERTICAL_SCROLL)
+    stepped(state, vram, Target::Row, row, false, &mut [])
 }
 
 // The step on a frame, with the layers of the row's columns, which go to the first bytes of the layer buffer.
+#[tactic(auto, unfolding(crate::specs::HomeLayers::layer_call, crate::specs::HomeLayers::layers_left))]
 pub fn vdp_home_layer_step(
     state: &mut [u8],
     vram: &[u8],
@@ -131,24 +132,11 @@ pub fn vdp_home_layer_step(
 ) -> u32
     ensures { LayerFrameLeaves state.old vram.now frame.old layers.old result state.new frame.new layers.new }
 {
-    let view: &[u8] = state;
-    let refused = asked(view);
-    if refused != 0 {
-        return refused;
-    }
-    let screen = Screen::Home;
-    let reg = home_block::registers(view);
-    let raster = home_block::raster_in(view);
-    let mut due = points::frame_due(reg, raster, vram, frame.len(), screen);
-    due = points::layer_due(due, raster, layers.len(), screen);
-    let made = colours_of(view, due);
-    let colours = &made;
-    let bits = points_run::draw_in(due, reg, colours, vram, frame, layers, screen);
-    store_colours(state, due, colours, home_block::DIRTY, home_block::CACHE);
-    left(due, bits, state, home_block::VERTICAL_SCROLL)
+    stepped(state, vram, Target::Frame, frame, true, layers)
 }
 
 // The same of the step on a row buffer.
+#[tactic(auto, unfolding(crate::specs::HomeLayers::layer_call, crate::specs::HomeLayers::layers_left))]
 pub fn vdp_home_layer_row_step(
     state: &mut [u8],
     vram: &[u8],
@@ -157,21 +145,7 @@ pub fn vdp_home_layer_row_step(
 ) -> u32
     ensures { LayerRowLeaves state.old vram.now row.old layers.old result state.new row.new layers.new }
 {
-    let view: &[u8] = state;
-    let refused = asked(view);
-    if refused != 0 {
-        return refused;
-    }
-    let screen = Screen::Home;
-    let reg = home_block::registers(view);
-    let raster = home_block::raster_in(view);
-    let mut due = points::row_due(reg, raster, vram, row.len(), screen);
-    due = points::layer_due(due, raster, layers.len(), screen);
-    let made = colours_of(view, due);
-    let colours = &made;
-    let bits = points_run::draw(due, reg, colours, vram, row, layers, screen);
-    store_colours(state, due, colours, home_block::DIRTY, home_block::CACHE);
-    left(due, bits, state, home_block::VERTICAL_SCROLL)
+    stepped(state, vram, Target::Row, row, true, layers)
 }
 
 // All tiles into the pixels; the block is only read.
@@ -186,19 +160,16 @@ pub fn vdp_home_dump_tileset(state: &[u8], vram: &[u8], pixels: &mut [u8]) -> u3
     word::number(dump::dump_tileset(home_block::registers(state), &colours, vram, pixels))
 }
 
-// The colour of a pixel, 0 where there is none: of the number n that a row of the block's device is drawn with. Where the colours are dirty that one is made
-// of the palette.
-fn shown(state: &[u8], there: bool, n: usize) -> u32
+// The colour of the number n that a row of the block's device is drawn with. Where the colours are dirty that one is made of the palette.
+fn shown(state: &[u8], n: usize) -> u32
     requires { (length state.now ≡ block_size) × (n < 32) }
-    ensures { result ≡ cond there (at (colours_now (state_of state.now)) n) 0 }
+    ensures { result ≡ at (colours_now (state_of state.now)) n }
 {
-    if !there {
-        return 0;
-    }
     if state[home_block::DIRTY] == 1 {
-        return colour::home_rgb(state[home_block::PALETTE + n]);
+        colour::home_rgb(state[home_block::PALETTE + n])
+    } else {
+        home_block::cached_colour(state, n)
     }
-    home_block::cached_colour(state, n)
 }
 
 // One pixel of the row as it would be drawn now, the fill among it; the block is only read.
@@ -207,7 +178,7 @@ pub fn vdp_home_pixel(state: &[u8], vram: &[u8], row: u32, column: u32) -> u64
 {
     let refused = asked(state);
     if refused != 0 {
-        return refused as u64;
+        return u64::from(refused);
     }
     let raster = home_block::raster_in(state);
     let spot = pixel::spot_at(
@@ -218,7 +189,9 @@ pub fn vdp_home_pixel(state: &[u8], vram: &[u8], row: u32, column: u32) -> u64
         row,
         column,
     );
-    let refusal = spot.refusal;
-    let there = spot.there;
-    word::pixel_word(refusal, there, shown(state, there, spot.colour))
+    match spot {
+        Ok(Some(n)) => word::pixel_word(Ok(()), true, shown(state, n)),
+        Ok(None) => word::pixel_word(Ok(()), false, 0),
+        Err(refusal) => word::pixel_word(Err(refusal), false, 0),
+    }
 }

@@ -1,10 +1,9 @@
 // The C face (R7.4): the device's calls over a state block, and answers by R7.7. A slice passes as a pointer and a length.
 #![tactic(auto)]
 
-ghost use Rattle.std.specs.Prelude.{[], ◌≡◌, cond, ℕ, ◌+◌, ◌*◌, ◌≤◌, ◌<◌, length};
+ghost use Rattle.std.specs.Prelude.{[], ◌≡◌, ℕ, ◌+◌, ◌*◌, ◌≤◌, ◌<◌, length, Some};
 ghost use Rattle.refusal.specs.Refusals.{refusal_number, first};
 ghost use Rattle.laws.specs.Lists.{at};
-ghost use Rattle.points.specs.declared.DrawnRow.TheVariants.{Drawn};
 ghost use Rattle.word.specs.Word.{points_word};
 ghost use Rattle.word.specs.Called.{asked_lines};
 ghost use Rattle.picture.specs.Area.{area_from, screen_of};
@@ -12,8 +11,9 @@ ghost use Rattle.fields.specs.Stored.{front_end};
 ghost use Rattle.block.specs.Block.{old_size, well_formed, state_of};
 ghost use Rattle.step.specs.Step.{colours_now};
 ghost use Rattle.face.specs.Steps.{points_in, colours_stored, points_stored};
+ghost use Rattle.face.specs.Stepped.{TargetLeaves};
 ghost use Rattle.face.specs.Tiles.{write_tile_call, read_tile_call};
-ghost use Rattle.face.specs.Face.{new_table_call, new_call, out_call, input_call, step_call, row_step_call, dump_call, Leaves};
+ghost use Rattle.face.specs.Face.{new_table_call, new_call, out_call, input_call, step_call, row_step_call, dump_call, counted_word, Leaves};
 ghost use Rattle.face.specs.Layers.{LayerRowLeaves, LayerFrameLeaves};
 ghost use Rattle.trace_record.specs.declared.Record.TheVariants.{Write, Read};
 ghost use Rattle.face.specs.Record.{record_call, record_step_call, bytes_word, next_call};
@@ -22,23 +22,26 @@ ghost use Rattle.face.specs.Version.{version};
 ghost use Rattle.face.specs.Pixel.{pixel_call};
 
 pub mod home_calls;
+mod target;
 
 use picture::Screen;
-use points::{DrawnRow, Due};
+use points::Due;
 use refusal::Refusal;
-use row::points_run;
-use trace_record::{Record, Recorded};
+use target::Target;
+use trace_record::Record;
 
 // A fresh device of this table into the block, in the version that the block's length tells.
+#[tactic(auto, unfolding(crate::specs::Face::new_table_call, block::specs::Block::fresh_in))]
 pub fn vdp_new_table(state: &mut [u8], table: u8) -> u32
     ensures { Leaves (new_table_call state.old table) result state.new [] }
 {
     let named = raster::table_from(table);
-    if !small::both(table <= 1, block::has_room(named, state.len())) {
-        return word::number(Refusal::BlockMalformed);
+    if table <= 1 && block::has_room(named, state.len()) {
+        block::fresh(state, named);
+        0
+    } else {
+        word::number(Err(Refusal::BlockMalformed))
     }
-    block::fresh(state, named);
-    0
 }
 
 // The same with no table named: the chart's.
@@ -48,7 +51,8 @@ pub fn vdp_new(state: &mut [u8]) -> u32
     vdp_new_table(state, raster::unnamed_table())
 }
 
-// The number by which a call on the block is refused before its own tests, 0 where it is not; one that asks for no area has area 0.
+// The number by which a call on the block is refused before its own tests, 0 where it is not; one that asks for no area has area 0. (A number and no Result:
+// the C interface answers it as it is.)
 fn asked(state: &[u8], area: u8) -> u32
     ensures { result ≡ refusal_number (first (asked_lines (well_formed state.now) area)) }
 {
@@ -74,24 +78,22 @@ pub fn vdp_input(state: &mut [u8], vram: &[u8], port: u16) -> u32
     if refused != 0 {
         return refused;
     }
-    let got = block_ports::input(state, vram, port);
-    let refusal = got.refusal;
-    word::number(refusal) + 256 * (got.byte as u32)
+    word::byte_word(block_ports::input(state, vram, port))
 }
 
 // The colours that a step of the block's device which is due draws a row with; where it draws none, none are made.
+#[tactic(auto, unfolding(block::specs::Block::state_of))]
 fn colours_of(state: &[u8], due: Due) -> [u32; 32]
     requires { old_size ≤ length state.now }
-    ensures { (y : ℕ) → due.row ≡ Drawn y → result ≡ colours_now (state_of state.now) }
+    ensures { (y : ℕ) → due.row ≡ Some y → result ≡ colours_now (state_of state.now) }
 {
-    let row = due.row;
-    let DrawnRow::Drawn(_) = row else {
-        return [0u32; 32];
-    };
-    if state[block::DIRTY] == 1 {
-        return colour::palette_recompute(block::palette_in(state));
+    if due.row.is_none() {
+        [0; 32]
+    } else if state[block::DIRTY] == 1 {
+        colour::palette_recompute(block::palette_in(state))
+    } else {
+        block::cache_in(state)
     }
-    block::cache_in(state)
 }
 
 // ---- the parts of a step that are the same for either machine
@@ -101,11 +103,7 @@ fn store_colours(state: &mut [u8], due: Due, colours: &[u32; 32], dirty: usize, 
     requires { (dirty < length state.old) × (cache + 128 ≤ length state.old) }
     ensures { state.new ≡ colours_stored dirty cache due.row colours.now state.old }
 {
-    let row = due.row;
-    let DrawnRow::Drawn(_) = row else {
-        return;
-    };
-    if state[dirty] == 1 {
+    if due.row.is_some() && state[dirty] == 1 {
         block_parts::store_cache(state, cache, dirty, colours);
     }
 }
@@ -117,11 +115,9 @@ fn left(due: Due, bits: u8, state: &mut [u8], scroll: usize) -> u32
     ensures value { result ≡ points_word (points_in state.old bits due) }
     ensures state_after { state.new ≡ points_stored scroll (points_in state.old bits due) state.old }
 {
-    let view: &[u8] = state;
-    let reg = block_parts::registers(view);
-    let points = points::finish(due, reg, view[fields::STATUS], bits);
-    let raster = points.raster;
-    block_parts::store_raster(state, scroll, points.status, raster);
+    let reg = block_parts::registers(state);
+    let points = points::finish(due, reg, state[fields::STATUS], bits);
+    block_parts::store_raster(state, scroll, points.status, points.raster);
     word::word_of(points)
 }
 
@@ -134,49 +130,51 @@ fn screen_from(area: u8) -> Screen
     picture::screen_of(picture::area_from(area))
 }
 
+// A step, whose row goes to its target; the layers, where they are told, go to the first bytes of the layer buffer.
+// (`told` beside the buffer, and no `Option<&mut [u8]>`: a clause has no plain word for what is behind one after the call.)
+fn stepped(
+    state: &mut [u8],
+    vram: &[u8],
+    target: Target,
+    pixels: &mut [u8],
+    told: bool,
+    layers: &mut [u8],
+    area: u8,
+) -> u32
+    ensures { TargetLeaves target told state.old vram.now pixels.old layers.old area result state.new pixels.new layers.new }
+{
+    let refused = asked(state, area);
+    if refused != 0 {
+        return refused;
+    }
+    let screen = screen_from(area);
+    let reg = block::registers(state);
+    let raster = block::raster_in(state);
+    let due = target.due(told, reg, raster, vram, pixels.len(), layers.len(), screen);
+    let colours = colours_of(state, due);
+    let bits = target.draw(due, reg, &colours, vram, pixels, layers, screen);
+    store_colours(state, due, &colours, block::DIRTY, block::CACHE);
+    left(due, bits, state, block::VERTICAL_SCROLL)
+}
+
 // A step, whose row goes to its place in the frame.
+#[tactic(auto, unfolding(crate::specs::Face::step_call, step::specs::Frame::frame_after))]
 pub fn vdp_step(state: &mut [u8], vram: &[u8], frame: &mut [u8], area: u8) -> u32
     ensures { Leaves (step_call state.old vram.now frame.old area) result state.new frame.new }
 {
-    let view: &[u8] = state;
-    let refused = asked(view, area);
-    if refused != 0 {
-        return refused;
-    }
-    let screen = screen_from(area);
-    let reg = block::registers(view);
-    let raster = block::raster_in(view);
-    let due = points::frame_due(reg, raster, vram, frame.len(), screen);
-    let made = colours_of(view, due);
-    let colours = &made;
-    let mut none = [0u8; 0];
-    let bits = points_run::draw_in(due, reg, colours, vram, frame, &mut none, screen);
-    store_colours(state, due, colours, block::DIRTY, block::CACHE);
-    left(due, bits, state, block::VERTICAL_SCROLL)
+    stepped(state, vram, Target::Frame, frame, false, &mut [], area)
 }
 
 // A step, whose row goes to the first bytes of the row buffer.
+#[tactic(auto, unfolding(crate::specs::Face::row_step_call, step::specs::Frame::row_after))]
 pub fn vdp_row_step(state: &mut [u8], vram: &[u8], row: &mut [u8], area: u8) -> u32
     ensures { Leaves (row_step_call state.old vram.now row.old area) result state.new row.new }
 {
-    let view: &[u8] = state;
-    let refused = asked(view, area);
-    if refused != 0 {
-        return refused;
-    }
-    let screen = screen_from(area);
-    let reg = block::registers(view);
-    let raster = block::raster_in(view);
-    let due = points::row_due(reg, raster, vram, row.len(), screen);
-    let made = colours_of(view, due);
-    let colours = &made;
-    let mut none = [0u8; 0];
-    let bits = points_run::draw(due, reg, colours, vram, row, &mut none, screen);
-    store_colours(state, due, colours, block::DIRTY, block::CACHE);
-    left(due, bits, state, block::VERTICAL_SCROLL)
+    stepped(state, vram, Target::Row, row, false, &mut [], area)
 }
 
 // The step on a frame, with the layers of the row's columns, which go to the first bytes of the layer buffer.
+#[tactic(auto, unfolding(crate::specs::Layers::layer_call, crate::specs::Layers::layers_left, step::specs::Layers::layers_after))]
 pub fn vdp_layer_step(
     state: &mut [u8],
     vram: &[u8],
@@ -186,24 +184,11 @@ pub fn vdp_layer_step(
 ) -> u32
     ensures { LayerFrameLeaves state.old vram.now frame.old layers.old area result state.new frame.new layers.new }
 {
-    let view: &[u8] = state;
-    let refused = asked(view, area);
-    if refused != 0 {
-        return refused;
-    }
-    let screen = screen_from(area);
-    let reg = block::registers(view);
-    let raster = block::raster_in(view);
-    let mut due = points::frame_due(reg, raster, vram, frame.len(), screen);
-    due = points::layer_due(due, raster, layers.len(), screen);
-    let made = colours_of(view, due);
-    let colours = &made;
-    let bits = points_run::draw_in(due, reg, colours, vram, frame, layers, screen);
-    store_colours(state, due, colours, block::DIRTY, block::CACHE);
-    left(due, bits, state, block::VERTICAL_SCROLL)
+    stepped(state, vram, Target::Frame, frame, true, layers, area)
 }
 
 // The same of the step on a row buffer.
+#[tactic(auto, unfolding(crate::specs::Layers::layer_call, crate::specs::Layers::layers_left, step::specs::Layers::layers_after))]
 pub fn vdp_layer_row_step(
     state: &mut [u8],
     vram: &[u8],
@@ -213,21 +198,7 @@ pub fn vdp_layer_row_step(
 ) -> u32
     ensures { LayerRowLeaves state.old vram.now row.old layers.old area result state.new row.new layers.new }
 {
-    let view: &[u8] = state;
-    let refused = asked(view, area);
-    if refused != 0 {
-        return refused;
-    }
-    let screen = screen_from(area);
-    let reg = block::registers(view);
-    let raster = block::raster_in(view);
-    let mut due = points::row_due(reg, raster, vram, row.len(), screen);
-    due = points::layer_due(due, raster, layers.len(), screen);
-    let made = colours_of(view, due);
-    let colours = &made;
-    let bits = points_run::draw(due, reg, colours, vram, row, layers, screen);
-    store_colours(state, due, colours, block::DIRTY, block::CACHE);
-    left(due, bits, state, block::VERTICAL_SCROLL)
+    stepped(state, vram, Target::Row, row, true, layers, area)
 }
 
 // All tiles into the pixels; the block is only read.
@@ -242,11 +213,17 @@ pub fn vdp_dump_tileset(state: &[u8], vram: &[u8], pixels: &mut [u8]) -> u32
     word::number(dump::dump_tileset(block::registers(state), &colours, vram, pixels))
 }
 
-// The number of this face.
+// The number of this face, of three parts (include/vdp.h).
+const MAJOR: u32 = 4;
+
+const MINOR: u32 = 6;
+
+const SMALL: u32 = 0;
+
 pub fn vdp_version() -> u32
     ensures { result ≡ version }
 {
-    263680
+    65536 * MAJOR + 256 * MINOR + SMALL
 }
 
 // The tile of these 64 codes into video memory; no device is asked.
@@ -265,22 +242,19 @@ pub fn vdp_read_tile(vram: &[u8], tile: u16, codes: &mut [u8]) -> u32
 
 // ---- one pixel
 
-// The colour of a pixel, 0 where there is none: of the number n that a row of the block's device is drawn with. Where the colours are dirty that one is made
-// of the palette.
-fn shown(state: &[u8], there: bool, n: usize) -> u32
+// The colour of the number n that a row of the block's device is drawn with. Where the colours are dirty that one is made of the palette.
+fn shown(state: &[u8], n: usize) -> u32
     requires { (old_size ≤ length state.now) × (n < 32) }
-    ensures { result ≡ cond there (at (colours_now (state_of state.now)) n) 0 }
+    ensures { result ≡ at (colours_now (state_of state.now)) n }
 {
-    if !there {
-        return 0;
-    }
     if state[block::DIRTY] == 1 {
-        return colour::rgb(
+        colour::rgb(
             state[block::PALETTE + 2 * n],
             state[block::PALETTE + (2 * n + 1)],
-        );
+        )
+    } else {
+        block::cached_colour(state, n)
     }
-    block::cached_colour(state, n)
 }
 
 // One pixel of the row as it would be drawn now; the block is only read.
@@ -289,7 +263,7 @@ pub fn vdp_pixel(state: &[u8], vram: &[u8], area: u8, row: u32, column: u32) -> 
 {
     let refused = asked(state, area);
     if refused != 0 {
-        return refused as u64;
+        return u64::from(refused);
     }
     let raster = block::raster_in(state);
     let spot = pixel::spot_at(
@@ -300,28 +274,33 @@ pub fn vdp_pixel(state: &[u8], vram: &[u8], area: u8, row: u32, column: u32) -> 
         row,
         column,
     );
-    let refusal = spot.refusal;
-    let there = spot.there;
-    word::pixel_word(refusal, there, shown(state, there, spot.colour))
+    match spot {
+        Ok(Some(n)) => word::pixel_word(Ok(()), true, shown(state, n)),
+        Ok(None) => word::pixel_word(Ok(()), false, 0),
+        Err(refusal) => word::pixel_word(Err(refusal), false, 0),
+    }
 }
 
 // A damaged block mended, and the changed offsets at the start of the list.
 pub fn vdp_repair(state: &mut [u8], list: &mut [u8]) -> u32
     ensures { Leaves (repair_call state.old list.old) result state.new list.new }
 {
-    let repaired = block_repair::repair(state, list);
-    let refusal = repaired.refusal;
-    word::number(refusal) + 256 * (repaired.count as u32)
+    match block_repair::repair(state, list) {
+        Ok(count) => 256 * (count as u32),
+        Err(refusal) => word::number(Err(refusal)),
+    }
 }
 
 // ---- records of a recording
 
-// What the writer answers as a word: the refusal, and from bit 8 on the bytes that the record took.
-fn recorded_word(recorded: Recorded) -> u32
-    ensures { result ≡ refusal_number recorded.refusal + 256 * recorded.count }
+// What the writer answers as a word: from bit 8 on the bytes that the record took, or the refusal.
+fn recorded_word(recorded: Result<u8, Refusal>) -> u32
+    ensures { result ≡ counted_word recorded }
 {
-    let refusal = recorded.refusal;
-    word::number(refusal) + 256 * (recorded.count as u32)
+    match recorded {
+        Ok(count) => 256 * u32::from(count),
+        Err(refusal) => word::number(Err(refusal)),
+    }
 }
 
 // A port write as a record, into the bytes from `used` on.
@@ -339,21 +318,23 @@ pub fn vdp_record_input(recording: &mut [u8], used: usize, port: u8) -> u32
 }
 
 // A step.
+#[tactic(auto, unfolding(crate::specs::Record::record_step_call))]
 pub fn vdp_record_step(recording: &mut [u8], used: usize, area: u8) -> u32
     ensures { Leaves (record_step_call recording.old used area) result [] recording.new }
 {
     if picture::LAST_AREA < area {
-        return word::number(Refusal::UnknownArea);
+        word::number(Err(Refusal::UnknownArea))
+    } else {
+        let step = Record::Step(picture::area_from(area));
+        recorded_word(trace_record::put_record(recording, used, step))
     }
-    let step = Record::Step(picture::area_from(area));
-    recorded_word(trace_record::put_record(recording, used, step))
 }
 
 // Four bytes as a word, the first lowest.
 fn bytes_word(a: u8, b: u8, c: u8, d: u8) -> u32
     ensures { result ≡ bytes_word a b c d }
 {
-    (a as u32) + 256 * (b as u32) + 65536 * (c as u32) + 16777216 * (d as u32)
+    u32::from_le_bytes([a, b, c, d])
 }
 
 // What stands at an offset of a recording: which kind of record, its port or area, its value and its length.

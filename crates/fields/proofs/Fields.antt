@@ -1,5 +1,6 @@
 -- The small fields, to bytes and back.
 -- Assumes nothing.
+use Rattle.std.specs.Prelude.{None, Option, Some, ℕ}
 use mathlib.Core.Path.{◌≡◌, refl, sym}
 use mathlib.Core.Bool.{Bool, true, false}
 use Prim.Native.Nat.{ℕ, zero, suc, ◌+◌, ◌*◌, ◌/◌, ◌%◌, ◌≤◌}
@@ -7,9 +8,7 @@ use native.Mathlib.Omega.{arith}
 use borrow.Author.Tests.{ne_eqb, eqb-true}
 use lib.Dec.{leb}
 use Rattle.front.specs.declared.WriteDest.{WriteDest}
-use Rattle.front.specs.declared.WriteDest.TheVariants.{None, Vram, Cram}
-use Rattle.front.specs.declared.Latch.{Latch}
-use Rattle.front.specs.declared.Latch.TheVariants.{Empty, Held}
+use Rattle.front.specs.declared.WriteDest.TheVariants.{Vram, Cram}
 use Rattle.fields.specs.Fields.{flag_of, flag_from, chosen_of, chosen_from, latch_flag, latch_byte, latch_from, latch_fits}
 
 -- ---- a field is read back
@@ -17,14 +16,14 @@ pub flag_back : (t : Bool) → flag_from (flag_of t) ≡ t
 flag_back true = refl
 flag_back false = refl
 
-pub chosen_back : (w : WriteDest) → chosen_from (chosen_of w) ≡ w
+pub chosen_back : (w : Option WriteDest) → chosen_from (chosen_of w) ≡ w
 chosen_back None = refl
-chosen_back Vram = refl
-chosen_back Cram = refl
+chosen_back (Some Vram) = refl
+chosen_back (Some Cram) = refl
 
-pub latch_back : (l : Latch) → latch_from (latch_flag l) (latch_byte l) ≡ l
-latch_back Empty = refl
-latch_back (Held b) = refl
+pub latch_back : (l : Option ℕ) → latch_from (latch_flag l) (latch_byte l) ≡ l
+latch_back None = refl
+latch_back (Some b) = refl
 
 pub address_back : (a : ℕ) → a % 256 + 256 * (a / 256) ≡ a
 address_back a = omega arith
@@ -34,18 +33,18 @@ pub flag_ok : (t : Bool) → leb (flag_of t) 1 ≡ true
 flag_ok true = refl
 flag_ok false = refl
 
-pub chosen_ok : (w : WriteDest) → leb (chosen_of w) 2 ≡ true
+pub chosen_ok : (w : Option WriteDest) → leb (chosen_of w) 2 ≡ true
 chosen_ok None = refl
-chosen_ok Vram = refl
-chosen_ok Cram = refl
+chosen_ok (Some Vram) = refl
+chosen_ok (Some Cram) = refl
 
-pub latch_ok : (l : Latch) → leb (latch_flag l) 1 ≡ true
-latch_ok Empty = refl
-latch_ok (Held b) = refl
+pub latch_ok : (l : Option ℕ) → leb (latch_flag l) 1 ≡ true
+latch_ok None = refl
+latch_ok (Some b) = refl
 
-pub byte_ok : (l : Latch) → latch_fits (latch_flag l) (latch_byte l) ≡ true
-byte_ok Empty = refl
-byte_ok (Held b) = refl
+pub byte_ok : (l : Option ℕ) → latch_fits (latch_flag l) (latch_byte l) ≡ true
+byte_ok None = refl
+byte_ok (Some b) = refl
 
 -- ---- a byte that may be one is that of the field that is read
 pub flag_in : (x : ℕ) → x ≤ 1 → flag_of (flag_from x) ≡ x

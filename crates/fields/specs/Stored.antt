@@ -1,10 +1,9 @@
 -- The front of a device, an address, a latch and a byte of a palette where they stand in a state block (R7.5): of the front bytes 2 to 13 and 17 to 22, which
 -- are the same places in either machine's block.
 -- Assumes nothing.
-use Rattle.std.specs.Prelude.{ℕ, ◌+◌, ◌*◌, ◌/◌, ◌%◌, ◌≤◌, ◌<◌, ◌≡◌, List, ◌∷◌, ◌++◌, true, ◌||◌, length, take, drop, set}
+use Rattle.std.specs.Prelude.{ℕ, ◌+◌, ◌*◌, ◌/◌, ◌%◌, ◌≤◌, ◌<◌, ◌≡◌, List, ◌∷◌, ◌++◌, true, ◌||◌, length, take, drop, set, Option}
 use Rattle.laws.specs.Lists.{at}
 use Rattle.front.specs.declared.Front.{Front}
-use Rattle.front.specs.declared.Latch.{Latch}
 use Rattle.front.specs.Front.{front, changed}
 use Rattle.fields.specs.Fields.{flag_of, flag_from, chosen_of, chosen_from, latch_flag, latch_byte, latch_from, latch_fits}
 
@@ -47,7 +46,7 @@ pub record FrontFormed (b : List ℕ) : Type 0 where
   pub byte : latch_fits (at b 21) (at b 22) ≡ true
 
 -- ---- a latch and an address stored, and a byte of a palette that begins at place k, with its dirty flag at place d
-abbrev pub latch_stored : ℕ → Latch → List ℕ → List ℕ
+abbrev pub latch_stored : ℕ → Option ℕ → List ℕ → List ℕ
 latch_stored k l b = set (set b k (latch_flag l)) (k + 1) (latch_byte l)
 
 abbrev pub address_stored : ℕ → List ℕ → List ℕ

@@ -7,8 +7,6 @@ ghost use Rattle.laws.specs.Lists.{at};
 ghost use Rattle.fields.specs.Fields.{flag_of, latch_from};
 ghost use Rattle.fields.specs.Stored.{front_end, address_in, latch_stored, address_stored, colour_stored};
 
-use front::Latch;
-
 // The places that are the same in either machine's block, by the names that include/vdp.h has for them; of two bytes the second has one of its own.
 pub const MARK: usize = 0;
 
@@ -44,20 +42,20 @@ pub const MARK_FIRST: u8 = 0x56;
 pub fn flag_of(b: bool) -> u8
     ensures { result ≡ flag_of b }
 {
-    if b { 1 } else { 0 }
+    u8::from(b)
 }
 
 // ---- what stands in a block, read
 
 // The latch whose flag stands at this place, and its byte behind it.
-pub fn latch_in(block: &[u8], place: usize) -> Latch
+pub fn latch_in(block: &[u8], place: usize) -> Option<u8>
     requires { place + 2 ≤ length block.now }
     ensures { result ≡ latch_from (at block.now place) (at block.now (place + 1)) }
 {
     if block[place] == 0 {
-        Latch::Empty
+        None
     } else {
-        Latch::Held(block[place + 1])
+        Some(block[place + 1])
     }
 }
 
@@ -66,7 +64,7 @@ pub fn address_in(block: &[u8]) -> u16
     requires { front_end ≤ length block.now }
     ensures { result ≡ address_in block.now }
 {
-    small::word(block[ADDRESS], block[ADDRESS_HIGH])
+    u16::from_le_bytes([block[ADDRESS], block[ADDRESS_HIGH]])
 }
 
 // ---- and stored
@@ -81,13 +79,13 @@ fn store_two(block: &mut [u8], place: usize, first: u8, second: u8)
 }
 
 // A latch, its flag at this place.
-pub fn store_latch(block: &mut [u8], place: usize, latch: Latch)
+pub fn store_latch(block: &mut [u8], place: usize, latch: Option<u8>)
     requires { place + 2 ≤ length block.old }
     ensures { block.new ≡ latch_stored place latch block.old }
 {
     match latch {
-        Latch::Empty => store_two(block, place, 0, 0),
-        Latch::Held(byte) => store_two(block, place, 1, byte),
+        None => store_two(block, place, 0, 0),
+        Some(byte) => store_two(block, place, 1, byte),
     }
 }
 
@@ -96,7 +94,8 @@ pub fn store_address(block: &mut [u8], address: u16)
     requires { front_end ≤ length block.old }
     ensures { block.new ≡ address_stored address block.old }
 {
-    store_two(block, ADDRESS, (address % 256) as u8, (address / 256) as u8);
+    let [low, high] = address.to_le_bytes();
+    store_two(block, ADDRESS, low, high);
 }
 
 // Byte n of a palette that begins at `palette`; the flag at `dirty` is up afterwards where it was, or where the byte is another than before.
@@ -105,7 +104,7 @@ pub fn store_colour(block: &mut [u8], palette: usize, dirty: usize, n: usize, va
     ensures { block.new ≡ colour_stored palette dirty n val block.old }
 {
     let here = palette + n;
-    let behind = (block[dirty] == 1) | (block[here] != val);
+    let behind = block[dirty] == 1 || block[here] != val;
     block[dirty] = flag_of(behind);
     block[here] = val;
 }

@@ -1,5 +1,6 @@
 -- What a refused port call leaves of a front is what the table's column says, and video memory stays; a refused read gives byte 0.
 -- Assumes nothing.
+use Rattle.std.specs.Prelude.{None, Option, Some, ℕ, Err, Ok}
 use Prim.Native.Nat.{ℕ, ◌%◌, ◌/◌}
 use mathlib.Core.Path.{◌≡◌, refl}
 use mathlib.Core.Logic.{◌≢◌}
@@ -9,71 +10,68 @@ use lib.Dec.{leb, ltb, eqb}
 use Rattle.laws.proofs.Tests.{either}
 use Rattle.front.specs.declared.Front.{Front}
 use Rattle.front.specs.declared.FrontWritten.{FrontWritten}
-use Rattle.front.specs.declared.FrontRead.{FrontRead}
+use Rattle.front.specs.declared.ReadBack.{ReadBack}
 use Rattle.front.specs.declared.WriteDest.{WriteDest}
-use Rattle.front.specs.declared.WriteDest.TheVariants.{None, Vram, Cram}
-use Rattle.front.specs.declared.Latch.{Latch}
-use Rattle.front.specs.declared.Latch.TheVariants.{Empty, Held}
-use Rattle.refusal.specs.declared.Refusal.{Refusal}
-use Rattle.refusal.specs.declared.Refusal.TheVariants.{Accepted, UnknownPort, HorizontalCounter, HighRegister, NothingChosen, PaletteRead}
+use Rattle.front.specs.declared.WriteDest.TheVariants.{Vram, Cram}
+use Rattle.refusal.specs.declared.Refusal.TheVariants.{UnknownPort, HorizontalCounter, HighRegister, NothingChosen, PaletteRead}
 use Rattle.refusal.specs.declared.Refusal.TheVariants.{NoPaletteByte, OutsideMemory, VramLength, PixelLength, BlockMalformed, UnknownArea}
 use Rattle.refusal.specs.declared.Refusal.TheVariants.{FrameTooLong, UnknownTile, CodesLength, HighCode, LayerLength, ListLength, RecordRoom}
 use Rattle.front.specs.Front.{FrontAfter, emptied, command_by, data_by, read_by}
-use Rattle.refusal.specs.Refusals.{refusal_number, whole}
+use Rattle.refusal.specs.Refusals.{refusal_number, whole, Outcome, outcome_of, byte_given}
 use Rattle.front.specs.Lines.{left_behind, is_port}
 use Rattle.front.specs.Ports.{front_write, front_read}
 
-pub accepted : {G : Type 0} → Accepted ≢ Accepted → G
+pub accepted : {G : Type 0} → ◌≢◌ {A = Outcome} (Ok tt) (Ok tt) → G
 accepted n = absurd (n refl)
 
 -- ---- the column by numbers: 3 to 7 empty the command latch, the others leave it
-pub left_is : (r : Refusal) (f : Front) → left_behind r f ≡ cond (leb 3 (refusal_number r) && leb (refusal_number r) 7) (emptied f) f
-left_is Accepted f = refl
-left_is UnknownPort f = refl
-left_is HorizontalCounter f = refl
-left_is HighRegister f = refl
-left_is NothingChosen f = refl
-left_is PaletteRead f = refl
-left_is NoPaletteByte f = refl
-left_is OutsideMemory f = refl
-left_is VramLength f = refl
-left_is PixelLength f = refl
-left_is BlockMalformed f = refl
-left_is UnknownArea f = refl
-left_is FrameTooLong f = refl
-left_is UnknownTile f = refl
-left_is CodesLength f = refl
-left_is HighCode f = refl
-left_is LayerLength f = refl
-left_is ListLength f = refl
-left_is RecordRoom f = refl
+pub left_is : (r : Outcome) (f : Front) → left_behind r f ≡ cond (leb 3 (refusal_number r) && leb (refusal_number r) 7) (emptied f) f
+left_is (Ok tt) f = refl
+left_is (Err UnknownPort) f = refl
+left_is (Err HorizontalCounter) f = refl
+left_is (Err HighRegister) f = refl
+left_is (Err NothingChosen) f = refl
+left_is (Err PaletteRead) f = refl
+left_is (Err NoPaletteByte) f = refl
+left_is (Err OutsideMemory) f = refl
+left_is (Err VramLength) f = refl
+left_is (Err PixelLength) f = refl
+left_is (Err BlockMalformed) f = refl
+left_is (Err UnknownArea) f = refl
+left_is (Err FrameTooLong) f = refl
+left_is (Err UnknownTile) f = refl
+left_is (Err CodesLength) f = refl
+left_is (Err HighCode) f = refl
+left_is (Err LayerLength) f = refl
+left_is (Err ListLength) f = refl
+left_is (Err RecordRoom) f = refl
 
 -- ---- of a front: where an answer is a refusal, it leaves what the column says
 module _ (f : Front) where
   abbrev LeftF : FrontWritten → Type 0
-  LeftF a = a.refusal ≢ Accepted → a.front ≡ left_behind a.refusal f
+  LeftF a = a.outcome ≢ (Ok tt) → a.front ≡ left_behind a.outcome f
 
   pub record FrontLeft (m : List ℕ) (a : FrontAfter) : Type 0 where
     pub front : LeftF a.answer
-    pub memory : a.answer.refusal ≢ Accepted → a.vram ≡ m
+    pub memory : a.answer.outcome ≢ (Ok tt) → a.vram ≡ m
 
-  pub record FrontReadLeft (a : FrontRead) : Type 0 where
-    pub front : a.refusal ≢ Accepted → a.front ≡ left_behind a.refusal f
-    pub zero : a.refusal ≢ Accepted → a.byte ≡ 0
+  pub record FrontReadLeft (a : ReadBack Front) : Type 0 where
+    pub front : outcome_of a.byte ≢ (Ok tt) → a.device ≡ left_behind (outcome_of a.byte) f
+    pub zero : outcome_of a.byte ≢ (Ok tt) → byte_given a.byte ≡ 0
 
-  command : (l : Latch) (n : ℕ) (m : List ℕ) (v : ℕ) → LeftF (command_by l n f m v)
-  command Empty n m v = accepted
-  command (Held d) n m v =
+  command : (l : Option ℕ) (n : ℕ) (m : List ℕ) (v : ℕ) → LeftF (command_by l n f m v)
+  command None n m v = accepted
+  command (Some d) n m v =
       either LeftF (eqb (v / 64) 0) (λ _. accepted)
       (λ _. either LeftF (eqb (v / 64) 1) (λ _. accepted)
       (λ _. either LeftF (eqb (v / 64) 2) (λ _. either LeftF (ltb 10 (v % 128)) (λ _ _. refl) (λ _. accepted)) (λ _. accepted)))
 
-  to_chosen : (d : WriteDest) (n : ℕ) (m : List ℕ) (v : ℕ) → FrontLeft m (data_by d n (emptied f) m v)
+  to_chosen : (d : Option WriteDest) (n : ℕ) (m : List ℕ) (v : ℕ) → FrontLeft m (data_by d n (emptied f) m v)
   to_chosen None n m v = record { front = λ _. refl; memory = λ _. refl }
-  to_chosen Vram n m v =
+  to_chosen (Some Vram) n m v =
       either (FrontLeft m) (ltb f.addr 16384) (λ _. record { front = accepted; memory = accepted })
       (λ _. record { front = λ _. refl; memory = λ _. refl })
-  to_chosen Cram n m v = record { front = either LeftF (ltb f.addr n) (λ _. accepted) (λ _ _. refl); memory = λ _. refl }
+  to_chosen (Some Cram) n m v = record { front = either LeftF (ltb f.addr n) (λ _. accepted) (λ _ _. refl); memory = λ _. refl }
 
   pub front_write_behind : (n : ℕ) (m : List ℕ) (p v : ℕ) → FrontLeft m (front_write n f m p v)
   unfolding front_write
@@ -83,10 +81,10 @@ module _ (f : Front) where
       (λ _. either (FrontLeft m) (is_port 0xBE p) (λ _. to_chosen f.dest n m v) (λ _. record { front = λ _. refl; memory = λ _. refl })))
       (λ _. record { front = λ _. refl; memory = λ _. refl })
 
-  from_chosen : (d : WriteDest) (m : List ℕ) → FrontReadLeft (read_by d (emptied f) m)
+  from_chosen : (d : Option WriteDest) (m : List ℕ) → FrontReadLeft (read_by d (emptied f) m)
   from_chosen None m = record { front = λ _. refl; zero = λ _. refl }
-  from_chosen Cram m = record { front = λ _. refl; zero = λ _. refl }
-  from_chosen Vram m =
+  from_chosen (Some Cram) m = record { front = λ _. refl; zero = λ _. refl }
+  from_chosen (Some Vram) m =
       either FrontReadLeft (ltb f.addr 16384) (λ _. record { front = accepted; zero = accepted })
       (λ _. record { front = λ _. refl; zero = λ _. refl })
 

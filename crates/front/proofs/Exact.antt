@@ -1,5 +1,6 @@
 -- A port call on a front is refused by the first line of its table that holds.
 -- Assumes nothing.
+use Rattle.std.specs.Prelude.{None, Option, Some, ℕ, Err, Ok}
 use Prim.Native.Nat.{ℕ, ◌%◌, ◌/◌}
 use mathlib.Core.Path.{◌≡◌, refl}
 use mathlib.Core.List.{List}
@@ -11,22 +12,19 @@ use Rattle.laws.proofs.Tests.{split}
 use Rattle.front.specs.declared.Front.{Front}
 use Rattle.front.specs.declared.FrontWritten.{FrontWritten}
 use Rattle.front.specs.declared.WriteDest.{WriteDest}
-use Rattle.front.specs.declared.WriteDest.TheVariants.{None, Vram, Cram}
-use Rattle.front.specs.declared.Latch.{Latch}
-use Rattle.front.specs.declared.Latch.TheVariants.{Empty, Held}
-use Rattle.refusal.specs.declared.Refusal.{Refusal}
-use Rattle.refusal.specs.declared.Refusal.TheVariants.{Accepted, HighRegister, NothingChosen, PaletteRead, OutsideMemory}
+use Rattle.front.specs.declared.WriteDest.TheVariants.{Vram, Cram}
+use Rattle.refusal.specs.declared.Refusal.TheVariants.{HighRegister, NothingChosen, PaletteRead, OutsideMemory}
 use Rattle.front.specs.Front.{emptied, second_byte, command_by, data_by, read_by}
-use Rattle.refusal.specs.Refusals.{Line, first, whole}
+use Rattle.refusal.specs.Refusals.{Line, first, whole, Outcome, outcome_of}
 use Rattle.front.specs.Lines.{is_empty, is_none, is_palette, size_of, is_port, front_write_lines, front_read_lines}
 use Rattle.front.specs.Ports.{front_write, front_read}
 
 -- ---- a write on a front; q is the refusal of the machine's own palette, on a front, and `more` its lines
-abbrev pub refusal_by : (Front → Refusal) → FrontWritten → Refusal
-refusal_by q a = cond a.palette (q a.front) a.refusal
+abbrev pub refusal_by : (Front → Outcome) → FrontWritten → Outcome
+refusal_by q a = cond a.palette (q a.front) a.outcome
 
-module _ (n : ℕ) (f : Front) (m : List ℕ) (v : ℕ) (q : Front → Refusal) where
-  second_exact : (g : Front) (d : ℕ) → refusal_by q (second_byte n g m d v) ≡ cond (leb 0x8B v && leb v 0xBF) HighRegister Accepted
+module _ (n : ℕ) (f : Front) (m : List ℕ) (v : ℕ) (q : Front → Outcome) where
+  second_exact : (g : Front) (d : ℕ) → refusal_by q (second_byte n g m d v) ≡ cond (leb 0x8B v && leb v 0xBF) (Err HighRegister) (Ok tt)
   second_exact g d =
       split (eqb (v / 64) 0)
       (λ e. let k = eqb-true (v / 64) 0 e in simp (k, lt-leb 0x8B v (omega arith)))
@@ -43,22 +41,22 @@ module _ (n : ℕ) (f : Front) (m : List ℕ) (v : ℕ) (q : Front → Refusal) 
       let n2 = eqb-false (v / 64) 2 e2 in
       simp (e0, e1, e2, le-leb 0x8B v (omega arith), lt-leb v 0xBF (omega arith)))))
 
-  command_exact : (l : Latch) → refusal_by q (command_by l n f m v) ≡ cond (not (is_empty l) && leb 0x8B v && leb v 0xBF) HighRegister Accepted
-  command_exact Empty = refl
-  command_exact (Held d) = second_exact (emptied f) d
+  command_exact : (l : Option ℕ) → refusal_by q (command_by l n f m v) ≡ cond (not (is_empty l) && leb 0x8B v && leb v 0xBF) (Err HighRegister) (Ok tt)
+  command_exact None = refl
+  command_exact (Some d) = second_exact (emptied f) d
 
-  data_exact : (d : WriteDest) (r : Refusal)
+  data_exact : (d : Option WriteDest) (r : Outcome)
       → (is_palette d ≡ true → q (emptied f) ≡ r)
-      → (is_palette d ≡ false → r ≡ Accepted)
+      → (is_palette d ≡ false → r ≡ (Ok tt))
       → refusal_by q (data_by d n (emptied f) m v).answer
-      ≡ cond (is_none d) NothingChosen (cond (not (ltb f.addr (size_of n d))) OutsideMemory r)
+      ≡ cond (is_none d) (Err NothingChosen) (cond (not (ltb f.addr (size_of n d))) (Err OutsideMemory) r)
   data_exact None r h k = refl
-  data_exact Vram r h k = split (ltb f.addr 16384) (λ e. simp (e, k refl)) (λ e. simp e)
-  data_exact Cram r h k = split (ltb f.addr n) (λ e. simp (e, h refl)) (λ e. simp e)
+  data_exact (Some Vram) r h k = split (ltb f.addr 16384) (λ e. simp (e, k refl)) (λ e. simp e)
+  data_exact (Some Cram) r h k = split (ltb f.addr n) (λ e. simp (e, h refl)) (λ e. simp e)
 
   pub front_write_exact : (p : ℕ) (more : List Line)
       → ((is_port 0xBE p && is_palette f.dest) ≡ true → q (emptied f) ≡ first more)
-      → ((is_port 0xBE p && is_palette f.dest) ≡ false → first more ≡ Accepted)
+      → ((is_port 0xBE p && is_palette f.dest) ≡ false → first more ≡ (Ok tt))
       → refusal_by q (front_write n f m p v).answer ≡ first (front_write_lines n f m p v more)
   unfolding front_write
   front_write_exact p more own none =
@@ -72,14 +70,14 @@ module _ (n : ℕ) (f : Front) (m : List ℕ) (v : ℕ) (q : Front → Refusal) 
       (λ e8. simp e8)
 
 -- ---- a read
-read_by_exact : (n : ℕ) (d : WriteDest) (f : Front) (m : List ℕ)
-    → (read_by d f m).refusal
-    ≡ cond (is_none d) NothingChosen (cond (is_palette d) PaletteRead (cond (not (ltb f.addr (size_of n d))) OutsideMemory Accepted))
+read_by_exact : (n : ℕ) (d : Option WriteDest) (f : Front) (m : List ℕ)
+    → outcome_of (read_by d f m).byte
+    ≡ cond (is_none d) (Err NothingChosen) (cond (is_palette d) (Err PaletteRead) (cond (not (ltb f.addr (size_of n d))) (Err OutsideMemory) (Ok tt)))
 read_by_exact n None f m = refl
-read_by_exact n Cram f m = refl
-read_by_exact n Vram f m = split (ltb f.addr 16384) (λ e. simp e) (λ e. simp e)
+read_by_exact n (Some Cram) f m = refl
+read_by_exact n (Some Vram) f m = split (ltb f.addr 16384) (λ e. simp e) (λ e. simp e)
 
-pub front_read_exact : (n : ℕ) (f : Front) (m : List ℕ) (p counter : ℕ) → (front_read f m p counter).refusal ≡ first (front_read_lines n f m p)
+pub front_read_exact : (n : ℕ) (f : Front) (m : List ℕ) (p counter : ℕ) → outcome_of (front_read f m p counter).byte ≡ first (front_read_lines n f m p)
 unfolding front_read
 front_read_exact n f m p counter =
     split (whole m)

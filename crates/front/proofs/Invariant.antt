@@ -1,5 +1,6 @@
 -- After any port call on a front the address lies in the memory that is chosen, where it did before; and 7 comes only where it lies outside.
 -- Assumes nothing.
+use Rattle.std.specs.Prelude.{None, Option, Some, ℕ}
 use Prim.Native.Nat.{ℕ, ◌%◌, ◌/◌, ◌<◌}
 use mathlib.Core.Path.{◌≡◌, refl}
 use mathlib.Core.Logic.{◌≢◌}
@@ -12,11 +13,9 @@ use borrow.Author.Tests.{ltb-false, not-true}
 use Rattle.laws.proofs.Tests.{either, both}
 use Rattle.front.specs.declared.Front.{Front}
 use Rattle.front.specs.declared.FrontWritten.{FrontWritten}
-use Rattle.front.specs.declared.FrontRead.{FrontRead}
+use Rattle.front.specs.declared.ReadBack.{ReadBack}
 use Rattle.front.specs.declared.WriteDest.{WriteDest}
-use Rattle.front.specs.declared.WriteDest.TheVariants.{None, Vram, Cram}
-use Rattle.front.specs.declared.Latch.{Latch}
-use Rattle.front.specs.declared.Latch.TheVariants.{Empty, Held}
+use Rattle.front.specs.declared.WriteDest.TheVariants.{Vram, Cram}
 use Rattle.front.specs.Front.{FrontAfter, emptied, second_byte, command_by, data_by, read_by}
 use Rattle.refusal.specs.Refusals.{refusal_number, Line, first, whole}
 use Rattle.front.specs.Lines.{size_of, is_port, front_write_lines, front_read_lines}
@@ -31,8 +30,8 @@ module _ (n : ℕ) (some : 0 < n) where
   abbrev Left : FrontWritten → Type 0
   Left a = AimedFront n a.front
 
-  abbrev LeftRead : FrontRead → Type 0
-  LeftRead a = AimedFront n a.front
+  abbrev LeftRead : ReadBack Front → Type 0
+  LeftRead a = AimedFront n a.device
 
   abbrev LeftAfter : FrontAfter → Type 0
   LeftAfter a = AimedFront n a.answer.front
@@ -43,19 +42,19 @@ module _ (n : ℕ) (some : 0 < n) where
       (λ _. either Left (eqb (v / 64) 1) (λ _. omega arith)
       (λ _. either Left (eqb (v / 64) 2) (λ _. either Left (ltb 10 (v % 128)) (λ _. h) (λ _. h)) (λ _. mod-lt d some)))
 
-  command_by_lem : (l : Latch) (f : Front) (m : List ℕ) (v : ℕ) → AimedFront n f → Left (command_by l n f m v)
-  command_by_lem Empty f m v h = h
-  command_by_lem (Held d) f m v h = second_byte_lem (emptied f) m d v h
+  command_by_lem : (l : Option ℕ) (f : Front) (m : List ℕ) (v : ℕ) → AimedFront n f → Left (command_by l n f m v)
+  command_by_lem None f m v h = h
+  command_by_lem (Some d) f m v h = second_byte_lem (emptied f) m d v h
 
-  data_by_lem : (d : WriteDest) (f : Front) (m : List ℕ) (v : ℕ) → f.dest ≡ d → AimedFront n f → LeftAfter (data_by d n f m v)
+  data_by_lem : (d : Option WriteDest) (f : Front) (m : List ℕ) (v : ℕ) → f.dest ≡ d → AimedFront n f → LeftAfter (data_by d n f m v)
   data_by_lem None f m v e h = h
-  data_by_lem Vram f m v e h = either LeftAfter (ltb f.addr 16384) (λ _. rw e (omega arith)) (λ _. h)
-  data_by_lem Cram f m v e h = either Left (ltb f.addr n) (λ _. h) (λ _. h)
+  data_by_lem (Some Vram) f m v e h = either LeftAfter (ltb f.addr 16384) (λ _. rw e (omega arith)) (λ _. h)
+  data_by_lem (Some Cram) f m v e h = either Left (ltb f.addr n) (λ _. h) (λ _. h)
 
-  read_by_lem : (d : WriteDest) (f : Front) (m : List ℕ) → f.dest ≡ d → AimedFront n f → LeftRead (read_by d f m)
+  read_by_lem : (d : Option WriteDest) (f : Front) (m : List ℕ) → f.dest ≡ d → AimedFront n f → LeftRead (read_by d f m)
   read_by_lem None f m e h = h
-  read_by_lem Cram f m e h = h
-  read_by_lem Vram f m e h = either LeftRead (ltb f.addr 16384) (λ _. rw e (omega arith)) (λ _. h)
+  read_by_lem (Some Cram) f m e h = h
+  read_by_lem (Some Vram) f m e h = either LeftRead (ltb f.addr 16384) (λ _. rw e (omega arith)) (λ _. h)
 
   pub front_write_aimed : (f : Front) (m : List ℕ) (p v : ℕ) → AimedFront n f → AimedFront n (front_write n f m p v).answer.front
   unfolding front_write
@@ -65,7 +64,7 @@ module _ (n : ℕ) (some : 0 < n) where
       (λ _. either LeftAfter (is_port 0xBE p) (λ _. data_by_lem f.dest (emptied f) m v refl h) (λ _. h)))
       (λ _. h)
 
-  pub front_read_aimed : (f : Front) (m : List ℕ) (p counter : ℕ) → AimedFront n f → AimedFront n (front_read f m p counter).front
+  pub front_read_aimed : (f : Front) (m : List ℕ) (p counter : ℕ) → AimedFront n f → AimedFront n (front_read f m p counter).device
   unfolding front_read
   front_read_aimed f m p counter h =
       either LeftRead (whole m)

@@ -1,5 +1,6 @@
 -- What a port write on a front keeps, and when its byte is for the palette.
 -- Assumes nothing.
+use Rattle.std.specs.Prelude.{None, Option, Some, ℕ}
 use Prim.Native.Nat.{ℕ, ◌/◌, ◌%◌, ◌<◌}
 use mathlib.Core.Path.{◌≡◌, refl, sym, ◌∙◌}
 use mathlib.Core.List.{List}
@@ -10,11 +11,9 @@ use borrow.Author.Tests.{ltb-true}
 use Rattle.laws.proofs.Tests.{either, clash}
 use Rattle.front.specs.declared.Front.{Front}
 use Rattle.front.specs.declared.FrontWritten.{FrontWritten}
-use Rattle.front.specs.declared.FrontRead.{FrontRead}
+use Rattle.front.specs.declared.ReadBack.{ReadBack}
 use Rattle.front.specs.declared.WriteDest.{WriteDest}
-use Rattle.front.specs.declared.WriteDest.TheVariants.{None, Vram, Cram}
-use Rattle.front.specs.declared.Latch.{Latch}
-use Rattle.front.specs.declared.Latch.TheVariants.{Empty, Held}
+use Rattle.front.specs.declared.WriteDest.TheVariants.{Vram, Cram}
 use Rattle.front.specs.Front.{FrontAfter, emptied, for_palette, command_by, data_by, read_by}
 use Rattle.refusal.specs.Refusals.{whole}
 use Rattle.front.specs.Lines.{is_port}
@@ -24,7 +23,7 @@ use Rattle.front.specs.Ports.{front_write, front_read}
 pub record Aims (n : ℕ) (f : Front) (m : List ℕ) (a : FrontAfter) : Type 0 where
   pub answer : a.answer ≡ for_palette (emptied f)
   pub memory : a.vram ≡ m
-  pub chosen : f.dest ≡ Cram
+  pub chosen : f.dest ≡ (Some Cram)
   pub inside : f.addr < n
 
 module _ (n : ℕ) (f : Front) (m : List ℕ) where
@@ -41,19 +40,19 @@ module _ (n : ℕ) (f : Front) (m : List ℕ) where
   left : (a : FrontAfter) → length a.answer.front.reg ≡ length f.reg → length a.vram ≡ length m → a.answer.palette ≡ false → Keeps a
   left a r l e = record { registers = r; memory = l; palette = λ t. clash (sym t ∙ e) }
 
-  command : (l : Latch) (v : ℕ) → KeptW (command_by l n f m v)
-  command Empty v = left _ refl refl refl
-  command (Held d) v =
+  command : (l : Option ℕ) (v : ℕ) → KeptW (command_by l n f m v)
+  command None v = left _ refl refl refl
+  command (Some d) v =
       either KeptW (eqb (v / 64) 0) (λ _. left _ refl refl refl)
       (λ _. either KeptW (eqb (v / 64) 1) (λ _. left _ refl refl refl)
       (λ _. either KeptW (eqb (v / 64) 2)
       (λ _. either KeptW (ltb 10 (v % 128)) (λ _. left _ refl refl refl) (λ _. left _ (simp length-set) refl refl))
       (λ _. left _ refl refl refl)))
 
-  to_chosen : (d : WriteDest) (v : ℕ) → f.dest ≡ d → Keeps (data_by d n (emptied f) m v)
+  to_chosen : (d : Option WriteDest) (v : ℕ) → f.dest ≡ d → Keeps (data_by d n (emptied f) m v)
   to_chosen None v e = left _ refl refl refl
-  to_chosen Vram v e = either Keeps (ltb f.addr 16384) (λ _. left _ refl (simp length-set) refl) (λ _. left _ refl refl refl)
-  to_chosen Cram v e =
+  to_chosen (Some Vram) v e = either Keeps (ltb f.addr 16384) (λ _. left _ refl (simp length-set) refl) (λ _. left _ refl refl refl)
+  to_chosen (Some Cram) v e =
       either KeptW (ltb f.addr n)
       (λ t. record {
         registers = refl;
@@ -79,15 +78,15 @@ inside n f m p v r e t =
 
 -- a read keeps the registers
 module _ (f : Front) (m : List ℕ) where
-  abbrev RegistersR : FrontRead → Type 0
-  RegistersR a = a.front.reg ≡ f.reg
+  abbrev RegistersR : ReadBack Front → Type 0
+  RegistersR a = a.device.reg ≡ f.reg
 
-  from_chosen : (d : WriteDest) → RegistersR (read_by d (emptied f) m)
+  from_chosen : (d : Option WriteDest) → RegistersR (read_by d (emptied f) m)
   from_chosen None = refl
-  from_chosen Cram = refl
-  from_chosen Vram = either RegistersR (ltb f.addr 16384) (λ _. refl) (λ _. refl)
+  from_chosen (Some Cram) = refl
+  from_chosen (Some Vram) = either RegistersR (ltb f.addr 16384) (λ _. refl) (λ _. refl)
 
-  pub read_registers : (p counter : ℕ) → (front_read f m p counter).front.reg ≡ f.reg
+  pub read_registers : (p counter : ℕ) → (front_read f m p counter).device.reg ≡ f.reg
   unfolding front_read
   read_registers p counter =
       either RegistersR (whole m)

@@ -1,11 +1,11 @@
 -- R3.3 to R3.6, R3.8 to R3.10, the ports of a front: what a port call answers and leaves, whatever the palette is.
 -- Assumes nothing.
-use Rattle.std.specs.Prelude.{ℕ, ◌≡◌, List, cond}
+use Rattle.std.specs.Prelude.{ℕ, ◌≡◌, List, cond, Err}
 use Rattle.refusal.specs.declared.Refusal.TheVariants.{UnknownPort, HorizontalCounter, VramLength}
 use Rattle.refusal.specs.Refusals.{whole}
 use Rattle.front.specs.declared.Front.{Front}
 use Rattle.front.specs.declared.FrontWritten.{FrontWritten}
-use Rattle.front.specs.declared.FrontRead.{FrontRead}
+use Rattle.front.specs.declared.ReadBack.{ReadBack}
 use Rattle.front.specs.Front.{FrontAfter, sent, refused_read, given, command_write, data_write, status_read, data_read}
 use Rattle.front.specs.Lines.{is_port}
 
@@ -14,11 +14,11 @@ unfoldable pub front_write : ℕ → Front → List ℕ → ℕ → ℕ → Fron
 front_write n f m p v =
     cond (whole m)
     (cond (is_port 0xBF p) (record { answer = command_write n f m v; vram = m })
-    (cond (is_port 0xBE p) (data_write n f m v) (record { answer = sent UnknownPort f; vram = m })))
-    (record { answer = sent VramLength f; vram = m })
+    (cond (is_port 0xBE p) (data_write n f m v) (record { answer = sent (Err UnknownPort) f; vram = m })))
+    (record { answer = sent (Err VramLength) f; vram = m })
 
 -- R3.10 is the read of 7E, where `counter` stands
-unfoldable pub front_read : Front → List ℕ → ℕ → ℕ → FrontRead
+unfoldable pub front_read : Front → List ℕ → ℕ → ℕ → ReadBack Front
 front_read f m p counter =
     cond (whole m)
     (cond (is_port 0x7E p) (given counter f)

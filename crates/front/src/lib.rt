@@ -1,13 +1,13 @@
 // The front of a device: the part that the port calls work on, whatever its palette is (R3.3 to R3.6, R3.8 to R3.10). Video memory is lent by the caller.
 #![tactic(auto)]
 
-ghost use Rattle.std.specs.Prelude.{◌≡◌, ◌<◌, length};
+ghost use Rattle.std.specs.Prelude.{◌≡◌, ◌<◌, length, Some};
 ghost use Rattle.laws.specs.Sizes.{vram_size};
-ghost use Rattle.front.specs.Front.{fresh_front, with_command, choosing, command_write, data_write, data_read, status_read};
+ghost use Rattle.front.specs.Front.{fresh_front, with_command, choosing, sent, read, command_write, data_write, data_read, status_read};
 ghost use Rattle.front.specs.Ports.{FrontLeaves, front_read};
 
 use refusal::Refusal;
-use small::VRAM_ADDRESSES;
+use small::{VRAM_ADDRESSES, VRAM_SIZE};
 
 // The ports, known by their low byte (R3.3), and the bytes of video memory.
 pub const VDP_CMD: u16 = 0xBF;
@@ -21,43 +21,60 @@ pub const HCOUNTER_READ: u16 = 0x7F;
 // The memory that the data port reads and writes.
 #[derive(Clone, Copy)]
 pub enum WriteDest {
-    None,
     Vram,
     Cram,
 }
 
-// A byte that waits for the one after it.
-#[derive(Clone, Copy)]
-pub enum Latch {
-    Empty,
-    Held(u8),
-}
-
-// The part of a device that the ports work on, whatever its palette is.
+// The part of a device that the ports work on, whatever its palette is: `dest` is the memory that is chosen, and `cmd_byte1` the first of two command bytes,
+// which waits for the second.
 #[derive(Clone, Copy)]
 pub struct Front {
     pub status: u8,
     pub reg: [u8; 11],
     pub addr: u16,
     pub vram_buffer: u8,
-    pub dest: WriteDest,
-    pub cmd_byte1: Latch,
+    pub dest: Option<WriteDest>,
+    pub cmd_byte1: Option<u8>,
+}
+
+// How a port write comes out, and the device that it leaves.
+#[derive(Clone, Copy)]
+pub struct Written<D> {
+    pub outcome: Result<(), Refusal>,
+    pub device: D,
+}
+
+// The byte that a port read gives, or why it gives none, and the device that it leaves.
+#[derive(Clone, Copy)]
+pub struct ReadBack<D> {
+    pub byte: Result<u8, Refusal>,
+    pub device: D,
 }
 
 // What a port write leaves of a front; `palette` where the byte is for the machine's own palette, which has still to take it.
 #[derive(Clone, Copy)]
 pub struct FrontWritten {
-    pub refusal: Refusal,
+    pub outcome: Result<(), Refusal>,
     pub palette: bool,
     pub front: Front,
 }
 
-// What a port read gives and leaves of a front.
-#[derive(Clone, Copy)]
-pub struct FrontRead {
-    pub refusal: Refusal,
-    pub byte: u8,
-    pub front: Front,
+// A write that is done with, or refused.
+fn sent(outcome: Result<(), Refusal>, front: Front) -> FrontWritten
+    ensures { result ≡ sent outcome front }
+{
+    FrontWritten {
+        outcome,
+        palette: false,
+        front,
+    }
+}
+
+// A read, which gives a byte or is refused.
+fn read(byte: Result<u8, Refusal>, device: Front) -> ReadBack<Front>
+    ensures { result ≡ read byte device }
+{
+    ReadBack { byte, device }
 }
 
 impl Front {
@@ -70,40 +87,29 @@ impl Front {
             reg: [0, 0, 0xFF, 0xFF, 0xFF, 0xFF, 0xFF, 0, 0, 0, 1],
             addr: 0,
             vram_buffer: 0,
-            dest: WriteDest::None,
-            cmd_byte1: Latch::Empty,
+            dest: None,
+            cmd_byte1: None,
         }
     }
 
     // The same front with another command latch.
-    fn with_command(self, latch: Latch) -> Self
+    fn with_command(self, latch: Option<u8>) -> Self
         ensures { result ≡ with_command self latch }
     {
-        let reg = self.reg;
-        let dest = self.dest;
         Front {
-            status: self.status,
-            reg: reg,
-            addr: self.addr,
-            vram_buffer: self.vram_buffer,
-            dest: dest,
             cmd_byte1: latch,
+            ..self
         }
     }
 
     // The same front with a memory chosen, at this address.
     fn choosing(self, dest: WriteDest, addr: u16) -> Self
-        ensures { result ≡ choosing self dest addr }
+        ensures { result ≡ choosing self (Some dest) addr }
     {
-        let reg = self.reg;
-        let cmd_byte1 = self.cmd_byte1;
         Front {
-            status: self.status,
-            reg: reg,
-            addr: addr,
-            vram_buffer: self.vram_buffer,
-            dest: dest,
-            cmd_byte1: cmd_byte1,
+            dest: Some(dest),
+            addr,
+            ..self
         }
     }
 
@@ -113,44 +119,31 @@ impl Front {
         requires palette_nonzero { 0 < palette }
         ensures { result ≡ command_write palette self vram.now val }
     {
-        let cmd_byte1 = self.cmd_byte1;
-        let Latch::Held(data) = cmd_byte1 else {
-            return FrontWritten {
-                refusal: Refusal::Accepted,
-                palette: false,
-                front: self.with_command(Latch::Held(val)),
-            };
+        let Some(data) = self.cmd_byte1 else {
+            return sent(Ok(()), self.with_command(Some(val)));
         };
-        let front = self.with_command(Latch::Empty);
-        let addr = small::word(data, val) % VRAM_ADDRESSES;
-        let after = match val / 64 {
+        let mut front = self.with_command(None);
+        let addr = u16::from_le_bytes([data, val]) % VRAM_ADDRESSES;
+        match val / 64 {
             0 => {
-                let at = addr as usize;
                 let mut video = front.choosing(WriteDest::Vram, addr);
-                video.vram_buffer = vram[at];
+                video.vram_buffer = vram[usize::from(addr)];
                 video.addr = (addr + 1) % VRAM_ADDRESSES;
-                video
+                sent(Ok(()), video)
             }
-            1 => front.choosing(WriteDest::Vram, addr),
+            1 => sent(Ok(()), front.choosing(WriteDest::Vram, addr)),
             2 => {
-                let reg = (val % 128) as usize;
+                let reg = usize::from(val % 128);
                 if 10 < reg {
-                    return FrontWritten {
-                        refusal: Refusal::HighRegister,
-                        palette: false,
-                        front: front,
-                    };
+                    return sent(Err(Refusal::HighRegister), front);
                 }
-                let mut written = front;
-                written.reg[reg] = data;
-                written
+                front.reg[reg] = data;
+                sent(Ok(()), front)
             }
-            _ => front.choosing(WriteDest::Cram, (data as u16) % palette),
-        };
-        FrontWritten {
-            refusal: Refusal::Accepted,
-            palette: false,
-            front: after,
+            _ => sent(
+                Ok(()),
+                front.choosing(WriteDest::Cram, u16::from(data) % palette),
+            ),
         }
     }
 
@@ -160,156 +153,92 @@ impl Front {
         ensures value { result ≡ (data_write palette self vram.old val).answer }
         ensures vram_after { vram.new ≡ (data_write palette self vram.old val).vram }
     {
-        let mut front = self.with_command(Latch::Empty);
-        let dest = self.dest;
+        let mut front = self.with_command(None);
         let addr = self.addr;
-        match dest {
-            WriteDest::None => FrontWritten {
-                refusal: Refusal::NothingChosen,
-                palette: false,
-                front: front,
-            },
-            WriteDest::Vram => {
+        match self.dest {
+            None => sent(Err(Refusal::NothingChosen), front),
+            Some(WriteDest::Vram) => {
                 if VRAM_ADDRESSES <= addr {
-                    return FrontWritten {
-                        refusal: Refusal::OutsideMemory,
-                        palette: false,
-                        front: front,
-                    };
+                    return sent(Err(Refusal::OutsideMemory), front);
                 }
-                let at = addr as usize;
-                vram[at] = val;
+                vram[usize::from(addr)] = val;
                 front.vram_buffer = val;
                 front.addr = (addr + 1) % VRAM_ADDRESSES;
-                FrontWritten {
-                    refusal: Refusal::Accepted,
-                    palette: false,
-                    front: front,
-                }
+                sent(Ok(()), front)
             }
-            WriteDest::Cram => {
+            Some(WriteDest::Cram) => {
                 if palette <= addr {
-                    return FrontWritten {
-                        refusal: Refusal::OutsideMemory,
-                        palette: false,
-                        front: front,
-                    };
+                    return sent(Err(Refusal::OutsideMemory), front);
                 }
                 FrontWritten {
-                    refusal: Refusal::Accepted,
+                    outcome: Ok(()),
                     palette: true,
-                    front: front,
+                    front,
                 }
             }
         }
     }
 
     // The read buffer, and the next byte into it (R3.8).
-    fn read_ram(self, vram: &[u8]) -> FrontRead
+    fn read_ram(self, vram: &[u8]) -> ReadBack<Front>
         requires { length vram.now ≡ vram_size }
         ensures { result ≡ data_read self vram.now }
     {
-        let mut front = self.with_command(Latch::Empty);
-        let dest = self.dest;
-        match dest {
-            WriteDest::None => FrontRead {
-                refusal: Refusal::NothingChosen,
-                byte: 0,
-                front: front,
-            },
-            WriteDest::Cram => FrontRead {
-                refusal: Refusal::PaletteRead,
-                byte: 0,
-                front: front,
-            },
-            WriteDest::Vram => {
-                let addr = self.addr;
+        let mut front = self.with_command(None);
+        let addr = self.addr;
+        match self.dest {
+            None => read(Err(Refusal::NothingChosen), front),
+            Some(WriteDest::Cram) => read(Err(Refusal::PaletteRead), front),
+            Some(WriteDest::Vram) => {
                 if VRAM_ADDRESSES <= addr {
-                    return FrontRead {
-                        refusal: Refusal::OutsideMemory,
-                        byte: 0,
-                        front: front,
-                    };
+                    return read(Err(Refusal::OutsideMemory), front);
                 }
-                let byte = self.vram_buffer;
-                let at = addr as usize;
-                front.vram_buffer = vram[at];
+                front.vram_buffer = vram[usize::from(addr)];
                 front.addr = (addr + 1) % VRAM_ADDRESSES;
-                FrontRead {
-                    refusal: Refusal::Accepted,
-                    byte: byte,
-                    front: front,
-                }
+                read(Ok(self.vram_buffer), front)
             }
         }
     }
 
     // The status, which the read clears (R3.9).
-    fn read_status(self) -> FrontRead
+    fn read_status(self) -> ReadBack<Front>
         ensures { result ≡ status_read self }
     {
-        let byte = self.status;
-        let mut front = self.with_command(Latch::Empty);
+        let mut front = self.with_command(None);
         front.status = 0;
-        FrontRead {
-            refusal: Refusal::Accepted,
-            byte: byte,
-            front: front,
-        }
+        read(Ok(self.status), front)
     }
 
     // A port write on a machine with this many bytes of palette, tested in the order of R2.4.
+    #[tactic(auto, unfolding(crate::specs::Ports::front_write))]
     pub fn write(self, vram: &mut [u8], palette: u16, addr: u16, val: u8) -> FrontWritten
         requires { 0 < palette }
         ensures { FrontLeaves palette self vram.old addr val result vram.new }
     {
-        if vram.len() != small::VRAM_SIZE {
-            return FrontWritten {
-                refusal: Refusal::VramLength,
-                palette: false,
-                front: self,
-            };
+        if vram.len() != VRAM_SIZE {
+            return sent(Err(Refusal::VramLength), self);
         }
         match addr % 256 {
             VDP_CMD => self.write_cmd(vram, palette, val),
             VDP_DATA => self.write_ram(vram, palette, val),
-            _ => FrontWritten {
-                refusal: Refusal::UnknownPort,
-                palette: false,
-                front: self,
-            },
+            _ => sent(Err(Refusal::UnknownPort), self),
         }
     }
 
     // A port read on a machine whose line counter stands at `counter`, tested in the order of R2.4.
-    pub fn read(self, vram: &[u8], addr: u16, counter: u8) -> FrontRead
+    #[tactic(auto, unfolding(crate::specs::Ports::front_read))]
+    pub fn read(self, vram: &[u8], addr: u16, counter: u8) -> ReadBack<Front>
         ensures { result ≡ front_read self vram.now addr counter }
     {
-        if vram.len() != small::VRAM_SIZE {
-            return FrontRead {
-                refusal: Refusal::VramLength,
-                byte: 0,
-                front: self,
-            };
+        if vram.len() != VRAM_SIZE {
+            return read(Err(Refusal::VramLength), self);
         }
         match addr % 256 {
-            VCOUNTER_READ => FrontRead {
-                refusal: Refusal::Accepted,
-                byte: counter,
-                front: self,
-            },
-            HCOUNTER_READ => FrontRead {
-                refusal: Refusal::HorizontalCounter,
-                byte: 0,
-                front: self,
-            },
+            VCOUNTER_READ => read(Ok(counter), self),
+            HCOUNTER_READ => read(Err(Refusal::HorizontalCounter), self),
             VDP_CMD => self.read_status(),
             VDP_DATA => self.read_ram(vram),
-            _ => FrontRead {
-                refusal: Refusal::UnknownPort,
-                byte: 0,
-                front: self,
-            },
+            _ => read(Err(Refusal::UnknownPort), self),
         }
     }
 }

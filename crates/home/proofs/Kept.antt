@@ -19,7 +19,7 @@ use Rattle.front.specs.Front.{changed}
 use Rattle.front.proofs.Invariant.{front_write_aimed, front_read_aimed}
 use Rattle.front.proofs.Kept.{write_kept, read_registers}
 use Rattle.home.specs.declared.HomeState.{HomeState}
-use Rattle.home.specs.declared.HomeWritten.{HomeWritten}
+use Rattle.front.specs.declared.Written.{Written}
 use Rattle.home.specs.Ports.{stored, port_write, port_read}
 use Rattle.home.specs.Promises.{Aimed}
 
@@ -44,10 +44,10 @@ module _ (h : HomeState) where
       let q = neither h.cram_dirty c e in
       rw (← eqb-true (at h.cram a) v (not-false (eqb (at h.cram a) v) q.1), set-get_or h.cram a 0) (k q.0)
 
-  abbrev KeptW : HomeWritten → Type 0
-  KeptW r = Keeps h r.home
+  abbrev KeptW : Written HomeState → Type 0
+  KeptW r = Keeps h r.device
 
-  pub write_keeps : (m : List ℕ) (p v : ℕ) → Keeps h (port_write h m p v).answer.home
+  pub write_keeps : (m : List ℕ) (p v : ℕ) → Keeps h (port_write h m p v).answer.device
   unfolding port_write
   write_keeps m p v =
       let a = (front_write 32 h.front m p v).answer in
@@ -79,7 +79,7 @@ module _ (h : HomeState) where
   unfolding port_write
   write_memory m p v = (write_kept 32 h.front m p v).memory
 
-  pub read_keeps : (m : List ℕ) (p : ℕ) → Keeps h (port_read h m p).home
+  pub read_keeps : (m : List ℕ) (p : ℕ) → Keeps h (port_read h m p).device
   unfolding port_read
   read_keeps m p =
       let counter = h.raster.v_counter in
@@ -94,10 +94,10 @@ module _ (h : HomeState) where
       }
 
   -- a read leaves palette and registers as they are
-  pub read_palette : (m : List ℕ) (p : ℕ) → (port_read h m p).home.cram ≡ h.cram
+  pub read_palette : (m : List ℕ) (p : ℕ) → (port_read h m p).device.cram ≡ h.cram
   unfolding port_read
   read_palette m p = refl
 
-  pub read_reg : (m : List ℕ) (p : ℕ) → (port_read h m p).home.front.reg ≡ h.front.reg
+  pub read_reg : (m : List ℕ) (p : ℕ) → (port_read h m p).device.front.reg ≡ h.front.reg
   unfolding port_read
   read_reg m p = read_registers h.front m p h.raster.v_counter

@@ -1,23 +1,20 @@
 -- R20.1, R20.8: a step of the home machine: what it answers, the device that it leaves, and what it leaves in a row buffer and in a frame.
 -- It is the five points of R4.1 to R4.5, for the home screen.
 -- Assumes nothing.
-use Rattle.std.specs.Prelude.{◌≡◌, cond, List, ℕ, length}
+use Rattle.std.specs.Prelude.{◌≡◌, cond, List, ℕ, length, None, Option, Some}
 use Rattle.laws.specs.Lists.{at}
 use Rattle.colour.specs.Home.{home_colours_of}
 use Rattle.picture.specs.declared.Screen.TheVariants.{Home}
 use Rattle.picture.specs.Picture.{Row}
 use Rattle.picture.specs.Screen.{columns, picture_of, row_bytes}
-use Rattle.refusal.specs.declared.Refusal.{Refusal}
-use Rattle.refusal.specs.Refusals.{Line, under}
+use Rattle.refusal.specs.Refusals.{Line, under, Outcome}
 use Rattle.points.specs.declared.VdpInt.TheVariants.{NoInterrupt}
 use Rattle.points.specs.declared.DisplayRefresh.TheVariants.{NoDisplay}
-use Rattle.points.specs.declared.DrawnRow.{DrawnRow}
-use Rattle.points.specs.declared.DrawnRow.TheVariants.{NoRow, Drawn}
 use Rattle.points.specs.declared.Points.{Points}
 use Rattle.points.specs.Points.{Reading, reading, risen, row_lines, frame_lines, points_of}
 use Rattle.points.specs.Bytes.{row_filled, frame_filled}
 use Rattle.home.specs.declared.HomeState.{HomeState}
-use Rattle.home.specs.declared.HomeStepped.{HomeStepped}
+use Rattle.points.specs.declared.Stepped.{Stepped}
 use Rattle.home.specs.Home.{with_status, with_raster, with_cache}
 
 abbrev pub register : HomeState → ℕ → ℕ
@@ -44,38 +41,38 @@ abbrev pub counter_up : HomeState → HomeState
 counter_up h = with_raster h (risen (reading_of h))
 
 -- R4.2: with clean colours, if a row was drawn with them
-abbrev pub cleaned : DrawnRow → HomeState → List ℕ → HomeState
-cleaned NoRow h colours = h
-cleaned (Drawn y) h colours = with_cache h colours
+abbrev pub cleaned : Option ℕ → HomeState → List ℕ → HomeState
+cleaned None h colours = h
+cleaned (Some y) h colours = with_cache h colours
 
 -- its answer, and itself, by what the points answer and leave
-abbrev pub joined : HomeState → Points → HomeStepped
+abbrev pub joined : HomeState → Points → Stepped HomeState
 joined h points =
     record {
-      refusal = points.refusal;
+      outcome = points.outcome;
       interrupt = points.interrupt;
       report = points.report;
       row = points.row;
-      home = with_raster (with_status (cleaned points.row h (colours_now h)) points.status) points.raster;
+      device = with_raster (with_status (cleaned points.row h (colours_now h)) points.status) points.raster;
     }
 
 -- an accepted step
-unfoldable pub stepped : List ℕ → HomeState → HomeStepped
+unfoldable pub stepped : List ℕ → HomeState → Stepped HomeState
 stepped vram h = joined h (points_of Home vram (reading_of h))
 
 -- R2.3: a refused step tells and changes nothing
-abbrev pub refused_step : Refusal → HomeState → HomeStepped
-refused_step r h = record { refusal = r; interrupt = NoInterrupt; report = NoDisplay; row = NoRow; home = h }
+abbrev pub refused_step : Outcome → HomeState → Stepped HomeState
+refused_step r h = record { outcome = r; interrupt = NoInterrupt; report = NoDisplay; row = None; device = h }
 
 -- R6.3, R6.7: a step that these lines refuse, whatever its line
-unfoldable pub step_with : List Line → List ℕ → HomeState → HomeStepped
+unfoldable pub step_with : List Line → List ℕ → HomeState → Stepped HomeState
 step_with lines vram h = under lines (λ r. refused_step r h) (stepped vram h)
 
 -- R7.1, R7.2: the two steps
-abbrev pub row_step_of : List ℕ → ℕ → HomeState → HomeStepped
+abbrev pub row_step_of : List ℕ → ℕ → HomeState → Stepped HomeState
 row_step_of vram size h = step_with (row_lines Home vram size) vram h
 
-abbrev pub frame_step_of : List ℕ → ℕ → HomeState → HomeStepped
+abbrev pub frame_step_of : List ℕ → ℕ → HomeState → Stepped HomeState
 frame_step_of vram size h = step_with (frame_lines Home vram size) vram h
 
 -- the bytes of row y, as a step draws it on the device h with its counter up
@@ -90,10 +87,10 @@ unfoldable pub frame_after : List ℕ → HomeState → List ℕ → List ℕ
 frame_after vram h frame = under (frame_lines Home vram (length frame)) (λ r. frame) (frame_filled Home vram (reading_of h) frame)
 
 -- What the row step promises of its answer r and of the buffer after it, and the frame step of the frame.
-pub record RowStepLeaves (vram : List ℕ) (h : HomeState) (buffer : List ℕ) (r : HomeStepped) (buffer' : List ℕ) : Type 0 where
+pub record RowStepLeaves (vram : List ℕ) (h : HomeState) (buffer : List ℕ) (r : Stepped HomeState) (buffer' : List ℕ) : Type 0 where
   pub answer : r ≡ row_step_of vram (length buffer) h
   pub bytes : buffer' ≡ row_after vram h buffer
 
-pub record FrameStepLeaves (vram : List ℕ) (h : HomeState) (frame : List ℕ) (r : HomeStepped) (frame' : List ℕ) : Type 0 where
+pub record FrameStepLeaves (vram : List ℕ) (h : HomeState) (frame : List ℕ) (r : Stepped HomeState) (frame' : List ℕ) : Type 0 where
   pub answer : r ≡ frame_step_of vram (length frame) h
   pub bytes : frame' ≡ frame_after vram h frame

@@ -5,14 +5,14 @@
 ghost use Rattle.std.specs.Prelude.{◌≡◌, ◌<◌};
 ghost use Rattle.home.specs.Home.{palette_size, made, fresh};
 ghost use Rattle.home.specs.Ports.{palette_write, WriteLeaves, port_read};
-ghost use Rattle.home.specs.Step.{colours_now, cleaned, joined, RowStepLeaves, FrameStepLeaves};
+ghost use Rattle.home.specs.Step.{reading_of, joined, RowStepLeaves, FrameStepLeaves};
 
-use front::Front;
+use front::{Front, ReadBack, Written};
 use picture::Screen;
-use points::{DisplayRefresh, DrawnRow, Points, VdpInt};
+use points::{Points, Stepped};
 use raster::{LineTable, Raster};
-use refusal::Refusal;
-use row::points_run;
+use row::machine;
+use row::machine::Machine;
 
 // The bytes of the palette.
 pub const PALETTE_SIZE: u16 = 32;
@@ -25,31 +25,6 @@ pub struct HomeState {
     pub cram: [u8; 32],
     pub cram_dirty: bool,
     pub color_cache: [u32; 32],
-}
-
-// What a port write leaves.
-#[derive(Clone, Copy)]
-pub struct HomeWritten {
-    pub refusal: Refusal,
-    pub home: HomeState,
-}
-
-// What a port read gives and leaves.
-#[derive(Clone, Copy)]
-pub struct HomeRead {
-    pub refusal: Refusal,
-    pub byte: u8,
-    pub home: HomeState,
-}
-
-// What a step answers, with the device that it leaves.
-#[derive(Clone, Copy)]
-pub struct HomeStepped {
-    pub refusal: Refusal,
-    pub interrupt: VdpInt,
-    pub report: DisplayRefresh,
-    pub row: DrawnRow,
-    pub home: HomeState,
 }
 
 impl HomeState {
@@ -74,139 +49,108 @@ impl HomeState {
     }
 
     // A byte for the palette (R20.3): it is stored at once.
-    fn write_palette(mut self, val: u8) -> HomeWritten
+    fn write_palette(mut self, val: u8) -> Written<HomeState>
         requires { self.front.addr < palette_size }
         ensures { result ≡ palette_write self val }
     {
         let addr = self.front.addr;
-        let here = addr as usize;
+        let here = usize::from(addr);
         self.front.addr = (addr + 1) % PALETTE_SIZE;
         let was = self.cram[here];
         self.cram_dirty = self.cram_dirty | (was != val);
         self.cram[here] = val;
-        HomeWritten {
-            refusal: Refusal::Accepted,
-            home: self,
+        Written {
+            outcome: Ok(()),
+            device: self,
         }
     }
 
     // A port write: the palette is the device's own, and all else is its front's.
-    pub fn out(mut self, vram: &mut [u8], addr: u16, val: u8) -> HomeWritten
+    pub fn out(self, vram: &mut [u8], addr: u16, val: u8) -> Written<HomeState>
         ensures { WriteLeaves self vram.old addr val result vram.new }
     {
-        let front = self.front;
-        let sent = front.write(vram, PALETTE_SIZE, addr, val);
-        let left = sent.front;
-        self.front = left;
+        let sent = self.front.write(vram, PALETTE_SIZE, addr, val);
+        let device = HomeState {
+            front: sent.front,
+            ..self
+        };
         if sent.palette {
-            return self.write_palette(val);
+            return device.write_palette(val);
         }
-        let refusal = sent.refusal;
-        HomeWritten {
-            refusal: refusal,
-            home: self,
+        Written {
+            outcome: sent.outcome,
+            device,
         }
     }
 
     // A port read, all of it the front's but for the line counter.
-    pub fn input(mut self, vram: &[u8], addr: u16) -> HomeRead
+    pub fn input(self, vram: &[u8], addr: u16) -> ReadBack<HomeState>
         ensures { result ≡ port_read self vram.now addr }
     {
-        let front = self.front;
-        let got = front.read(vram, addr, self.raster.v_counter);
-        let refusal = got.refusal;
-        let left = got.front;
-        self.front = left;
-        HomeRead {
-            refusal: refusal,
-            byte: got.byte,
-            home: self,
+        let read = self.front.read(vram, addr, self.raster.v_counter);
+        ReadBack {
+            byte: read.byte,
+            device: HomeState {
+                front: read.device,
+                ..self
+            },
         }
     }
 }
 
-// The colours that a row is drawn with (R4.2): made anew from the palette where they are dirty, else the cache as it stands.
-fn colours_of(home: HomeState) -> [u32; 32]
-    ensures { result ≡ colours_now home }
-{
-    let cram = home.cram;
-    let color_cache = home.color_cache;
-    if home.cram_dirty {
-        return colour::home_palette_recompute(cram);
+// The machine, by a type of its own as the handheld is.
+pub struct HomeMachine;
+
+impl Machine for HomeMachine {
+    type Device = HomeState;
+
+    ghost reading_of = { reading_of };
+
+    ghost after = { λ home points. (joined home points).device };
+
+    fn registers(home: &HomeState) -> [u8; 11] {
+        home.front.reg
     }
-    color_cache
-}
 
-// The device after a step that drew this row: clean colours, if it drew one.
-fn clean(mut home: HomeState, row: DrawnRow, colours: [u32; 32]) -> HomeState
-    ensures { result ≡ cleaned row home colours }
-{
-    let DrawnRow::Drawn(_) = row else {
-        return home;
-    };
-    home.cram_dirty = false;
-    home.color_cache = colours;
-    home
-}
+    fn raster(home: &HomeState) -> Raster {
+        home.raster
+    }
 
-// The answer of the device's own step, from what the points answer and leave.
-fn join(home: HomeState, points: Points, colours: [u32; 32]) -> HomeStepped
-    requires { colours ≡ colours_now home }
-    ensures { result ≡ joined home points }
-{
-    let refusal = points.refusal;
-    let interrupt = points.interrupt;
-    let report = points.report;
-    let row = points.row;
-    let raster = points.raster;
-    let mut next = clean(home, row, colours);
-    next.front.status = points.status;
-    next.raster = raster;
-    HomeStepped {
-        refusal: refusal,
-        interrupt: interrupt,
-        report: report,
-        row: row,
-        home: next,
+    fn status(home: &HomeState) -> u8 {
+        home.front.status
+    }
+
+    // Made anew from the palette where they are dirty, else the cache as it stands.
+    fn colours(home: &HomeState) -> [u32; 32] {
+        if home.cram_dirty {
+            colour::home_palette_recompute(home.cram)
+        } else {
+            home.color_cache
+        }
+    }
+
+    // Clean colours, if a row was drawn with them.
+    fn after(mut home: HomeState, points: Points, colours: [u32; 32]) -> HomeState {
+        if points.row.is_some() {
+            home.cram_dirty = false;
+            home.color_cache = colours;
+        }
+        home.front.status = points.status;
+        home.raster = points.raster;
+        home
     }
 }
 
 // A step, whose row goes to the first bytes of the row buffer.
-pub fn row_step(home: HomeState, vram: &[u8], row: &mut [u8]) -> HomeStepped
+pub fn row_step(home: HomeState, vram: &[u8], row: &mut [u8]) -> Stepped<HomeState>
     ensures { RowStepLeaves vram.now home row.old result row.new }
 {
-    let front = home.front;
-    let reg = front.reg;
-    let raster = home.raster;
-    let colours = colours_of(home);
-    let points = points_run::row_points(
-        reg,
-        raster,
-        front.status,
-        &colours,
-        vram,
-        row,
-        Screen::Home,
-    );
-    join(home, points, colours)
+    machine::row_step::<HomeMachine>(home, vram, row, Screen::Home)
 }
 
 // A step on a whole frame.
-pub fn frame_step(home: HomeState, vram: &[u8], frame: &mut [u8]) -> HomeStepped
+pub fn frame_step(home: HomeState, vram: &[u8], frame: &mut [u8]) -> Stepped<HomeState>
     ensures { FrameStepLeaves vram.now home frame.old result frame.new }
 {
-    let front = home.front;
-    let reg = front.reg;
-    let raster = home.raster;
-    let colours = colours_of(home);
-    let points = points_run::frame_points(
-        reg,
-        raster,
-        front.status,
-        &colours,
-        vram,
-        frame,
-        Screen::Home,
-    );
-    join(home, points, colours)
+    machine::frame_step::<HomeMachine>(home, vram, frame, Screen::Home)
 }

@@ -1,18 +1,18 @@
 -- The ports in place, from what their parts give.
 -- Assumes nothing.
+use Rattle.refusal.specs.declared.Refusal.{Refusal}
+use Rattle.std.specs.Prelude.{Ok, Result}
 use mathlib.Core.Path.{◌≡◌, refl, sym, ap, ◌∙◌}
 use mathlib.Core.Bool.{true, false}
 use mathlib.Core.List.{List}
 use Prim.Native.Nat.{ℕ, ◌<◌}
 use native.Mathlib.Omega.{arith}
 use Rattle.laws.specs.Lists.{at}
-use Rattle.refusal.specs.declared.Refusal.TheVariants.{Accepted}
 use Rattle.front.specs.declared.Front.{Front}
 use Rattle.front.specs.Front.{FrontAfter}
 use Rattle.front.specs.Ports.{front_write, front_read}
 use Rattle.front.proofs.Kept.{write_kept, inside}
 use Rattle.inplace.specs.declared.Sent.{Sent}
-use Rattle.inplace.specs.declared.Got.{Got}
 use Rattle.fields.specs.Stored.{address_in, front_in, front_stored, FrontFormed}
 use Rattle.inplace.specs.InPlace.{SentInPlace, GotInPlace}
 use Rattle.block_parts.proofs.Front as in_block
@@ -67,24 +67,23 @@ module _ (b : List ℕ) (w : well_formed b ≡ true) (bytes : (i : ℕ) → at b
           rw (left_in, address_read left left_sized)
           (inside 32 (state_of b).front m p v fronted.answer refl (sym known.palette ∙ t))
 
-      pub by_palette : r.palette ≡ true → {b₂ : List ℕ} → b₂ ≡ block_of (palette_write left v).home → OutInPlace b m p v Accepted b₂ m₁
+      pub by_palette : r.palette ≡ true → {b₂ : List ℕ} → b₂ ≡ block_of (palette_write left v).device → OutInPlace b m p v (Ok tt) b₂ m₁
       unfolding port_write
       by_palette t q =
           let u : fronted.answer.palette ≡ true = sym known.palette ∙ t in
-          record { refusal = rw u; block = q ∙ rw u; memory = memory_is }
+          record { outcome = rw u; block = q ∙ rw u; memory = memory_is }
 
-      pub by_front : r.palette ≡ false → OutInPlace b m p v r.refusal b₁ m₁
+      pub by_front : r.palette ≡ false → OutInPlace b m p v r.outcome b₁ m₁
       unfolding port_write
       by_front t =
           let u : fronted.answer.palette ≡ false = sym known.palette ∙ t in
-          record { refusal = known.refusal ∙ rw u; block = left_in ∙ rw u; memory = memory_is }
+          record { outcome = known.outcome ∙ rw u; block = left_in ∙ rw u; memory = memory_is }
 
   -- ---- a read
-  pub read_in_place : {r : Got} {b₁ : List ℕ} → GotInPlace b (front_read (front_in b) m p (at b 14)) r b₁ → InputInPlace b m p r b₁
+  pub read_in_place : {r : Result ℕ Refusal} {b₁ : List ℕ} → GotInPlace b (front_read (front_in b) m p (at b 14)) r b₁ → InputInPlace b m p r b₁
   unfolding port_read state_of
   read_in_place l =
       record {
-        refusal = l.refusal;
         byte = l.byte;
-        block = stored_front (front_read (front_in b) m p (at b 14)).front l.block;
+        block = stored_front (front_read (front_in b) m p (at b 14)).device l.block;
       }

@@ -18,7 +18,7 @@ use Rattle.front.specs.Ports.{front_write, front_read}
 use Rattle.front.proofs.Kept.{write_kept, read_registers}
 use Rattle.block_parts.proofs.Copies.{length-colours_from, colour_low}
 use Rattle.home.specs.declared.HomeState.{HomeState}
-use Rattle.home.specs.declared.HomeWritten.{HomeWritten}
+use Rattle.front.specs.declared.Written.{Written}
 use Rattle.home.specs.Home.{home, made, with_front}
 use Rattle.home.specs.Ports.{palette_write, port_write, port_read}
 use Rattle.home_block.specs.HomeBlock.{state_of, well_formed, Shape}
@@ -72,8 +72,8 @@ module _ {h : HomeState} (g : Shape h) where
         colour = g.colour;
       }
 
-abbrev ShapeW : HomeWritten → Type 0
-ShapeW a = Shape a.home
+abbrev ShapeW : Written HomeState → Type 0
+ShapeW a = Shape a.device
 
 palette_write_lem : (h : HomeState) (v : ℕ) → v < 256 → Shape h → ShapeW (palette_write h v)
 palette_write_lem h v low g =
@@ -84,15 +84,15 @@ palette_write_lem h v low g =
       colour = g.colour;
     }
 
-pub write_shape : (h : HomeState) (m : List ℕ) (p v : ℕ) → v < 256 → Shape h → Shape (port_write h m p v).answer.home
+pub write_shape : (h : HomeState) (m : List ℕ) (p v : ℕ) → v < 256 → Shape h → Shape (port_write h m p v).answer.device
 unfolding port_write
 write_shape h m p v low g =
     let a = (front_write 32 h.front m p v).answer in
     let k = carried g a.front h.raster h.cram_dirty (write_kept 32 h.front m p v).registers in
     either ShapeW a.palette (λ _. palette_write_lem (with_front h a.front) v low k) (λ _. k)
 
-pub read_shape : (h : HomeState) (m : List ℕ) (p : ℕ) → Shape h → Shape (port_read h m p).home
+pub read_shape : (h : HomeState) (m : List ℕ) (p : ℕ) → Shape h → Shape (port_read h m p).device
 unfolding port_read
 read_shape h m p g =
     let c = h.raster.v_counter in
-    carried g (front_read h.front m p c).front h.raster h.cram_dirty (ap length (read_registers h.front m p c))
+    carried g (front_read h.front m p c).device h.raster h.cram_dirty (ap length (read_registers h.front m p c))

@@ -89,7 +89,7 @@ module _ (h : HomeState) (g : Sized h) where
 
 -- a byte for the palette, with the dirty flag, and the address one on
 pub palette_stored : (h : HomeState) → Sized h → (v : ℕ) {a : ℕ} {b b₁ b₂ : List ℕ} → a < 32 → b ≡ block_of h → a ≡ address_in b
-    → b₁ ≡ colour_stored 26 24 a v b → b₂ ≡ address_stored ((a + 1) % 32) b₁ → b₂ ≡ block_of (palette_write h v).home
+    → b₁ ≡ colour_stored 26 24 a v b → b₂ ≡ address_stored ((a + 1) % 32) b₁ → b₂ ≡ block_of (palette_write h v).device
 palette_stored h g v {a} {b} {b₁} {b₂} low e ea e₁ e₂ =
     let address : a ≡ h.front.addr = ea ∙ ap address_in e ∙ address_read h g in
     let t : Bool = h.cram_dirty || changed (at h.cram a) v in

@@ -13,7 +13,6 @@ ghost use Rattle.home_block.specs.InPlace.{OutInPlace, InputInPlace};
 
 use fields::{MARK, MARK_FIRST, MARK_SECOND};
 use home::PALETTE_SIZE;
-use inplace::Got;
 use raster::{LineTable, Raster};
 use refusal::Refusal;
 
@@ -34,14 +33,16 @@ pub const CACHE: usize = 58;
 const HOME_MARK: u8 = 0x48;
 
 // R21.3: whether a block has the length, the mark, and no byte that does not fit its place.
+#[tactic(auto, unfolding(crate::specs::HomeBlock::well_formed))]
 pub fn well_formed(block: &[u8]) -> bool
     ensures { result ≡ well_formed block.now }
 {
-    if block.len() != BLOCK_SIZE {
-        return false;
-    }
-    let marked = (block[MARK] == MARK_FIRST) & (block[MARK_SECOND] == HOME_MARK);
-    marked & block_parts::fields_fit(block) & (block[DIRTY] <= 1) & (block[TABLE] <= 1)
+    block.len() == BLOCK_SIZE
+        && block[MARK] == MARK_FIRST
+        && block[MARK_SECOND] == HOME_MARK
+        && block_parts::fields_fit(block)
+        && block[DIRTY] <= 1
+        && block[TABLE] <= 1
 }
 
 // A fresh device of this table into a block.
@@ -50,12 +51,13 @@ pub fn fresh(block: &mut [u8], table: LineTable)
     ensures { block.new ≡ block_of (made table) }
 {
     block_parts::stamp(block, HOME_MARK, DIRTY);
-    block[TABLE] = raster::table_number(table);
+    block[TABLE] = u8::from(table);
 }
 
 // ---- the parts of a block that the calls read and write, each by itself
 
 // The registers.
+#[tactic(auto, unfolding(crate::specs::HomeBlock::state_of, fields::specs::Stored::front_in))]
 pub fn registers(block: &[u8]) -> [u8; 11]
     requires { length block.now ≡ block_size }
     ensures { result ≡ (state_of block.now).front.reg }
@@ -64,6 +66,7 @@ pub fn registers(block: &[u8]) -> [u8; 11]
 }
 
 // The raster.
+#[tactic(auto, unfolding(crate::specs::HomeBlock::state_of))]
 pub fn raster_in(block: &[u8]) -> Raster
     requires { length block.now ≡ block_size }
     ensures { result ≡ (state_of block.now).raster }
@@ -72,15 +75,17 @@ pub fn raster_in(block: &[u8]) -> Raster
 }
 
 // The palette, and the cached colours.
+#[tactic(auto, unfolding(crate::specs::HomeBlock::state_of))]
 pub fn palette_in(block: &[u8]) -> [u8; 32]
     requires { length block.now ≡ block_size }
     ensures { result ≡ (state_of block.now).cram }
 {
     let mut cram = [0u8; 32];
-    block_parts::copy(&mut cram, 0, block, PALETTE, 32);
+    cram.copy_from_slice(&block[PALETTE..PALETTE + 32]);
     cram
 }
 
+#[tactic(auto, unfolding(crate::specs::HomeBlock::state_of))]
 pub fn cache_in(block: &[u8]) -> [u32; 32]
     requires { length block.now ≡ block_size }
     ensures { result ≡ (state_of block.now).color_cache }
@@ -89,6 +94,7 @@ pub fn cache_in(block: &[u8]) -> [u32; 32]
 }
 
 // One of the cached colours.
+#[tactic(auto, using(block_parts::proofs::Copies::one_of_lem), unfolding(crate::specs::HomeBlock::state_of))]
 pub fn cached_colour(block: &[u8], n: usize) -> u32
     requires { (length block.now ≡ block_size) × (n < 32) }
     ensures { result ≡ at (state_of block.now).color_cache n }
@@ -101,30 +107,29 @@ pub fn cached_colour(block: &[u8], n: usize) -> u32
 // A byte for the palette (R20.3): it is stored at once.
 fn write_palette(block: &mut [u8], val: u8)
     requires { (length block.old ≡ block_size) × (address_in block.old < palette_size) }
-    ensures { (h : HomeState) → Sized h → block.old ≡ block_of h → block.new ≡ block_of (palette_write h val).home }
+    ensures { (h : HomeState) → Sized h → block.old ≡ block_of h → block.new ≡ block_of (palette_write h val).device }
 {
     let addr = fields::address_in(block);
-    let here = addr as usize;
-    fields::store_colour(block, PALETTE, DIRTY, here, val);
+    fields::store_colour(block, PALETTE, DIRTY, usize::from(addr), val);
     fields::store_address(block, (addr + 1) % PALETTE_SIZE);
 }
 
 // A port write on the device of a well-formed block.
-pub fn out(block: &mut [u8], vram: &mut [u8], port: u16, val: u8) -> Refusal
+pub fn out(block: &mut [u8], vram: &mut [u8], port: u16, val: u8) -> Result<(), Refusal>
     requires { well_formed block.old ≡ true }
     ensures { OutInPlace block.old vram.old port val result block.new vram.new }
 {
     let sent = inplace::write(block, vram, PALETTE_SIZE, port, val);
     if sent.palette {
         write_palette(block, val);
-        return Refusal::Accepted;
+        Ok(())
+    } else {
+        sent.outcome
     }
-    let refusal = sent.refusal;
-    refusal
 }
 
 // A port read, all of it the front's.
-pub fn input(block: &mut [u8], vram: &[u8], port: u16) -> Got
+pub fn input(block: &mut [u8], vram: &[u8], port: u16) -> Result<u8, Refusal>
     requires { well_formed block.old ≡ true }
     ensures { InputInPlace block.old vram.now port result block.new }
 {

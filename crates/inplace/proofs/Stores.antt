@@ -1,5 +1,6 @@
 -- The front of a block, as its bytes are stored: each store is the block with the front so changed, and stores one after the other are one.
 -- Assumes nothing.
+use Rattle.std.specs.Prelude.{Option, ℕ}
 use mathlib.Core.Path.{◌≡◌, refl, sym, ap, ◌∙◌}
 use mathlib.Core.List.{List, [], ◌∷◌, ◌++◌}
 use Prim.Native.Nat.{ℕ, suc, ◌+◌, ◌*◌, ◌/◌, ◌%◌, ◌≤◌, ◌<◌}
@@ -13,7 +14,6 @@ use Rattle.laws.specs.Table.{table_from}
 use Rattle.laws.proofs.Parts.{part_table, parted, at_past, set_past}
 use Rattle.front.specs.declared.Front.{Front}
 use Rattle.front.specs.declared.WriteDest.{WriteDest}
-use Rattle.front.specs.declared.Latch.{Latch}
 use Rattle.front.specs.Front.{front, with_command, choosing, with_reg, with_buffer}
 use Rattle.fields.specs.Fields.{chosen_of, chosen_from, latch_flag, latch_byte, latch_from}
 use Rattle.fields.specs.Stored.{latch_stored, address_stored, front_in, front_stored, FrontFormed}
@@ -55,7 +55,7 @@ module _ (b : List ℕ) (w : FrontFormed b) where
       rw (low, high, chosen_in (at b 20) w.chosen, latch_flag_in (at b 21) (at b 22) w.flag, latch_byte_in (at b 21) (at b 22) w.byte)
       (sym (whole b w.long))
 
-  pub command_stored : (l : Latch) {b' : List ℕ} → b' ≡ latch_stored 21 l b → b' ≡ front_stored (with_command (front_in b) l) b
+  pub command_stored : (l : Option ℕ) {b' : List ℕ} → b' ≡ latch_stored 21 l b → b' ≡ front_stored (with_command (front_in b) l) b
   unfolding front_in front_stored
   command_stored l e =
       let g : List ℕ = take 11 (drop 3 b) in
@@ -65,7 +65,8 @@ module _ (b : List ℕ) (w : FrontFormed b) where
       ∙ rw (set_past g _ 11 7 _ r, set_past g _ 11 8 _ r, low, high, chosen_in (at b 20) w.chosen)
 
   pub choice_stored :
-      (d : WriteDest) (a : ℕ) {b₁ : List ℕ} {x : ℕ} → b₁ ≡ address_stored a b → x ≡ chosen_of d → set b₁ 20 x ≡ front_stored (choosing (front_in b) d a) b
+      (d : Option WriteDest) (a : ℕ) {b₁ : List ℕ} {x : ℕ} → b₁ ≡ address_stored a b → x ≡ chosen_of d →
+      set b₁ 20 x ≡ front_stored (choosing (front_in b) d a) b
   unfolding front_in front_stored
   choice_stored d a e ex =
       let g : List ℕ = take 11 (drop 3 b) in
@@ -187,7 +188,7 @@ module _ (b : List ℕ) (f : Front) {b₁ : List ℕ} (e : length f.reg ≡ 11) 
       ∙ stored_again f b e (c f)
 
   -- a memory chosen, and the status cleared
-  pub chosen_stored : (d : WriteDest) → set b₁ 20 (chosen_of d) ≡ front_stored (choosing f d f.addr) b
+  pub chosen_stored : (d : Option WriteDest) → set b₁ 20 (chosen_of d) ≡ front_stored (choosing f d f.addr) b
   unfolding front_stored
   chosen_stored d = rw p (set_past (at b 0 ∷ at b 1 ∷ f.status ∷ f.reg) _ 14 6 (chosen_of d) (ap (λ (n : ℕ). suc (suc (suc n))) e))
 

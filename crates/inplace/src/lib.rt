@@ -9,7 +9,7 @@ ghost use Rattle.laws.specs.Sizes.{vram_size};
 ghost use Rattle.front.specs.Front.{with_buffer, command_write, data_write, data_read, status_read};
 ghost use Rattle.front.specs.Ports.{front_write, front_read};
 ghost use Rattle.fields.specs.Stored.{front_in, front_stored, FrontFormed};
-ghost use Rattle.inplace.specs.InPlace.{PaletteSize, answered, refused, SentInPlace, GotInPlace};
+ghost use Rattle.inplace.specs.InPlace.{PaletteSize, answered, SentInPlace, GotInPlace};
 
 use fields::{CHOSEN, COMMAND_BYTE, COMMAND_LATCHED, COUNTER, READ_BUFFER, REGISTERS, STATUS};
 use front::{HCOUNTER_READ, VCOUNTER_READ, VDP_CMD, VDP_DATA};
@@ -19,33 +19,17 @@ use small::VRAM_ADDRESSES;
 // What a port write answers; `palette` where the byte is for the machine's own palette, which has still to take it.
 #[derive(Clone, Copy)]
 pub struct Sent {
-    pub refusal: Refusal,
+    pub outcome: Result<(), Refusal>,
     pub palette: bool,
 }
 
-// What a port read answers.
-#[derive(Clone, Copy)]
-pub struct Got {
-    pub refusal: Refusal,
-    pub byte: u8,
-}
-
-// A write's answer where the palette is not asked, and that of a refused read, which gives 0 (R2.3).
-fn answered(refusal: Refusal) -> Sent
-    ensures { result ≡ answered refusal }
+// A write's answer where the palette is not asked.
+fn answered(outcome: Result<(), Refusal>) -> Sent
+    ensures { result ≡ answered outcome }
 {
     Sent {
-        refusal: refusal,
+        outcome,
         palette: false,
-    }
-}
-
-fn refused(refusal: Refusal) -> Got
-    ensures { result ≡ refused refusal }
-{
-    Got {
-        refusal: refusal,
-        byte: 0,
     }
 }
 
@@ -80,7 +64,7 @@ fn palette_address(byte: u8, palette: u16) -> u16
 // ---- the ports; what they need of the front is read and stored byte by byte, where it stands
 
 // A command byte: the first of two waits in the latch (R3.4), the second empties it and acts (R3.5).
-fn write_cmd(block: &mut [u8], vram: &[u8], palette: u16, val: u8) -> Refusal
+fn write_cmd(block: &mut [u8], vram: &[u8], palette: u16, val: u8) -> Result<(), Refusal>
     requires front_formed { FrontFormed block.old }
     requires vram_len { (length vram.now ≡ vram_size) × PaletteSize palette }
     ensures { SentInPlace block.old (command_write palette (front_in block.old) vram.now val) (answered result) block.new }
@@ -88,12 +72,12 @@ fn write_cmd(block: &mut [u8], vram: &[u8], palette: u16, val: u8) -> Refusal
     if block[COMMAND_LATCHED] == 0 {
         block[COMMAND_LATCHED] = 1;
         block[COMMAND_BYTE] = val;
-        return Refusal::Accepted;
+        return Ok(());
     }
     let first = block[COMMAND_BYTE];
     block[COMMAND_LATCHED] = 0;
     block[COMMAND_BYTE] = 0;
-    let addr = small::word(first, val) % VRAM_ADDRESSES;
+    let addr = u16::from_le_bytes([first, val]) % VRAM_ADDRESSES;
     match val / 64 {
         0 => {
             let at = addr as usize;
@@ -107,7 +91,7 @@ fn write_cmd(block: &mut [u8], vram: &[u8], palette: u16, val: u8) -> Refusal
         2 => {
             let reg = (val % 128) as usize;
             if 10 < reg {
-                return Refusal::HighRegister;
+                return Err(Refusal::HighRegister);
             }
             block[REGISTERS + reg] = first;
         }
@@ -116,7 +100,7 @@ fn write_cmd(block: &mut [u8], vram: &[u8], palette: u16, val: u8) -> Refusal
             block[CHOSEN] = PALETTE;
         }
     }
-    Refusal::Accepted
+    Ok(())
 }
 
 // A data byte, for the memory that is chosen (R3.6).
@@ -131,22 +115,22 @@ fn write_ram(block: &mut [u8], vram: &mut [u8], palette: u16, val: u8) -> Sent
     block[COMMAND_LATCHED] = 0;
     block[COMMAND_BYTE] = 0;
     match chosen {
-        NOTHING => answered(Refusal::NothingChosen),
+        NOTHING => answered(Err(Refusal::NothingChosen)),
         VIDEO => {
             if VRAM_ADDRESSES <= addr {
-                return answered(Refusal::OutsideMemory);
+                return answered(Err(Refusal::OutsideMemory));
             }
             let at = addr as usize;
             vram[at] = val;
             store_buffer(block, val, addr);
-            answered(Refusal::Accepted)
+            answered(Ok(()))
         }
         _ => {
             if palette <= addr {
-                return answered(Refusal::OutsideMemory);
+                return answered(Err(Refusal::OutsideMemory));
             }
             Sent {
-                refusal: Refusal::Accepted,
+                outcome: Ok(()),
                 palette: true,
             }
         }
@@ -154,7 +138,7 @@ fn write_ram(block: &mut [u8], vram: &mut [u8], palette: u16, val: u8) -> Sent
 }
 
 // The read buffer, and the next byte into it (R3.8).
-fn read_ram(block: &mut [u8], vram: &[u8]) -> Got
+fn read_ram(block: &mut [u8], vram: &[u8]) -> Result<u8, Refusal>
     requires front_formed { FrontFormed block.old }
     requires vram_len { length vram.now ≡ vram_size }
     ensures { GotInPlace block.old (data_read (front_in block.old) vram.now) result block.new }
@@ -163,25 +147,22 @@ fn read_ram(block: &mut [u8], vram: &[u8]) -> Got
     block[COMMAND_LATCHED] = 0;
     block[COMMAND_BYTE] = 0;
     match chosen {
-        NOTHING => return refused(Refusal::NothingChosen),
+        NOTHING => return Err(Refusal::NothingChosen),
         VIDEO => {}
-        _ => return refused(Refusal::PaletteRead),
+        _ => return Err(Refusal::PaletteRead),
     }
     let addr = fields::address_in(block);
     if VRAM_ADDRESSES <= addr {
-        return refused(Refusal::OutsideMemory);
+        return Err(Refusal::OutsideMemory);
     }
     let at = addr as usize;
     let byte = block[READ_BUFFER];
     store_buffer(block, vram[at], addr);
-    Got {
-        refusal: Refusal::Accepted,
-        byte: byte,
-    }
+    Ok(byte)
 }
 
 // The status, which the read clears (R3.9).
-fn read_status(block: &mut [u8]) -> Got
+fn read_status(block: &mut [u8]) -> Result<u8, Refusal>
     requires { FrontFormed block.old }
     ensures { GotInPlace block.old (status_read (front_in block.old)) result block.new }
 {
@@ -189,10 +170,7 @@ fn read_status(block: &mut [u8]) -> Got
     block[COMMAND_LATCHED] = 0;
     block[COMMAND_BYTE] = 0;
     block[STATUS] = 0;
-    Got {
-        refusal: Refusal::Accepted,
-        byte: byte,
-    }
+    Ok(byte)
 }
 
 // A port write on a machine with this many bytes of palette, tested in the order of R2.4.
@@ -203,31 +181,28 @@ pub fn write(block: &mut [u8], vram: &mut [u8], palette: u16, port: u16, val: u8
     ensures vram_after { vram.new ≡ (front_write palette (front_in block.old) vram.old port val).vram }
 {
     if vram.len() != small::VRAM_SIZE {
-        return answered(Refusal::VramLength);
+        return answered(Err(Refusal::VramLength));
     }
     match port % 256 {
         VDP_CMD => answered(write_cmd(block, vram, palette, val)),
         VDP_DATA => write_ram(block, vram, palette, val),
-        _ => answered(Refusal::UnknownPort),
+        _ => answered(Err(Refusal::UnknownPort)),
     }
 }
 
 // A port read, tested in the order of R2.4; the line counter is byte 14 (R3.10).
-pub fn read(block: &mut [u8], vram: &[u8], port: u16) -> Got
+pub fn read(block: &mut [u8], vram: &[u8], port: u16) -> Result<u8, Refusal>
     requires { FrontFormed block.old }
     ensures { GotInPlace block.old (front_read (front_in block.old) vram.now port (at block.old 14)) result block.new }
 {
     if vram.len() != small::VRAM_SIZE {
-        return refused(Refusal::VramLength);
+        return Err(Refusal::VramLength);
     }
     match port % 256 {
-        VCOUNTER_READ => return Got {
-            refusal: Refusal::Accepted,
-            byte: block[COUNTER],
-        },
-        HCOUNTER_READ => return refused(Refusal::HorizontalCounter),
-        VDP_CMD => return read_status(block),
-        VDP_DATA => return read_ram(block, vram),
-        _ => return refused(Refusal::UnknownPort),
+        VCOUNTER_READ => Ok(block[COUNTER]),
+        HCOUNTER_READ => Err(Refusal::HorizontalCounter),
+        VDP_CMD => read_status(block),
+        VDP_DATA => read_ram(block, vram),
+        _ => Err(Refusal::UnknownPort),
     }
 }

@@ -16,11 +16,8 @@ pub fn row_view<'a>(frame: &'a [u8], row: usize) -> &'a [u8]
 }
 
 // All tiles, side by side. It draws with the cache as it stands, and leaves the device.
-pub fn dump_tileset(home: HomeState, vram: &[u8], pixels: &mut [u8]) -> Refusal
+pub fn dump_tileset(home: HomeState, vram: &[u8], pixels: &mut [u8]) -> Result<(), Refusal>
     ensures { SheetLeaves home.front.reg home.color_cache vram.now pixels.old result pixels.new }
 {
-    let front = home.front;
-    let reg = front.reg;
-    let colours = home.color_cache;
-    dump::dump_tileset(reg, &colours, vram, pixels)
+    dump::dump_tileset(home.front.reg, &home.color_cache, vram, pixels)
 }

@@ -2,7 +2,7 @@
 // one pixel. Here of the handheld, in home_look.rt of the home machine. No program and no call for C goes by it.
 #![tactic(auto)]
 
-ghost use Rattle.std.specs.Prelude.{◌≡◌, cond};
+ghost use Rattle.std.specs.Prelude.{◌≡◌};
 ghost use Rattle.picture.specs.Screen.{columns};
 ghost use Rattle.picture.specs.Area.{screen_of};
 ghost use Rattle.points.specs.Points.{reading};
@@ -13,30 +13,31 @@ ghost use Rattle.look.specs.View.{screen_row, row_view};
 ghost use Rattle.look.specs.Layers.{FrameLayerPointsLeave, FrameLayersLeave};
 
 use picture::{RenderArea, Screen};
-use pixel::Pixel;
-use points::Points;
+use points::{Points, Stepped};
 use raster::Raster;
 use refusal::Refusal;
 use row::points_run;
-use step::Stepped;
+use step::Handheld;
 use vdp::VdpState;
 
 pub mod home_look;
+pub mod machine_look;
 
 // ---- of any machine
 
 // A row of a frame, as a part of the caller's own frame; the empty part where it does not fit.
+#[tactic(auto, unfolding(crate::specs::View::screen_row))]
 pub fn screen_row<'a>(frame: &'a [u8], screen: Screen, row: usize) -> &'a [u8]
     ensures { result.now ≡ screen_row frame.now screen row }
 {
     let rows = points::row_count(screen);
     let size = points::row_size(screen);
-    if (rows <= row) | (frame.len() != rows * size) {
-        return &frame[0..0];
+    if row < rows && frame.len() == rows * size {
+        let start = row * size;
+        &frame[start..start + size]
+    } else {
+        &frame[..0]
     }
-    let start = row * size;
-    let end = start + size;
-    &frame[start..end]
 }
 
 // Points 1 to 5 of a step on a frame, of a machine with these registers, raster, status and colours, with the row's layers.
@@ -67,23 +68,10 @@ pub fn layer_frame_step(
     frame: &mut [u8],
     layers: &mut [u8],
     area: RenderArea,
-) -> Stepped
+) -> Stepped<VdpState>
     ensures { FrameLayersLeave (columns (screen_of area)) area vram.now vdp frame.old layers.old result frame.new layers.new }
 {
-    let reg = vdp.reg;
-    let raster = vdp.raster;
-    let colours = step::colours_of(vdp);
-    let points = layer_frame_points(
-        reg,
-        raster,
-        vdp.status,
-        &colours,
-        vram,
-        frame,
-        layers,
-        picture::screen_of(area),
-    );
-    step::join(vdp, points, colours)
+    machine_look::layer_frame_step::<Handheld>(vdp, vram, frame, layers, picture::screen_of(area))
 }
 
 // A row of a frame, as a part of the caller's own frame; the empty part where it does not fit.
@@ -94,41 +82,27 @@ pub fn row_view<'a>(frame: &'a [u8], area: RenderArea, row: usize) -> &'a [u8]
 }
 
 // All tiles, side by side. It draws with the cache as it stands, and leaves the device.
-pub fn dump_tileset(vdp: VdpState, vram: &[u8], pixels: &mut [u8]) -> Refusal
+pub fn dump_tileset(vdp: VdpState, vram: &[u8], pixels: &mut [u8]) -> Result<(), Refusal>
     ensures { SheetLeaves vdp.reg vdp.color_cache vram.now pixels.old result pixels.new }
 {
-    let reg = vdp.reg;
-    let colours = vdp.color_cache;
-    dump::dump_tileset(reg, &colours, vram, pixels)
+    dump::dump_tileset(vdp.reg, &vdp.color_cache, vram, pixels)
 }
 
-// The colour where there is a pixel, else 0.
-fn shown(there: bool, colour: u32) -> u32
-    ensures { result ≡ cond there colour 0 }
-{
-    if there { colour } else { 0 }
-}
-
-// One pixel of the row as it would be drawn now, whatever the counter reads. No row is drawn, and the device is only read.
-pub fn pixel_at(vdp: VdpState, vram: &[u8], area: RenderArea, row: u32, column: u32) -> Pixel
+// The colour of one pixel of the row as it would be drawn now, whatever the counter reads; none outside the screen. No row is drawn, and the device is only
+// read.
+pub fn pixel_at(
+    vdp: VdpState,
+    vram: &[u8],
+    area: RenderArea,
+    row: u32,
+    column: u32,
+) -> Result<Option<u32>, Refusal>
     ensures { result ≡ pixel_of (screen_of area) vram.now (reading_of vdp) row column }
 {
-    let reg = vdp.reg;
-    let raster = vdp.raster;
-    let spot = pixel::spot_at(
-        vram,
-        picture::screen_of(area),
-        reg,
-        raster.vertical_scroll,
-        row,
-        column,
-    );
-    let colours = step::colours_of(vdp);
-    let refusal = spot.refusal;
-    let n = spot.colour;
-    Pixel {
-        refusal: refusal,
-        there: spot.there,
-        colour: shown(spot.there, colours[n]),
-    }
+    let screen = picture::screen_of(area);
+    let scroll = vdp.raster.vertical_scroll;
+    let Some(n) = pixel::spot_at(vram, screen, vdp.reg, scroll, row, column)? else {
+        return Ok(None);
+    };
+    Ok(Some(step::colours_of(vdp)[n]))
 }

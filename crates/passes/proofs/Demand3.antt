@@ -1,5 +1,6 @@
 -- Demand 3, proved of any lawful machine: after any calls, with any calls but steps between, for any area whose lines end where the jump ends.
 -- Assumes nothing.
+use Rattle.std.specs.Prelude.{Some}
 use mathlib.Core.Path.{◌≡◌, refl, sym, ◌∙◌, ap, subst}
 use mathlib.Core.Logic.{◌↔◌, ◌≢◌, ◌⊎◌, inl}
 use mathlib.Core.List.{List, [], ◌∷◌}
@@ -16,7 +17,6 @@ use Rattle.picture.specs.Screen.{columns, rows, first_line, row_size, frame_size
 use Rattle.raster.specs.declared.Raster.{Raster}
 use Rattle.raster.specs.Raster.{jump_line, jump_to, advanced, counted, ticked}
 use Rattle.points.specs.declared.DisplayRefresh.TheVariants.{NoDisplay}
-use Rattle.points.specs.declared.DrawnRow.TheVariants.{Drawn}
 use Rattle.points.specs.Points.{row_on}
 use Rattle.points.proofs.Rows.{row_low, row_line, row_at}
 use Rattle.passes.specs.Machine.{Machine, register, line_of}
@@ -31,8 +31,8 @@ use Rattle.passes.proofs.Sound.{Sound, sound, table_is, scroll_is, then_raster}
 use Rattle.passes.proofs.Interrupts.{from-line_0}
 
 -- ---- row y is drawn by the step that sets its line, and by no other
-pub line_row : (a : Screen) (n y : ℕ) → y < rows a → n ≡ y + first_line a → row_on a n ≡ Drawn y
-line_row a n y h e = row_at a n (omega arith) (omega arith) ∙ ap Drawn (omega arith)
+pub line_row : (a : Screen) (n y : ℕ) → y < rows a → n ≡ y + first_line a → row_on a n ≡ Some y
+line_row a n y h e = row_at a n (omega arith) (omega arith) ∙ ap Some (omega arith)
 
 -- every screen's lines are ones that the counter reads
 lines_end : (a : Screen) → first_line a + rows a ≤ 256
@@ -92,7 +92,7 @@ module _ {M : Machine} (ok : Lawful M) {a : M.Area} (r : Run M a) where
   unfolding answer
   row_on_lem i = ok.frame_row a (r.vram i) (length r.frame) (dev i) (r.accepted i (dev i))
 
-  no_other : (i y : ℕ) → (answer r i).row ≡ Drawn y → y < rows shown
+  no_other : (i y : ℕ) → (answer r i).row ≡ Some y → y < rows shown
   no_other i y e = row_low shown (line (M.raster (dev i))) y (sym (row_on_lem i) ∙ e)
 
   -- each line but those that the jump goes back over is set by exactly one step of a pass, those by two
@@ -123,13 +123,13 @@ module _ {M : Machine} (ok : Lawful M) {a : M.Area} (r : Run M a) where
   same_length zero = refl
   same_length (suc i) = ok.frame_length a (r.vram i) (dev i) (frame_at r i) ∙ same_length i
 
-  row_kept : (i y : ℕ) → (answer r i).row ≢ Drawn y → row_of (row_size shown) y (frame_at r (suc i)) ≡ row_of (row_size shown) y (frame_at r i)
+  row_kept : (i y : ℕ) → (answer r i).row ≢ Some y → row_of (row_size shown) y (frame_at r (suc i)) ≡ row_of (row_size shown) y (frame_at r i)
   unfolding frame_at
   row_kept i y n = ok.frame_other a (r.vram i) (dev i) (frame_at r i) y (λ e. n (row_on_lem i ∙ e))
 
   -- the row that step i draws, in the frame just after it
   just_drawn :
-      (i y : ℕ) → (answer r i).row ≡ Drawn y →
+      (i y : ℕ) → (answer r i).row ≡ Some y →
       row_of (row_size shown) y (frame_at r (suc i)) ≡ row_bytes (colours_at (watched r) i) (columns shown) (picture_at (watched r) i y)
   unfolding frame_at
   just_drawn i y e =
@@ -138,7 +138,7 @@ module _ {M : Machine} (ok : Lawful M) {a : M.Area} (r : Run M a) where
 
   -- a row that n steps from step i on do not draw
   undrawn :
-      (y i n : ℕ) → ((j : ℕ) → i ≤ j → j < i + n → (answer r j).row ≢ Drawn y) →
+      (y i n : ℕ) → ((j : ℕ) → i ≤ j → j < i + n → (answer r j).row ≢ Some y) →
       row_of (row_size shown) y (frame_at r (i + n)) ≡ row_of (row_size shown) y (frame_at r i)
   undrawn y i zero h = rw (add-zero i)
   undrawn y i (suc n) h =
@@ -146,13 +146,13 @@ module _ {M : Machine} (ok : Lawful M) {a : M.Area} (r : Run M a) where
       (row_kept (i + n) y (h (i + n) (omega arith) (omega arith)) ∙ undrawn y i n (λ j l u. h j l (omega arith)))
 
   -- ---- the rows, each at its line
-  row_iff : (y : ℕ) → y < rows shown → (i : ℕ) → (line (M.raster (dev i)) ≡ y + first_line shown) ↔ ((answer r i).row ≡ Drawn y)
+  row_iff : (y : ℕ) → y < rows shown → (i : ℕ) → (line (M.raster (dev i)) ≡ y + first_line shown) ↔ ((answer r i).row ≡ Some y)
   row_iff y h i =
       rw (row_on_lem i) (line_row shown (line (M.raster (dev i))) y h, λ e. row_line shown (line (M.raster (dev i))) y e ∙ add_comm (first_line shown) y)
 
   -- a row ends as the last step that drew it left it
   last_bytes :
-      (i y : ℕ) → i < pass (watched r) → (answer r i).row ≡ Drawn y → ((j : ℕ) → i < j → j < pass (watched r) → (answer r j).row ≢ Drawn y) →
+      (i y : ℕ) → i < pass (watched r) → (answer r i).row ≡ Some y → ((j : ℕ) → i < j → j < pass (watched r) → (answer r j).row ≢ Some y) →
       row_at_end (watched r) y ≡ row_bytes (colours_at (watched r) i) (columns shown) (picture_at (watched r) i y)
   last_bytes i y h e later =
       let L : ℕ = pass (watched r) in
@@ -198,11 +198,11 @@ module _ {M : Machine} (ok : Lawful M) {a : M.Area} (r : Run M a) where
         (step_is (i + k))
 
   module _ (once : first_line shown + rows shown ≤ jump_to) where
-    row_once : (y : ℕ) → y < rows shown → ExactlyOnce (pass (watched r)) (λ i. (answer r i).row ≡ Drawn y)
+    row_once : (y : ℕ) → y < rows shown → ExactlyOnce (pass (watched r)) (λ i. (answer r i).row ≡ Some y)
     row_once y h = rows_drawn.once y h (inl (omega arith))
 
     row_bytes_lem :
-        (i y : ℕ) → i < pass (watched r) → (answer r i).row ≡ Drawn y →
+        (i y : ℕ) → i < pass (watched r) → (answer r i).row ≡ Some y →
         row_at_end (watched r) y ≡ row_bytes (colours_at (watched r) i) (columns shown) (picture_at (watched r) i y)
     row_bytes_lem i y h e =
         let o = row_once y (no_other i y e) in

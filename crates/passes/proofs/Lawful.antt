@@ -1,5 +1,6 @@
 -- What the demands need of a machine, law by law; each machine shows them once (Handheld.antt, Home.antt).
 -- Assumes nothing.
+use Rattle.std.specs.Prelude.{Some, Ok}
 use mathlib.Core.Path.{◌≡◌}
 use mathlib.Core.Logic.{◌↔◌, ◌≢◌}
 use mathlib.Core.Bool.{true, false}
@@ -12,11 +13,9 @@ use Rattle.picture.specs.Screen.{columns, row_size, frame_size, picture_of, row_
 use Rattle.raster.specs.declared.Raster.{Raster}
 use Rattle.raster.specs.declared.LineTable.{LineTable}
 use Rattle.raster.specs.Raster.{advanced, line_interrupt, ticked}
-use Rattle.refusal.specs.declared.Refusal.TheVariants.{Accepted}
 use Rattle.refusal.specs.Refusals.{refusal_number}
 use Rattle.points.specs.declared.VdpInt.TheVariants.{InterruptGenerated}
 use Rattle.points.specs.declared.DisplayRefresh.TheVariants.{NoDisplay}
-use Rattle.points.specs.declared.DrawnRow.TheVariants.{Drawn}
 use Rattle.points.specs.Points.{row_on}
 use Rattle.passes.specs.Machine.{Told, Machine, register}
 use Rattle.passes.specs.Pass.{NoStepOn}
@@ -59,24 +58,24 @@ pub record Lawful (M : Machine) : Type 0 where
   pub no_seven : (c : M.Call) (d : M.Device) → Aimed M d → refusal_number (M.refusal_of c d) ≢ 7
   -- the step on a frame of n bytes, where it is accepted
   pub frame_is :
-      (a : M.Area) (vram : List ℕ) (n : ℕ) (d : M.Device) → (M.frame_step_of a vram n d).refusal ≡ Accepted →
+      (a : M.Area) (vram : List ℕ) (n : ℕ) (d : M.Device) → (M.frame_step_of a vram n d).outcome ≡ (Ok tt) →
       M.Steps (M.frame_step a vram n) d (M.frame_step_of a vram n d)
   pub frame_left_lem : (a : M.Area) (vram : List ℕ) (n : ℕ) (d : M.Device) → M.after (M.frame_step a vram n) d ≡ (M.frame_step_of a vram n d).device
   pub frame_row :
-      (a : M.Area) (vram : List ℕ) (n : ℕ) (d : M.Device) → (M.frame_step_of a vram n d).refusal ≡ Accepted →
+      (a : M.Area) (vram : List ℕ) (n : ℕ) (d : M.Device) → (M.frame_step_of a vram n d).outcome ≡ (Ok tt) →
       (M.frame_step_of a vram n d).row ≡ row_on (M.screen a) (line (M.raster d))
   pub frame_report :
-      (a : M.Area) (vram : List ℕ) (n : ℕ) (d : M.Device) → (M.frame_step_of a vram n d).refusal ≡ Accepted →
+      (a : M.Area) (vram : List ℕ) (n : ℕ) (d : M.Device) → (M.frame_step_of a vram n d).outcome ≡ (Ok tt) →
       (line (M.raster d) ≡ 193) ↔ ((M.frame_step_of a vram n d).report ≢ NoDisplay)
-  pub frame_size_lem : (a : M.Area) (vram : List ℕ) (n : ℕ) (d : M.Device) → (M.frame_step_of a vram n d).refusal ≡ Accepted → n ≡ frame_size (M.screen a)
+  pub frame_size_lem : (a : M.Area) (vram : List ℕ) (n : ℕ) (d : M.Device) → (M.frame_step_of a vram n d).outcome ≡ (Ok tt) → n ≡ frame_size (M.screen a)
   -- the frame that it leaves: its length, the other rows, and its own row
   pub frame_length : (a : M.Area) (vram : List ℕ) (d : M.Device) (frame : List ℕ) → length (M.frame_after a vram d frame) ≡ length frame
   pub frame_other :
-      (a : M.Area) (vram : List ℕ) (d : M.Device) (frame : List ℕ) (y : ℕ) → row_on (M.screen a) (line (M.raster d)) ≢ Drawn y →
+      (a : M.Area) (vram : List ℕ) (d : M.Device) (frame : List ℕ) (y : ℕ) → row_on (M.screen a) (line (M.raster d)) ≢ Some y →
       row_of (row_size (M.screen a)) y (M.frame_after a vram d frame) ≡ row_of (row_size (M.screen a)) y frame
   pub frame_here :
-      (a : M.Area) (vram : List ℕ) (d : M.Device) (frame : List ℕ) (y : ℕ) → (M.frame_step_of a vram (length frame) d).refusal ≡ Accepted → Clean M d →
-      row_on (M.screen a) (line (M.raster d)) ≡ Drawn y →
+      (a : M.Area) (vram : List ℕ) (d : M.Device) (frame : List ℕ) (y : ℕ) → (M.frame_step_of a vram (length frame) d).outcome ≡ (Ok tt) → Clean M d →
+      row_on (M.screen a) (line (M.raster d)) ≡ Some y →
       row_of (row_size (M.screen a)) y (M.frame_after a vram d frame)
       ≡ row_bytes (M.colours_of (M.palette d)) (columns (M.screen a))
       (picture_of (M.screen a) (M.registers d) (advanced (register M d) (M.raster d)).vertical_scroll vram y)

@@ -1,5 +1,6 @@
 -- The author's question, answered.
 -- Assumes nothing.
+use Rattle.std.specs.Prelude.{Some}
 use mathlib.Core.Path.{◌≡◌, refl, sym, ◌∙◌, ap, subst}
 use mathlib.Core.Logic.{◌↔◌, ◌⊎◌, inl, inr, ⊎_elim}
 use mathlib.Core.List.{List}
@@ -22,7 +23,6 @@ use Rattle.raster.specs.declared.Raster.{Raster}
 use Rattle.raster.specs.declared.LineTable.{LineTable}
 use Rattle.raster.specs.Raster.{pass_length, jump_to, advanced}
 use Rattle.raster.proofs.Tables.{jump_back, pass_is}
-use Rattle.points.specs.declared.DrawnRow.TheVariants.{Drawn}
 use Rattle.points.specs.Points.{row_on}
 use Rattle.points.proofs.Rows.{row_low, row_line}
 use Rattle.passes.specs.Machine.{Machine, register}
@@ -47,7 +47,7 @@ module _ {M : Machine} (ok : Lawful M) {a : M.Area} (r : Run M a) where
       ∙ line_next (M.raster (ready r (suc (i + k)))) (line_set (watched r) i + k) (still ok r (i + k) ∙ rising i k (omega arith)) (omega arith)
       ∙ sym (add-suc (line_set (watched r) i) k))
 
-  row_set : (i y : ℕ) → (answer r i).row ≡ Drawn y → (line_set (watched r) i ≡ y + first_line (M.screen a)) × (y < rows (M.screen a))
+  row_set : (i y : ℕ) → (answer r i).row ≡ Some y → (line_set (watched r) i ≡ y + first_line (M.screen a)) × (y < rows (M.screen a))
   row_set i y e =
       let o = sym (row_on_lem ok r i) ∙ e in (
         line_of_lem ok r i ∙ row_line (M.screen a) (line (M.raster (ready r i))) y o ∙ add_comm (first_line (M.screen a)) y,
@@ -55,7 +55,7 @@ module _ {M : Machine} (ok : Lawful M) {a : M.Area} (r : Run M a) where
             (line (M.raster (ready r i))) y o,
       )
 
-  pub set_row : (i y : ℕ) → y < rows (M.screen a) → line_set (watched r) i ≡ y + first_line (M.screen a) → (answer r i).row ≡ Drawn y
+  pub set_row : (i y : ℕ) → y < rows (M.screen a) → line_set (watched r) i ≡ y + first_line (M.screen a) → (answer r i).row ≡ Some y
   set_row i y h e = row_on_lem ok r i ∙ line_row (M.screen a) (line (M.raster (ready r i))) y h (sym (line_of_lem ok r i) ∙ e)
 
 -- ---- the pixels of a row
@@ -130,7 +130,7 @@ module _ (t : LineTable) (a : Screen) (once : first_line a + rows a ≤ jump_to)
 module _ {M : Machine} (ok : Lawful M) {a : M.Area} (r : Run M a) {L : ℕ} (s : Moment (watched r) L)
     (once : first_line (M.screen a) + rows (M.screen a) ≤ jump_to) where
   -- the line of a row comes at the step that draws it
-  at_step : (i y : ℕ) → i < pass (watched r) → (answer r i).row ≡ Drawn y → comes_at r.table (place_set (watched r) 0) (y + first_line (M.screen a))
+  at_step : (i y : ℕ) → i < pass (watched r) → (answer r i).row ≡ Some y → comes_at r.table (place_set (watched r) 0) (y + first_line (M.screen a))
       ≡ i
   at_step i y h e =
       let w = row_set ok r i y e in
@@ -138,14 +138,14 @@ module _ {M : Machine} (ok : Lawful M) {a : M.Area} (r : Run M a) {L : ℕ} (s :
       (own_place ok r i (y + first_line (M.screen a)) (omega (arith, w.1)) w.0) (order ok r i h)
 
   -- a row that is drawn later than the step that sets L is new, and no other row
-  pub drawn_later : (i y : ℕ) → i < pass (watched r) → (answer r i).row ≡ Drawn y → s.step < i → New s y
+  pub drawn_later : (i y : ℕ) → i < pass (watched r) → (answer r i).row ≡ Some y → s.step < i → New s y
   drawn_later i y h e l = rw (order ok r s.step s.in_pass, at_step i y h e) l
 
-  pub no_later : (i y : ℕ) → i < pass (watched r) → (answer r i).row ≡ Drawn y → (New s y → ⊥) → i ≤ s.step
+  pub no_later : (i y : ℕ) → i < pass (watched r) → (answer r i).row ≡ Some y → (New s y → ⊥) → i ≤ s.step
   no_later i y h e f =
       split (ltb s.step i) (λ b. absurd (f (drawn_later i y h e (ltb-true s.step i b)))) (λ b. ltb-false s.step i b)
 
-  pub later : (i y : ℕ) → i < pass (watched r) → (answer r i).row ≡ Drawn y → New s y → s.step < i
+  pub later : (i y : ℕ) → i < pass (watched r) → (answer r i).row ≡ Some y → New s y → s.step < i
   later i y h e f = rw (order ok r s.step s.in_pass, at_step i y h e) at f
 
 -- ---- the split
@@ -158,12 +158,12 @@ module _ {M : Machine} (ok : Lawful M) {a : M.Area} (r : Run M a) {L : ℕ} {old
   by i y e = ap (λ (p : List ℕ). row_bytes (M.colours_of p) (columns (M.screen a)) (picture_at (watched r) i y)) e
 
   rows_old :
-      (i y : ℕ) → i < pass (watched r) → (answer r i).row ≡ Drawn y → (New s.moment y → ⊥) →
+      (i y : ℕ) → i < pass (watched r) → (answer r i).row ≡ Some y → (New s.moment y → ⊥) →
       row_at_end (watched r) y ≡ row_bytes (M.colours_of old) (columns (M.screen a)) (picture_at (watched r) i y)
   rows_old i y h e l = (demand3 ok r once).row_bytes_lem i y h e ∙ by i y (s.until_then i (no_later ok r s.moment once i y h e l))
 
   rows_new :
-      (i y : ℕ) → i < pass (watched r) → (answer r i).row ≡ Drawn y → New s.moment y →
+      (i y : ℕ) → i < pass (watched r) → (answer r i).row ≡ Some y → New s.moment y →
       row_at_end (watched r) y ≡ row_bytes (M.colours_of new) (columns (M.screen a)) (picture_at (watched r) i y)
   rows_new i y h e l = (demand3 ok r once).row_bytes_lem i y h e ∙ by i y (s.from_then i (later ok r s.moment once i y h e l) h)
 
@@ -185,12 +185,12 @@ module _ {M : Machine} (ok : Lawful M) {a : M.Area} (r : Run M a) {L : ℕ} {old
 
   module _ (c : ℕ) (only : OnlyColour M c old new) where
     new_pixel :
-        (i x y : ℕ) → i < pass (watched r) → (answer r i).row ≡ Drawn y → x < columns (M.screen a) → New s.moment y →
+        (i x y : ℕ) → i < pass (watched r) → (answer r i).row ≡ Some y → x < columns (M.screen a) → New s.moment y →
         pixel_at_end (watched r) x y ≡ four_bytes (at (M.colours_of new) ((picture_at (watched r) i y).colour x))
     new_pixel i x y h e w l = ap (row_of 4 x) (rows_new i y h e l) ∙ pixel (picture_at (watched r) i y) (M.colours_of new) (columns (M.screen a)) x w
 
     old_pixel :
-        (i x y : ℕ) → i < pass (watched r) → (answer r i).row ≡ Drawn y → x < columns (M.screen a) → (New s.moment y → ⊥) →
+        (i x y : ℕ) → i < pass (watched r) → (answer r i).row ≡ Some y → x < columns (M.screen a) → (New s.moment y → ⊥) →
         pixel_at_end (watched r) x y ≡ four_bytes (at (M.colours_of old) ((picture_at (watched r) i y).colour x))
     old_pixel i x y h e w l = ap (row_of 4 x) (rows_old i y h e l) ∙ pixel (picture_at (watched r) i y) (M.colours_of old) (columns (M.screen a)) x w
 
@@ -237,7 +237,7 @@ module _ {M : Machine} (ok : Lawful M) {a : M.Area} (r r₀ : Run M a) (t : Twin
 
   module _ {L : ℕ} {old new : List ℕ} (s : Split (watched r) L old new) (kept : (i : ℕ) → i < pass (watched r) → M.palette (ready r₀ i) ≡ old) where
     unchanged :
-        (i x y : ℕ) → i < pass (watched r) → (answer r i).row ≡ Drawn y → x < columns (M.screen a) →
+        (i x y : ℕ) → i < pass (watched r) → (answer r i).row ≡ Some y → x < columns (M.screen a) →
         pixel_at_end (watched r₀) x y ≡ four_bytes (at (M.colours_of old) ((picture_at (watched r) i y).colour x))
     unchanged i x y h e w =
         let b = (demand3 ok r₀ once).row_bytes_lem i y (in_both i h) (sym (same_row i h) ∙ e) in

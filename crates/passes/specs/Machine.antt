@@ -1,21 +1,20 @@
 -- WHAT A MACHINE IS, as the demands see it: a device, the calls on it, and steps that draw. The demands are said once, of any machine.
 -- Assumes nothing.
-use Rattle.std.specs.Prelude.{Bool, List, ℕ}
+use Rattle.refusal.specs.Refusals.{Outcome}
+use Rattle.std.specs.Prelude.{Bool, List, ℕ, Option}
 use Rattle.laws.specs.Lists.{at}
 use Rattle.picture.specs.declared.Screen.{Screen}
 use Rattle.raster.specs.declared.Raster.{Raster}
 use Rattle.raster.specs.declared.LineTable.{LineTable}
-use Rattle.refusal.specs.declared.Refusal.{Refusal}
 use Rattle.points.specs.declared.VdpInt.{VdpInt}
 use Rattle.points.specs.declared.DisplayRefresh.{DisplayRefresh}
-use Rattle.points.specs.declared.DrawnRow.{DrawnRow}
 
 -- What a step answers, and the device that it leaves.
 pub record Told (D : Type 0) : Type 0 where
-  pub refusal : Refusal
+  pub outcome : Outcome
   pub interrupt : VdpInt
   pub report : DisplayRefresh
-  pub row : DrawnRow
+  pub row : Option ℕ
   pub device : D
 
 pub record Machine : Type 1 where
@@ -39,7 +38,7 @@ pub record Machine : Type 1 where
   -- the device as it is made with a table, and what a call leaves, refused or not
   pub made : LineTable → Device
   pub after : Call → Device → Device
-  pub refusal_of : Call → Device → Refusal
+  pub refusal_of : Call → Device → Outcome
   -- the call is an accepted step on this device, and answers so
   pub Steps : Call → Device → Told Device → Type 0
   -- the step on a frame of so many bytes: as a call, what it answers, and the frame that it leaves

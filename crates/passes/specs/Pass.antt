@@ -1,6 +1,6 @@
 -- R13.3 to R13.6, DEMAND 3, said of any machine, and so of the definitions that the contracts of its ports and steps cite.
 -- Assumes nothing.
-use Rattle.std.specs.Prelude.{◌≡◌, ◌↔◌, ◌≢◌, Bool, true, false, cond, not, ◌&&◌, List, [], ◌∷◌, ℕ, zero, suc, ◌+◌, ◌≤◌, ◌<◌, eqb, length}
+use Rattle.std.specs.Prelude.{◌≡◌, ◌↔◌, ◌≢◌, Bool, true, false, cond, not, ◌&&◌, List, [], ◌∷◌, ℕ, zero, suc, ◌+◌, ◌≤◌, ◌<◌, eqb, length, Some, Ok}
 use Rattle.std.specs.Int.{◌∣◌}
 use Rattle.laws.specs.Bits.{bit}
 use Rattle.laws.specs.Lists.{row_of}
@@ -9,10 +9,8 @@ use Rattle.picture.specs.Picture.{Row}
 use Rattle.picture.specs.Screen.{columns, rows, row_size, picture_of, row_bytes}
 use Rattle.raster.specs.declared.LineTable.{LineTable}
 use Rattle.raster.specs.Raster.{pass_length}
-use Rattle.refusal.specs.declared.Refusal.TheVariants.{Accepted}
 use Rattle.points.specs.declared.VdpInt.TheVariants.{InterruptGenerated}
 use Rattle.points.specs.declared.DisplayRefresh.TheVariants.{NoDisplay}
-use Rattle.points.specs.declared.DrawnRow.TheVariants.{Drawn}
 use Rattle.passes.specs.Machine.{Told, Machine, register, line_of}
 
 -- ---- calls, from a fresh device of either table on
@@ -64,7 +62,7 @@ pub record Run (M : Machine) (a : M.Area) : Type 0 where
   -- the frame as step 0 finds it
   pub frame : List ℕ
   -- each step is accepted, whatever the device (a step's refusal does not depend on the device); so the frame has exactly its area's size
-  pub accepted : (i : ℕ) (d : M.Device) → (M.frame_step_of a (vram i) (length frame) d).refusal ≡ Accepted
+  pub accepted : (i : ℕ) (d : M.Device) → (M.frame_step_of a (vram i) (length frame) d).outcome ≡ (Ok tt)
 
 unfoldable pub then : {M : Machine} → List (Between M) → History M → History M
 then [] h = h
@@ -155,17 +153,17 @@ ForLine M N k s = (line_of M s.device ≡ k) × InterruptsWhen s (N + 1 ∣ k + 
 -- ---- the demand
 pub record Demand3 {M : Machine} {a : M.Area} (w : Watched M a) : Type 0 where
   -- R13.3: every row once, and no other
-  pub row_once : (y : ℕ) → y < rows (M.screen a) → ExactlyOnce (pass w) (λ i. (w.answer i).row ≡ Drawn y)
-  pub no_other : (i y : ℕ) → (w.answer i).row ≡ Drawn y → y < rows (M.screen a)
+  pub row_once : (y : ℕ) → y < rows (M.screen a) → ExactlyOnce (pass w) (λ i. (w.answer i).row ≡ Some y)
+  pub no_other : (i y : ℕ) → (w.answer i).row ≡ Some y → y < rows (M.screen a)
   -- a step that does not draw row y leaves row y as it is (the rows are all of the frame)
   pub row_kept :
-      (i y : ℕ) → (w.answer i).row ≢ Drawn y →
+      (i y : ℕ) → (w.answer i).row ≢ Some y →
       row_of (row_size (M.screen a)) y (w.frame (suc i)) ≡ row_of (row_size (M.screen a)) y (w.frame i)
   -- R13.4: one end of the screen
   pub end_once : ExactlyOnce (pass w) (λ i. (w.answer i).report ≢ NoDisplay)
   -- R13.5: at the end row y is as its own step i drew it
   pub row_bytes_lem :
-      (i y : ℕ) → i < pass w → (w.answer i).row ≡ Drawn y →
+      (i y : ℕ) → i < pass w → (w.answer i).row ≡ Some y →
       row_at_end w y ≡ row_bytes (colours_at w i) (columns (M.screen a)) (picture_at w i y)
   -- R13.6: where the registers stay so from step i, which sets line 0, to the one that sets line 193, the step of line k reports an interrupt
   -- exactly where N + 1 divides k + 2 (a case of FromLine0, Interrupts.antt, which says it of any calls on any device)

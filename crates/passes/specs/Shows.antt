@@ -1,10 +1,9 @@
 -- R13.9, WHEN A WRITE SHOWS: whatever an author writes while the counter reads L, to a port or to video memory, the rows that it changes, in any pass.
 -- Assumes nothing.
-use Rattle.std.specs.Prelude.{◌≡◌, ◌≢◌, ℕ, ◌≤◌, ◌<◌, ◌-◌}
+use Rattle.std.specs.Prelude.{◌≡◌, ◌≢◌, ℕ, ◌≤◌, ◌<◌, ◌-◌, Some}
 use Rattle.picture.specs.Screen.{columns, rows, row_bytes}
 use Rattle.raster.specs.declared.Raster.{Raster}
 use Rattle.raster.specs.Raster.{ticked}
-use Rattle.points.specs.declared.DrawnRow.TheVariants.{Drawn}
 use Rattle.passes.specs.Machine.{Machine, register}
 use Rattle.passes.specs.Pass.{Watched, pass, line_set, colours_at, row_at_end, picture_at}
 use Rattle.passes.specs.Split.{Moment, New}
@@ -21,7 +20,7 @@ pub record WriteShows {M : Machine} {a : M.Area} {r : Watched M a} {L : ℕ} (m 
   pub stays : (y : ℕ) → y < rows (M.screen a) → (New m y → ⊥) → row_at_end r y ≡ row_at_end r₀ y
   -- each new row is drawn after the write, by the palette, the registers and the video memory that there are then
   pub shows :
-      (i y : ℕ) → i < pass r → (r.answer i).row ≡ Drawn y → New m y →
+      (i y : ℕ) → i < pass r → (r.answer i).row ≡ Some y → New m y →
       (m.step < i) × (row_at_end r y ≡ row_bytes (colours_at r i) (columns (M.screen a)) (picture_at r i y))
   -- register 9 alone waits: the scroll that rows are drawn with stays until the counter becomes 0, and is then what register 9 has
   pub scroll_waits :

@@ -1,6 +1,6 @@
 -- R13.7, THE AUTHOR'S QUESTION: which pixels change where a colour changes while the counter reads some line?
 -- Assumes nothing.
-use Rattle.std.specs.Prelude.{◌≡◌, ◌↔◌, ◌≢◌, ◌⊎◌, cond, List, [], ◌∷◌, ℕ, suc, ◌+◌, ◌-◌, ◌≤◌, ◌<◌, ltb}
+use Rattle.std.specs.Prelude.{◌≡◌, ◌↔◌, ◌≢◌, ◌⊎◌, cond, List, [], ◌∷◌, ℕ, suc, ◌+◌, ◌-◌, ◌≤◌, ◌<◌, ltb, Some}
 use Rattle.laws.specs.Lists.{at, row_of}
 use Rattle.laws.specs.Paint.{byte_of_colour}
 use Rattle.picture.specs.declared.Screen.{Screen}
@@ -8,7 +8,6 @@ use Rattle.picture.specs.declared.Screen.TheVariants.{Home}
 use Rattle.picture.specs.Screen.{columns, rows, first_line, row_bytes}
 use Rattle.raster.specs.declared.LineTable.{LineTable}
 use Rattle.raster.specs.Raster.{pass_length}
-use Rattle.points.specs.declared.DrawnRow.TheVariants.{Drawn}
 use Rattle.points.specs.Points.{row_on}
 use Rattle.passes.specs.Machine.{Machine, line_of}
 use Rattle.passes.specs.Pass.{Watched, pass, line_set, row_at_end, picture_at}
@@ -67,11 +66,11 @@ pub record ColourSplit {M : Machine} {a : M.Area} {r : Watched M a} {L : ℕ} {o
   pub drew : (r.answer s.moment.step).row ≡ row_on (M.screen a) L
   -- the old colour stays in each row y that is not new, drawn at its own step i
   pub keeps :
-      (i y : ℕ) → i < pass r → (r.answer i).row ≡ Drawn y → (New s.moment y → ⊥) →
+      (i y : ℕ) → i < pass r → (r.answer i).row ≡ Some y → (New s.moment y → ⊥) →
       row_at_end r y ≡ row_bytes (M.colours_of old) (columns (M.screen a)) (picture_at r i y)
   -- each new row has the new one
   pub changes :
-      (i y : ℕ) → i < pass r → (r.answer i).row ≡ Drawn y → New s.moment y →
+      (i y : ℕ) → i < pass r → (r.answer i).row ≡ Some y → New s.moment y →
       row_at_end r y ≡ row_bytes (M.colours_of new) (columns (M.screen a)) (picture_at r i y)
 
 -- ---- pixel by pixel
@@ -90,14 +89,14 @@ OnlyColour M c old new = (n : ℕ) → n ≢ c → at (M.colours_of new) n ≡ a
 pub record WhichPixels {M : Machine} {a : M.Area} {r : Watched M a} {L : ℕ} {old new : List ℕ} (s : Split r L old new) (c : ℕ) : Type 0 where
   -- those of number c in new rows show the new colour
   pub these :
-      (i x y : ℕ) → i < pass r → (r.answer i).row ≡ Drawn y → x < columns (M.screen a) → New s.moment y → (picture_at r i y).colour x ≡ c →
+      (i x y : ℕ) → i < pass r → (r.answer i).row ≡ Some y → x < columns (M.screen a) → New s.moment y → (picture_at r i y).colour x ≡ c →
       pixel_at_end r x y ≡ four_bytes (at (M.colours_of new) c)
   -- those in other rows, and those of any other number, show what they show with the old palette
   pub not_old :
-      (i x y : ℕ) → i < pass r → (r.answer i).row ≡ Drawn y → x < columns (M.screen a) → (New s.moment y → ⊥) →
+      (i x y : ℕ) → i < pass r → (r.answer i).row ≡ Some y → x < columns (M.screen a) → (New s.moment y → ⊥) →
       pixel_at_end r x y ≡ four_bytes (at (M.colours_of old) ((picture_at r i y).colour x))
   pub not_others :
-      (i x y : ℕ) → i < pass r → (r.answer i).row ≡ Drawn y → x < columns (M.screen a) → (picture_at r i y).colour x ≢ c →
+      (i x y : ℕ) → i < pass r → (r.answer i).row ≡ Some y → x < columns (M.screen a) → (picture_at r i y).colour x ≢ c →
       pixel_at_end r x y ≡ four_bytes (at (M.colours_of old) ((picture_at r i y).colour x))
 
 -- ---- with the change and without it
@@ -110,8 +109,8 @@ pub record Twins {M : Machine} {a : M.Area} (r r₀ : Watched M a) : Type 0 wher
 -- The pixels that change: those of number c in new rows, and no others.
 pub record Changed {M : Machine} {a : M.Area} {r : Watched M a} {L : ℕ} {old new : List ℕ} (s : Split r L old new) (r₀ : Watched M a) (c : ℕ) : Type 0 where
   pub these :
-      (i x y : ℕ) → i < pass r → (r.answer i).row ≡ Drawn y → x < columns (M.screen a) → New s.moment y → (picture_at r i y).colour x ≡ c →
+      (i x y : ℕ) → i < pass r → (r.answer i).row ≡ Some y → x < columns (M.screen a) → New s.moment y → (picture_at r i y).colour x ≡ c →
       (pixel_at_end r x y ≡ four_bytes (at (M.colours_of new) c)) × (pixel_at_end r₀ x y ≡ four_bytes (at (M.colours_of old) c))
   pub no_others :
-      (i x y : ℕ) → i < pass r → (r.answer i).row ≡ Drawn y → x < columns (M.screen a) →
+      (i x y : ℕ) → i < pass r → (r.answer i).row ≡ Some y → x < columns (M.screen a) →
       (New s.moment y → (picture_at r i y).colour x ≢ c) → pixel_at_end r x y ≡ pixel_at_end r₀ x y

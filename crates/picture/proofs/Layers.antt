@@ -4,15 +4,16 @@ use mathlib.Core.Path.{◌≡◌, refl, sym, ap, ◌∙◌}
 use mathlib.Core.Bool.{Bool, true, false, cond, ◌&&◌, not}
 use mathlib.Core.List.{List, ◌++◌}
 use Prim.Native.Nat.{ℕ, ◌+◌, ◌-◌, ◌<◌, ◌≤◌}
-use native.Mathlib.Decide.{dec_lt, ℕ_discrete}
+use native.Mathlib.Decide.{dec_lt}
 use native.Mathlib.Omega.{arith}
 use lib.Dec.{eqb, ltb, leb}
-use lib.ListN.{length, drop, set, length-append, length-drop, length-set, get_or-append}
-use lib.Seq.{ext_get_or, get_or-drop, get_or-set_same, get_or-set_other}
+use Rattle.std.proofs.lemmas.List.{get_or-replicate}
+use lib.ListN.{length, drop, replicate, length-replicate, length-append, length-drop, get_or-append}
+use lib.Seq.{ext_get_or, get_or-drop}
 use borrow.Author.Tests.{lt-ltb, le-ltb, le-leb, lt-leb}
 use Rattle.laws.specs.Lists.{at}
 use Rattle.laws.specs.Table.{table}
-use Rattle.laws.proofs.Tables.{length-table, get_d_table}
+use Rattle.laws.proofs.Tables.{length-table, get_d_table, is_table}
 use Rattle.laws.proofs.Parts.{at_past}
 use Rattle.laws.proofs.Tests.{split, both}
 use Rattle.picture.specs.declared.Stand.{Stand}
@@ -64,29 +65,11 @@ length-layers_in b w f =
       | no h ↦ let r : w ≤ length b = omega arith in ap length (joined b w f r) ∙ joined_length b w f r
     ]
 
--- filled from its start on
-pub layers_in-start : (b : List ℕ) (f : ℕ → ℕ) → b ≡ layers_in b 0 f
-layers_in-start b f = layers_in_is b 0 f (omega arith) b refl (λ k h. absurd (omega arith)) (λ k h. refl)
-
-pub layers_in_more : (b : List ℕ) (i : ℕ) (f : ℕ → ℕ) {l l' : List ℕ} {v : ℕ} → i < length b → l ≡ layers_in b i f → v ≡ f i → l' ≡ set l i v → l' ≡
-    layers_in b (i + 1) f
-layers_in_more b i f {l} {l'} {v} h e q p =
-    let low : i ≤ length b = omega arith in
-    let n : length l ≡ length b = ap length e ∙ length-layers_in b i f in
-    let there : i < length l = omega arith in
-    p
-    ∙ layers_in_is b (i + 1) f (omega arith) (set l i v) (length-set l i v ∙ n)
-    (λ k r.
-    elim (ℕ_discrete k i) [
-      | yes t ↦ rw t (get_or-set_same l i v 0 there ∙ q)
-      | no t ↦
-          let r' : k < i = omega arith in
-          get_or-set_other l i k v 0 t ∙ ap (λ (x : List ℕ). at x k) e ∙ layers_in-at b i f low k r'
-    ])
-    (λ k r.
-    let t : k ≡ i → ⊥ = λ z. omega arith in
-    let r' : i ≤ k = omega arith in
-    get_or-set_other l i k v 0 t ∙ ap (λ (x : List ℕ). at x k) e ∙ layers_in_behind b i f low k r')
+-- one whose first w bytes are v
+pub layers_in_filled : (b : List ℕ) (w v : ℕ) {l : List ℕ} → w ≤ length b → l ≡ replicate w v → l ++ drop w b ≡ layers_in b w (λ x. v)
+layers_in_filled b w v h e =
+    let all : replicate w v ≡ table w (λ x. v) = is_table (replicate w v) w (λ x. v) (length-replicate w v) (λ i q. get_or-replicate w i v 0 q) in
+    ap (λ (x : List ℕ). x ++ drop w b) (e ∙ all) ∙ sym (joined b w (λ x. v) h)
 
 -- ---- what is laid over a buffer: layer n in its first m columns, where `on`
 module _ (b : List ℕ) (w : ℕ) where

@@ -49,11 +49,41 @@ pub const SCROLL_FRAME_SIZE: usize = SCROLL_PIXEL_HEIGHT * SCROLL_ROW_SIZE;
 pub const HOME_FRAME_SIZE: usize = HOME_PIXEL_HEIGHT * HOME_ROW_SIZE;
 
 // What a step draws: the part that the screen shows, all that the chip makes, or the part that the screen shows with its edges by true columns.
-#[derive(Clone, Copy)]
+#[derive(Clone, Copy, PartialEq, Eq)]
 pub enum RenderArea {
     VisibleOnly,
     EffectiveArea,
     TrueEdges,
+}
+
+// A number that names no area.
+#[derive(Clone, Copy)]
+pub struct UnknownArea;
+
+impl TryFrom<u8> for RenderArea {
+    ghost use Rattle.picture.specs.Area.{Names};
+
+    type Error = UnknownArea;
+
+    ghost try_from_gives = { Names };
+
+    fn try_from(n: u8) -> Result<Self, UnknownArea> {
+        if LAST_AREA < n {
+            return Err(UnknownArea);
+        }
+        Ok(area_from(n))
+    }
+}
+
+impl From<RenderArea> for u8 {
+    ghost use Rattle.std.specs.Prelude.{◌≡◌};
+    ghost use Rattle.picture.specs.Area.{area_number};
+
+    ghost from_gives = { λ area n. n ≡ area_number area };
+
+    fn from(area: RenderArea) -> u8 {
+        area as u8
+    }
 }
 
 // The area of a number that is not above 2.

@@ -1,7 +1,7 @@
 // One pixel on its own (R16.1 to R16.4): the screen's column of its row (one_column.rt). No row is drawn.
 #![tactic(auto)]
 
-ghost use Rattle.std.specs.Prelude.{◌≡◌, ℕ, ◌<◌, length};
+ghost use Rattle.std.specs.Prelude.{◌≡◌, ℕ, ◌<◌, length, Some, Ok};
 ghost use Rattle.laws.specs.Sizes.{vram_size};
 ghost use Rattle.picture.specs.declared.Screen.TheVariants.{VisibleOnly, EffectiveArea, Home};
 ghost use Rattle.picture.specs.Screen.{columns, rows, picture_of};
@@ -30,14 +30,14 @@ fn visible_number(
     requires { (length vram.now ≡ vram_size) × (scroll < 256) × (row < rows VisibleOnly) × (col < columns VisibleOnly) × (columns screen ≡ columns VisibleOnly) }
     ensures { result ≡ (picture_of screen reg scroll vram.now row).colour col }
 {
-    let sx = (GG_VISIBLE_MAP_X - small::wide(reg[8])) % SCROLL_PIXEL_WIDTH;
+    let sx = (GG_VISIBLE_MAP_X - usize::from(reg[8])) % SCROLL_PIXEL_WIDTH;
     let y = (row + GG_VISIBLE_AREA_START_Y + scroll) % SCROLL_PIXEL_HEIGHT;
     let b = Scene {
         names: background::names_at(reg),
-        sx: sx,
-        y: y,
+        sx,
+        y,
         last: y,
-        cut: small::wide(background::cut_of(screen, (sx % 8) as u8)),
+        cut: usize::from(background::cut_of(screen, (sx % 8) as u8)),
         width: GG_VISIBLE_PIXEL_WIDTH,
     };
     column_at(vram, screen, reg, b, row + GG_VISIBLE_AREA_START_Y, col)
@@ -65,13 +65,13 @@ fn home_number(vram: &[u8], reg: [u8; 11], scroll: usize, row: usize, col: usize
     ensures { result ≡ (picture_of Home reg scroll vram.now row).colour col }
 {
     if small::is_set(reg[0], 5) & (col < 8) {
-        return 16 + small::wide(reg[7]) % 16;
+        return 16 + usize::from(reg[7]) % 16;
     }
     let y = (row + scroll) % SCROLL_PIXEL_HEIGHT;
     let b = Scene {
         names: background::names_at(reg),
         sx: background::home_column(reg, row),
-        y: y,
+        y,
         last: background::home_line(reg, row, y),
         cut: 0,
         width: SCROLL_PIXEL_WIDTH,
@@ -91,21 +91,14 @@ fn colour_number(
     requires { (length vram.now ≡ vram_size) × (row < rows screen) × (col < columns screen) }
     ensures { result ≡ (picture_of screen reg scroll vram.now row).colour col }
 {
-    let scroll = small::wide(scroll);
+    let scroll = usize::from(scroll);
     match screen {
-        Screen::VisibleOnly => { visible_number(vram, Screen::VisibleOnly, reg, scroll, row, col) }
+        Screen::VisibleOnly | Screen::TrueEdges => {
+            visible_number(vram, screen, reg, scroll, row, col)
+        }
         Screen::EffectiveArea => effective_number(vram, reg, row, col),
-        Screen::TrueEdges => visible_number(vram, Screen::TrueEdges, reg, scroll, row, col),
         Screen::Home => home_number(vram, reg, scroll, row, col),
     }
-}
-
-// A pixel: whether there is one, and its colour number; 0 where there is none.
-#[derive(Clone, Copy)]
-pub struct Spot {
-    pub refusal: Refusal,
-    pub there: bool,
-    pub colour: usize,
 }
 
 // Whether row and column lie on the screen.
@@ -113,14 +106,15 @@ fn on_screen(screen: Screen, row: usize, col: usize) -> bool
     ensures { result ≡ on_screen screen row col }
 {
     match screen {
-        Screen::VisibleOnly => (row < GG_VISIBLE_PIXEL_HEIGHT) & (col < GG_VISIBLE_PIXEL_WIDTH),
-        Screen::EffectiveArea => (row < SCROLL_PIXEL_HEIGHT) & (col < SCROLL_PIXEL_WIDTH),
-        Screen::TrueEdges => (row < GG_VISIBLE_PIXEL_HEIGHT) & (col < GG_VISIBLE_PIXEL_WIDTH),
-        Screen::Home => (row < HOME_PIXEL_HEIGHT) & (col < HOME_PIXEL_WIDTH),
+        Screen::VisibleOnly | Screen::TrueEdges => {
+            row < GG_VISIBLE_PIXEL_HEIGHT && col < GG_VISIBLE_PIXEL_WIDTH
+        }
+        Screen::EffectiveArea => row < SCROLL_PIXEL_HEIGHT && col < SCROLL_PIXEL_WIDTH,
+        Screen::Home => row < HOME_PIXEL_HEIGHT && col < HOME_PIXEL_WIDTH,
     }
 }
 
-// The pixel at a row and a column of a screen, by the registers, the latched scroll and video memory.
+// The colour number of the pixel at a row and a column of a screen, by the registers, the latched scroll and video memory; none outside it.
 pub fn spot_at(
     vram: &[u8],
     screen: Screen,
@@ -128,37 +122,17 @@ pub fn spot_at(
     scroll: u8,
     row: u32,
     column: u32,
-) -> Spot
+) -> Result<Option<usize>, Refusal>
     ensures value { result ≡ spot_of screen reg scroll vram.now row column }
-    ensures colour_bound { result.colour < 32 }
+    ensures colour_bound { (n : ℕ) → result ≡ Ok (Some n) → n < 32 }
 {
     if vram.len() != VRAM_SIZE {
-        return Spot {
-            refusal: Refusal::VramLength,
-            there: false,
-            colour: 0,
-        };
+        return Err(Refusal::VramLength);
     }
     let y = row as usize;
     let x = column as usize;
     if !on_screen(screen, y, x) {
-        return Spot {
-            refusal: Refusal::Accepted,
-            there: false,
-            colour: 0,
-        };
+        return Ok(None);
     }
-    Spot {
-        refusal: Refusal::Accepted,
-        there: true,
-        colour: colour_number(vram, screen, reg, scroll, y, x),
-    }
-}
-
-// The same in its colours: whether there is a pixel, and its colour, 0 where there is none.
-#[derive(Clone, Copy)]
-pub struct Pixel {
-    pub refusal: Refusal,
-    pub there: bool,
-    pub colour: u32,
+    Ok(Some(colour_number(vram, screen, reg, scroll, y, x)))
 }

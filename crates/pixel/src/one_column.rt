@@ -129,12 +129,10 @@ fn marks_near(vram: &[u8], b: Scene, s: Stand, addr: usize, col: usize, off: usi
     requires addr_in_bounds { (addr + 4 ≤ length vram.now) × (col < 256) × (off < 256) }
     ensures { result ≡ number (reach_of col) (marks_left vram.now b s addr col off) }
 {
-    let reach = 8 - small::smaller(col, 7);
+    let reach = 8 - col.min(7);
     let mut bits: u8 = 0;
-    let mut j: usize = 0;
-    while j < reach {
+    for j in 0..reach {
         bits = tile::mark(bits, j, marks_left(vram, b, s, addr, col, off, j));
-        j += 1;
     }
     bits
 }
@@ -184,7 +182,7 @@ fn shift_of(screen: Screen, e: u8) -> Shift
     requires { e ≤ 8 }
     ensures { Shifts screen e result }
 {
-    let early = small::wide(e);
+    let early = usize::from(e);
     let edge = GG_VISIBLE_AREA_START_X + early;
     match screen {
         Screen::VisibleOnly => Shift {
@@ -211,18 +209,16 @@ fn shift_of(screen: Screen, e: u8) -> Shift
 }
 
 // Whether none of the 16 Y bytes from k on is that of a sprite on the line, or ends the list: around a circle of 256 lines the line is below each
-// sprite's last. There is no branch in the loop, so that the compiler takes them all at once.
+// sprite's last. There is no branch in the loop, as there is in `all`, so that the compiler takes them all at once.
 fn none_of(vram: &[u8], k: usize, line: u8, lines: u8) -> bool
     requires { k + 16 ≤ length vram.now }
     ensures { result ≡ true → (i : ℕ) → i < 16 → Clear line lines (at vram.now (k + i)) }
 {
     let mut none = true;
-    let mut i: usize = 0;
-    while i < 16 {
+    for i in 0..16 {
         let y = vram[k + i];
-        let below = std::num::wrapping_sub_u8(line, std::num::wrapping_add_u8(y, 1));
+        let below = line.wrapping_sub(y.wrapping_add(1));
         none = (y != 0xD0) & (lines <= below) & none;
-        i += 1;
     }
     none
 }
@@ -234,14 +230,12 @@ fn first_group(vram: &[u8], reg: [u8; 11], table: usize, line: usize) -> usize
 {
     let lines = sprites::height(small::is_set(reg[1], 1)) as u8;
     let l = line as u8;
-    let mut n: usize = 0;
-    while n < 64 {
+    for n in (0..64).step_by(16) {
         if !none_of(vram, table + n, l, lines) {
             return n;
         }
-        n += 16;
     }
-    n
+    64
 }
 
 // The column with the sprite whose X byte stands at k, its tile behind it, and of which line d is shown. Where the column is so far past
@@ -264,8 +258,8 @@ fn sprite_at(
     ensures { (f : ℕ → Bool) (c : Canvas) → ((i : ℕ) → i < 256 → front_at vram.now b i ≡ f i) → Shows col shift.off c under → Shows col shift.off (laid (stand_of screen e (at vram.now k)) (code_at (at vram.now) (sprite_line (at reg) (at vram.now (k + 1)) d)) f c) result }
 {
     let h = vram[k];
-    let far = 15 - small::smaller(col, 7);
-    if far <= (col + shift.ahead + 256 - small::wide(h)) % 256 {
+    let far = 15 - col.min(7);
+    if far <= (col + shift.ahead + 256 - usize::from(h)) % 256 {
         return under;
     }
     let s = stand::settings(screen, e, h);
@@ -300,13 +294,10 @@ pub fn column_at(
         taken: 0,
     };
     let mut from = first_group(vram, reg, table, line);
-    let mut count: usize = 0;
-    while count < 8 {
-        let next = sprites::next_sprite(vram, reg, from, line);
-        let n = next.n;
-        if 64 <= n {
+    for _count in 0..8usize {
+        let Some(next) = sprites::next_sprite(vram, reg, from, line) else {
             return column.colour;
-        }
+        };
         column = sprite_at(
             vram,
             screen,
@@ -314,13 +305,12 @@ pub fn column_at(
             b,
             e,
             shift,
-            table + 128 + 2 * n,
+            table + 128 + 2 * next.n,
             next.d,
             col,
             column,
         );
-        from = n + 1;
-        count += 1;
+        from = next.n + 1;
     }
     column.colour
 }

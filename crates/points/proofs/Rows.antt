@@ -1,5 +1,6 @@
 -- Which row a line draws, and where that row lies in a frame.
 -- Assumes nothing.
+use Rattle.std.specs.Prelude.{None, Option, Some, ℕ}
 use mathlib.Core.Path.{◌≡◌, refl, sym, ◌∙◌}
 use mathlib.Core.Bool.{Bool, true, false, cond, ◌&&◌}
 use Prim.Native.Nat.{ℕ, ◌+◌, ◌-◌, ◌*◌, ◌<◌, ◌≤◌}
@@ -10,12 +11,10 @@ use Rattle.laws.proofs.Tests.{both}
 use Rattle.picture.specs.declared.Screen.{Screen}
 use Rattle.picture.specs.declared.Screen.TheVariants.{VisibleOnly, EffectiveArea, TrueEdges, Home}
 use Rattle.picture.specs.Screen.{rows, first_line, row_size, frame_size}
-use Rattle.points.specs.declared.DrawnRow.{DrawnRow}
-use Rattle.points.specs.declared.DrawnRow.TheVariants.{NoRow, Drawn}
 use Rattle.points.specs.Points.{row_on, RowIn}
 
 -- a row is drawn: its number is below the area's, and its line is known
-told : (a : Screen) (l y : ℕ) (t : Bool) → (leb (first_line a) l && ltb l (first_line a + rows a)) ≡ t → cond t (Drawn (l - first_line a)) NoRow ≡ Drawn
+told : (a : Screen) (l y : ℕ) (t : Bool) → (leb (first_line a) l && ltb l (first_line a + rows a)) ≡ t → cond t (Some (l - first_line a)) None ≡ Some
     y → (y < rows a) × (l ≡ first_line a + y)
 told a l y true e q =
     let k : l - first_line a ≡ y = cc in
@@ -25,7 +24,7 @@ told a l y true e q =
     (omega arith, omega arith)
 told a l y false e q = absurd (let z : ◌≡◌ {A = ℕ} 0 1 = cc in omega arith)
 
-module _ (a : Screen) (l y : ℕ) (e : row_on a l ≡ Drawn y) where
+module _ (a : Screen) (l y : ℕ) (e : row_on a l ≡ Some y) where
   pub row_low : y < rows a
   unfolding row_on
   row_low = (told a l y (leb (first_line a) l && ltb l (first_line a + rows a)) refl e).0
@@ -35,11 +34,11 @@ module _ (a : Screen) (l y : ℕ) (e : row_on a l ≡ Drawn y) where
   row_line = (told a l y (leb (first_line a) l && ltb l (first_line a + rows a)) refl e).1
 
 -- each row below the area's number is drawn at its line
-pub row_at : (a : Screen) (l : ℕ) → first_line a ≤ l → l < first_line a + rows a → row_on a l ≡ Drawn (l - first_line a)
+pub row_at : (a : Screen) (l : ℕ) → first_line a ≤ l → l < first_line a + rows a → row_on a l ≡ Some (l - first_line a)
 unfolding row_on
 row_at a l low high = rw (le-leb (first_line a) l low, lt-ltb l (first_line a + rows a) high)
 
-pub row_in : (a : Screen) (l : ℕ) {r : DrawnRow} → r ≡ row_on a l → RowIn a r
+pub row_in : (a : Screen) (l : ℕ) {r : Option ℕ} → r ≡ row_on a l → RowIn a r
 row_in a l e = λ y q. row_low a l y (sym e ∙ q)
 
 -- ---- a row's part of a frame: it lies in the frame, and its places are numbers of the machine

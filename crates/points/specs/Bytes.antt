@@ -1,6 +1,6 @@
 -- R7.1, R7.2, R15.3: what a step leaves in a row buffer, in a frame and in a layer buffer, over what its points read.
 -- Assumes nothing.
-use Rattle.std.specs.Prelude.{◌≡◌, List, [], ◌∷◌, ◌++◌, ℕ, ltb, length, drop}
+use Rattle.std.specs.Prelude.{◌≡◌, List, [], ◌∷◌, ◌++◌, ℕ, ltb, length, drop, None, Option, Some, Err}
 use Rattle.laws.specs.Lists.{with_row}
 use Rattle.picture.specs.declared.Screen.{Screen}
 use Rattle.picture.specs.Picture.{Row}
@@ -8,26 +8,24 @@ use Rattle.picture.specs.Screen.{columns, row_size, row_bytes}
 use Rattle.picture.specs.Layers.{layers_of, layers_in}
 use Rattle.refusal.specs.declared.Refusal.TheVariants.{LayerLength}
 use Rattle.refusal.specs.Refusals.{Line, line, under}
-use Rattle.points.specs.declared.DrawnRow.{DrawnRow}
-use Rattle.points.specs.declared.DrawnRow.TheVariants.{NoRow, Drawn}
 use Rattle.points.specs.declared.Points.{Points}
 use Rattle.points.specs.Points.{Reading, risen, coming_row, coming_picture, row_lines, frame_lines, points_with}
 
 -- ---- of a row that is drawn, if one is, where `picture` gives the picture and `layer` the layers of each row
 -- R7.1, R2.7: the row at the start of the buffer, and behind it what was there
-unfoldable pub row_with : DrawnRow → Screen → List ℕ → (ℕ → Row) → List ℕ → List ℕ
-row_with NoRow s colours picture buffer = buffer
-row_with (Drawn y) s colours picture buffer = row_bytes colours (columns s) (picture y) ++ drop (row_size s) buffer
+unfoldable pub row_with : Option ℕ → Screen → List ℕ → (ℕ → Row) → List ℕ → List ℕ
+row_with None s colours picture buffer = buffer
+row_with (Some y) s colours picture buffer = row_bytes colours (columns s) (picture y) ++ drop (row_size s) buffer
 
 -- R7.2: the same of a frame: row y is put in
-unfoldable pub frame_with : DrawnRow → Screen → List ℕ → (ℕ → Row) → List ℕ → List ℕ
-frame_with NoRow s colours picture frame = frame
-frame_with (Drawn y) s colours picture frame = with_row (row_size s) y (row_bytes colours (columns s) (picture y)) frame
+unfoldable pub frame_with : Option ℕ → Screen → List ℕ → (ℕ → Row) → List ℕ → List ℕ
+frame_with None s colours picture frame = frame
+frame_with (Some y) s colours picture frame = with_row (row_size s) y (row_bytes colours (columns s) (picture y)) frame
 
 -- R15.3: the layer buffer with the layers of the row
-unfoldable pub layers_by : DrawnRow → Screen → (ℕ → ℕ → ℕ) → List ℕ → List ℕ
-layers_by NoRow s layer layers = layers
-layers_by (Drawn y) s layer layers = layers_in layers (columns s) (layer y)
+unfoldable pub layers_by : Option ℕ → Screen → (ℕ → ℕ → ℕ) → List ℕ → List ℕ
+layers_by None s layer layers = layers
+layers_by (Some y) s layer layers = layers_in layers (columns s) (layer y)
 
 -- ---- of the row that an accepted step draws
 abbrev pub row_filled : Screen → List ℕ → Reading → List ℕ → List ℕ
@@ -60,7 +58,7 @@ FramePointsLeave s vram k frame r frame' = PointsLeave (frame_lines s vram (leng
 
 -- R15.4: the lines that a step with a layer buffer of `size` bytes can meet: those of the step without, and then 16, where there are fewer than `least`
 abbrev pub also_layers : ℕ → ℕ → List Line → List Line
-also_layers least size lines = lines ++ (line (ltb size least) LayerLength ∷ [])
+also_layers least size lines = lines ++ (line (ltb size least) (Err LayerLength) ∷ [])
 
 -- what the points with layers promise; `lines` are those of the points without
 pub record LayerPointsLeave (lines : List Line) (s : Screen) (vram : List ℕ) (k : Reading) (pixels filled layers : List ℕ) (r : Points)

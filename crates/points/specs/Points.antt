@@ -1,6 +1,6 @@
 -- R4.1 to R4.5, the five points of a step, over what they read and what they leave. No device is named: each machine makes its own step from them.
 -- Assumes nothing.
-use Rattle.std.specs.Prelude.{◌≡◌, Bool, cond, not, ◌&&◌, ◌||◌, List, [], ◌∷◌, ℕ, ◌+◌, ◌-◌, ◌<◌, eqb, ltb, leb}
+use Rattle.std.specs.Prelude.{◌≡◌, Bool, cond, not, ◌&&◌, ◌||◌, List, [], ◌∷◌, ℕ, ◌+◌, ◌-◌, ◌<◌, eqb, ltb, leb, None, Option, Some, Err, Ok}
 use Rattle.std.specs.Int.Bits.{bit_or}
 use Rattle.laws.specs.Bits.{bit}
 use Rattle.laws.specs.Lists.{at}
@@ -9,15 +9,12 @@ use Rattle.picture.specs.Picture.{Row}
 use Rattle.picture.specs.Screen.{first_line, rows, row_size, frame_size, picture_of, status_bits}
 use Rattle.raster.specs.declared.Raster.{Raster}
 use Rattle.raster.specs.Raster.{advanced, line_interrupt, counted}
-use Rattle.refusal.specs.declared.Refusal.{Refusal}
-use Rattle.refusal.specs.declared.Refusal.TheVariants.{Accepted, VramLength, PixelLength, FrameTooLong}
-use Rattle.refusal.specs.Refusals.{whole, Line, line, under}
+use Rattle.refusal.specs.declared.Refusal.TheVariants.{VramLength, PixelLength, FrameTooLong}
+use Rattle.refusal.specs.Refusals.{whole, Line, line, under, Outcome}
 use Rattle.points.specs.declared.VdpInt.{VdpInt}
 use Rattle.points.specs.declared.VdpInt.TheVariants.{NoInterrupt, InterruptGenerated}
 use Rattle.points.specs.declared.DisplayRefresh.{DisplayRefresh}
 use Rattle.points.specs.declared.DisplayRefresh.TheVariants.{NoDisplay, ScreenDone, ScreenDoneNoRefresh}
-use Rattle.points.specs.declared.DrawnRow.{DrawnRow}
-use Rattle.points.specs.declared.DrawnRow.TheVariants.{NoRow, Drawn}
 use Rattle.points.specs.declared.Points.{Points}
 
 -- R11.11: the numbers of the answers, as R7.7 has them
@@ -45,24 +42,24 @@ abbrev pub risen : Reading → Raster
 risen k = advanced (at k.reg) k.raster
 
 -- R4.2: the row of a line, if it has one
-unfoldable pub row_on : Screen → ℕ → DrawnRow
-row_on s l = cond (leb (first_line s) l && ltb l (first_line s + rows s)) (Drawn (l - first_line s)) NoRow
+unfoldable pub row_on : Screen → ℕ → Option ℕ
+row_on s l = cond (leb (first_line s) l && ltb l (first_line s + rows s)) (Some (l - first_line s)) None
 
 -- the row, if there is one, is one of the screen's
-abbrev pub RowIn : Screen → DrawnRow → Type 0
-RowIn s r = (y : ℕ) → r ≡ Drawn y → y < rows s
+abbrev pub RowIn : Screen → Option ℕ → Type 0
+RowIn s r = (y : ℕ) → r ≡ Some y → y < rows s
 
 -- the row that this step draws, and what row y looks like now, for the registers, the latched scroll and the video memory
-abbrev pub coming_row : Screen → Reading → DrawnRow
+abbrev pub coming_row : Screen → Reading → Option ℕ
 coming_row s k = row_on s (risen k).v_counter
 
 abbrev pub coming_picture : Screen → List ℕ → Reading → ℕ → Row
 coming_picture s vram k y = picture_of s k.reg (risen k).vertical_scroll vram y
 
 -- R4.2: the status bits that the row sets, where `picture` gives the picture of each row
-unfoldable pub bits_of : DrawnRow → (ℕ → Row) → ℕ
-bits_of NoRow picture = 0
-bits_of (Drawn y) picture = status_bits (picture y)
+unfoldable pub bits_of : Option ℕ → (ℕ → Row) → ℕ
+bits_of None picture = 0
+bits_of (Some y) picture = status_bits (picture y)
 
 -- R4.3: the end of the screen at line l, its status bit and its report
 abbrev pub at_end : ℕ → Bool
@@ -86,7 +83,7 @@ points_of s vram k =
     let row = coming_row s k in
     let last = ended_by up.v_counter (bit_or k.status (bits_of row (coming_picture s vram k))) in
     record {
-      refusal = Accepted;
+      outcome = (Ok tt);
       interrupt = interrupt_by k.reg last up;
       report = report_by k.reg up.v_counter;
       row = row;
@@ -95,20 +92,20 @@ points_of s vram k =
     }
 
 -- R2.3: a refused step tells and changes nothing
-abbrev pub refused_points : Refusal → ℕ → Raster → Points
+abbrev pub refused_points : Outcome → ℕ → Raster → Points
 refused_points r status raster =
-    record { refusal = r; interrupt = NoInterrupt; report = NoDisplay; row = NoRow; status = status; raster = raster }
+    record { outcome = r; interrupt = NoInterrupt; report = NoDisplay; row = None; status = status; raster = raster }
 
 -- R2.6: a row buffer of `size` bytes has at least `need`, a frame exactly so many
 abbrev pub at_least : ℕ → ℕ → List Line
-at_least need size = line (ltb size need) PixelLength ∷ []
+at_least need size = line (ltb size need) (Err PixelLength) ∷ []
 
 abbrev pub exactly : ℕ → ℕ → List Line
-exactly need size = line (ltb size need) PixelLength ∷ line (ltb need size) FrameTooLong ∷ []
+exactly need size = line (ltb size need) (Err PixelLength) ∷ line (ltb need size) (Err FrameTooLong) ∷ []
 
 -- R2.4: the lines of the table that a step can meet: 8, and those of its buffer's size
 abbrev pub step_lines : List ℕ → List Line → List Line
-step_lines vram sizes = line (not (whole vram)) VramLength ∷ sizes
+step_lines vram sizes = line (not (whole vram)) (Err VramLength) ∷ sizes
 
 abbrev pub row_lines : Screen → List ℕ → ℕ → List Line
 row_lines s vram size = step_lines vram (at_least (row_size s) size)

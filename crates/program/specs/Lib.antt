@@ -1,3 +1,2 @@
 -- What the contracts of `program` cite.
 pub mod Counts
-pub mod Same

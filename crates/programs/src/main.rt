@@ -8,36 +8,36 @@ mod sheet;
 mod snapshot;
 mod trace;
 
-ghost use Rattle.std.specs.Prelude.{◌≡◌, ◌≤◌, length, take};
+ghost use Rattle.std.specs.Prelude.{◌≡◌, length, replicate};
 
 use std::rt::Env;
 
-// Whether it is one of the others, each of which looks whether it is called so, and runs if it is.
-fn another(rt: &HostRuntime, called: &[u8]) -> bool {
-    trace::trace_261(rt, called)
-        | trace::home_trace(rt, called)
-        | snapshot::snapshot(rt, called)
-        | snapshot::snapshot_261(rt, called)
-        | snapshot::home_snapshot(rt, called)
-        | snapshot::layers(rt, called)
-        | sheet::sheet(rt, called)
-        | repair::repair(rt, called)
+// What runs by each name.
+fn run(rt: &HostRuntime, called: &[u8]) {
+    match called {
+        b"trace-261" => trace::trace_261(rt, called),
+        b"home-trace" => trace::home_trace(rt, called),
+        b"snapshot" => snapshot::snapshot(rt, called),
+        b"snapshot-261" => snapshot::snapshot_261(rt, called),
+        b"home-snapshot" => snapshot::home_snapshot(rt, called),
+        b"layers" => snapshot::layers(rt, called),
+        b"sheet" => sheet::sheet(rt, called),
+        b"repair" => repair::repair(rt, called),
+        _ => trace::trace(rt, b"trace"),
+    }
 }
 
-// Puts the name that it is called by, word 0 of the command line, at the start of buf, and answers its length: 0 where there is none, or a longer one than buf.
-fn name(rt: &HostRuntime, buf: &mut [u8]) -> usize
-    ensures { (result ≤ length buf.new) × (result ≡ length (take result buf.new)) }
+// Room for N bytes, zeroed. The contract gives their length, which the caller's check then need not compute.
+fn zeros<const N: usize>() -> [u8; N]
+    ensures zeros { result ≡ replicate N 0 }
+    ensures size { N ≡ length result }
 {
-    match rt.arg(0, buf) {
-        Ok(n) => n,
-        Err(_) => 0,
-    }
+    [0; N]
 }
 
 fn main(rt: HostRuntime) {
+    // Word 0 of the command line; where there is none, or a longer one, there is no name.
     let mut word = [0u8; 4096];
-    let n = name(&rt, &mut word);
-    if !another(&rt, &word[..n]) {
-        trace::trace(&rt);
-    }
+    let n = rt.arg(0, &mut word).unwrap_or(0);
+    run(&rt, &word[..n]);
 }

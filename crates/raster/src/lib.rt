@@ -22,16 +22,19 @@ pub struct Raster {
     pub table: LineTable,
 }
 
-// The number of a table, and the table of a number.
-pub fn table_number(table: LineTable) -> u8
-    ensures { result ≡ line_table_number table }
-{
-    match table {
-        LineTable::Steps261 => 0,
-        LineTable::Steps262 => 1,
+// The number of a table.
+impl From<LineTable> for u8 {
+    ghost use Rattle.std.specs.Prelude.{◌≡◌};
+    ghost use Rattle.raster.specs.Raster.{line_table_number};
+
+    ghost from_gives = { λ table n. n ≡ line_table_number table };
+
+    fn from(table: LineTable) -> u8 {
+        table as u8
     }
 }
 
+// The table of a number. (No From and no TryFrom: `line_table_from` takes every number above 0 for table 1.)
 pub fn table_from(n: u8) -> LineTable
     ensures { result ≡ line_table_from n }
 {
@@ -46,7 +49,7 @@ pub fn table_from(n: u8) -> LineTable
 pub fn unnamed_table() -> u8
     ensures { result ≡ line_table_number Steps262 }
 {
-    table_number(LineTable::Steps262)
+    u8::from(LineTable::Steps262)
 }
 
 // The value at which the counter jumps instead of being read.
@@ -63,7 +66,7 @@ fn jump_line(table: LineTable) -> u8
 fn line_interrupt_load_start(r10: u8) -> u8
     ensures { result ≡ line_count r10 }
 {
-    if 0 < r10 { r10 - 1 } else { 0 }
+    r10.saturating_sub(1)
 }
 
 impl Raster {
@@ -76,60 +79,56 @@ impl Raster {
             v_counter_jumped: false,
             line_interrupt_counter: 0,
             vertical_scroll: 0,
-            table: table,
+            table,
         }
     }
 
     // R4.1: the counter goes up, and line 0 and the jump line do what they do.
+    #[tactic(auto, unfolding(crate::specs::Raster::advanced, crate::specs::Raster::jumps, crate::specs::Raster::starts))]
     pub fn advance(self, reg: [u8; 11]) -> Raster
         ensures { result ≡ advanced (at reg) self }
     {
-        let table = self.table;
-        let v_counter = std::num::wrapping_add_u8(self.v_counter, 1);
+        let v_counter = self.v_counter.wrapping_add(1);
         if v_counter == 0 {
-            return Raster {
-                v_counter: v_counter,
+            Raster {
+                v_counter,
                 v_counter_jumped: false,
                 line_interrupt_counter: line_interrupt_load_start(reg[10]),
                 vertical_scroll: reg[9],
-                table: table,
-            };
-        }
-        if (v_counter == jump_line(table)) & !self.v_counter_jumped {
-            return Raster {
+                ..self
+            }
+        } else if v_counter == jump_line(self.table) && !self.v_counter_jumped {
+            Raster {
                 v_counter: 0xD5,
                 v_counter_jumped: true,
-                line_interrupt_counter: self.line_interrupt_counter,
-                vertical_scroll: self.vertical_scroll,
-                table: table,
-            };
-        }
-        Raster {
-            v_counter: v_counter,
-            v_counter_jumped: self.v_counter_jumped,
-            line_interrupt_counter: self.line_interrupt_counter,
-            vertical_scroll: self.vertical_scroll,
-            table: table,
+                ..self
+            }
+        } else {
+            Raster { v_counter, ..self }
         }
     }
 
     // R4.4, its line part: line interrupts are on and the count is 0.
+    #[tactic(auto, unfolding(crate::specs::Raster::line_interrupt))]
     pub fn line_interrupt_is_up(self, reg: [u8; 11]) -> bool
         ensures { result ≡ line_interrupt (at reg) self }
     {
-        small::is_set(reg[0], 4) & (self.line_interrupt_counter == 0)
+        small::is_set(reg[0], 4) && self.line_interrupt_counter == 0
     }
 
     // R4.5: the count starts again below the picture and at 0, and else goes down by one.
+    #[tactic(auto, unfolding(crate::specs::Raster::counted))]
     pub fn line_interrupt_update(self, reg: [u8; 11]) -> Raster
         ensures { result ≡ counted (at reg) self }
     {
-        let mut raster = self;
-        if (192 < self.v_counter) | (self.line_interrupt_counter == 0) {
-            raster.line_interrupt_counter = reg[10];
-            return raster;
+        let line_interrupt_counter = if 192 < self.v_counter || self.line_interrupt_counter == 0 {
+            reg[10]
+        } else {
+            self.line_interrupt_counter - 1
+        };
+        Raster {
+            line_interrupt_counter,
+            ..self
         }
-        raster.line_interrupt_counter = self.line_interrupt_counter - 1;
-        raster
     }
 }

@@ -4,11 +4,10 @@
 ghost use Rattle.std.specs.Prelude.{◌≡◌, ◌<◌};
 ghost use Rattle.refusal.specs.Refusals.{refusal_number};
 
-// Why a call is refused, or that it is not (R2.1).
-#[derive(Clone, Copy)]
+// Why a call is refused (R2.1); the numbers go up from 1.
+#[derive(Clone, Copy, PartialEq, Eq)]
 pub enum Refusal {
-    Accepted,
-    UnknownPort,
+    UnknownPort = 1,
     HorizontalCounter,
     HighRegister,
     NothingChosen,
@@ -29,29 +28,24 @@ pub enum Refusal {
 }
 
 // The number of a refusal (R2.1).
-pub fn refusal_number(refusal: Refusal) -> u8
-    ensures value { result ≡ refusal_number refusal }
+impl From<Refusal> for u8 {
+    ghost use Rattle.std.specs.Prelude.{◌≡◌, Err};
+    ghost use Rattle.refusal.specs.Refusals.{refusal_number};
+
+    ghost from_gives = { λ refusal n. n ≡ refusal_number (Err refusal) };
+
+    fn from(refusal: Refusal) -> u8 {
+        refusal as u8
+    }
+}
+
+// The number of how a call comes out (R2.1): of its refusal, and 0 where it is accepted. (No From: neither a Result nor u8 is a type of this crate.)
+pub fn refusal_number(outcome: Result<(), Refusal>) -> u8
+    ensures value { result ≡ refusal_number outcome }
     ensures upper_bound { result < 256 }
 {
-    match refusal {
-        Refusal::Accepted => 0,
-        Refusal::UnknownPort => 1,
-        Refusal::HorizontalCounter => 2,
-        Refusal::HighRegister => 3,
-        Refusal::NothingChosen => 4,
-        Refusal::PaletteRead => 5,
-        Refusal::NoPaletteByte => 6,
-        Refusal::OutsideMemory => 7,
-        Refusal::VramLength => 8,
-        Refusal::PixelLength => 9,
-        Refusal::BlockMalformed => 10,
-        Refusal::UnknownArea => 11,
-        Refusal::FrameTooLong => 12,
-        Refusal::UnknownTile => 13,
-        Refusal::CodesLength => 14,
-        Refusal::HighCode => 15,
-        Refusal::LayerLength => 16,
-        Refusal::ListLength => 17,
-        Refusal::RecordRoom => 18,
+    match outcome {
+        Ok(()) => 0,
+        Err(refusal) => u8::from(refusal),
     }
 }

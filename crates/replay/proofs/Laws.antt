@@ -4,6 +4,7 @@ use mathlib.Core.Path.{◌≡◌, sym, ap, ◌∙◌}
 use mathlib.Core.Logic.{◌≢◌}
 use mathlib.Core.Bool.{Bool, true, false}
 use mathlib.Core.List.{List, []}
+use Rattle.std.specs.Prelude.{Ok, Err}
 use Prim.Native.Nat.{ℕ, zero, suc, ◌+◌, ◌-◌, ◌*◌, ◌/◌, ◌%◌, ◌≤◌, ◌<◌}
 use native.Mathlib.Nat.{mul-le-mul, add-zero, add-suc}
 use native.Mathlib.Numerals.{add-one}
@@ -99,13 +100,16 @@ module _ (l m x : List ℕ) where
 
   pub differs :
       (i : ℕ) {w w' : World} {t : Bool} → i < length l / 16 → up_to i ≡ run i true w → turn t w' ≡ turned l (16 * i) w → t ≡ false
-      → record { count = i; same = false } ≡ replayed l m x
+      → Err i ≡ replayed l m x
   unfolding replayed tallied
   differs i h e q f =
       let n : suc i + (length l / 16 - suc i) ≡ length l / 16 = omega arith in
       sym (ap (λ (r : Run). tallied l r) (rw n at (stays (suc i) (length l / 16 - suc i) (stopped i e q f))))
 
-  pub agree : (i : ℕ) {w : World} → i ≡ length l / 16 → up_to i ≡ run i true w → record { count = length l / 16; same = eqb (length l % 16) 0 } ≡
-      replayed l m x
+  pub agree : (i : ℕ) {w : World} → i ≡ length l / 16 → up_to i ≡ run i true w → length l % 16 ≡ 0 → Ok (length l / 16) ≡ replayed l m x
   unfolding replayed tallied
-  agree i h e = sym (ap (λ (r : Run). tallied l r) (rw h at e))
+  agree i h e c = sym (ap (λ (r : Run). tallied l r) (rw h at e) ∙ rw c)
+
+  pub cut : (i : ℕ) {w : World} → i ≡ length l / 16 → up_to i ≡ run i true w → length l % 16 ≢ 0 → Err (length l / 16) ≡ replayed l m x
+  unfolding replayed tallied
+  cut i h e c = sym (ap (λ (r : Run). tallied l r) (rw h at e) ∙ rw (ne_eqb (length l % 16) 0 c))

@@ -1,7 +1,7 @@
 -- A replay of recorded answers: oracle/VECTORS.md has the form of the list. A record is 16 bytes: the call `W`, `R` or `S`, its port or area, its byte, 0;
 -- then three numbers of four bytes: the answer word, the checksum of the state block after the call, and that of the row that a step drew.
 -- Assumes nothing.
-use Rattle.std.specs.Prelude.{Bool, true, false, cond, ◌&&◌, List, ℕ, zero, suc, ◌+◌, ◌*◌, ◌/◌, ◌%◌, eqb, length}
+use Rattle.std.specs.Prelude.{Bool, true, false, cond, ◌&&◌, List, ℕ, zero, suc, ◌+◌, ◌*◌, ◌/◌, ◌%◌, eqb, length, Result, Ok, Err}
 use Rattle.laws.specs.Bits.{bit}
 use Rattle.laws.specs.Lists.{at}
 use Rattle.laws.specs.Paint.{four_at}
@@ -10,7 +10,6 @@ use Rattle.raster.specs.declared.LineTable.TheVariants.{Steps261}
 use Rattle.vdp.specs.Device.{made}
 use Rattle.block.specs.Block.{old_size, block_of}
 use Rattle.face.specs.Face.{Called, out_call, input_call, row_step_call}
-use Rattle.replay.specs.declared.Tally.{Tally}
 
 -- the checksum of n bytes: byte i counts i + 1 times
 unfoldable pub sum_of : ℕ → List ℕ → ℕ
@@ -79,9 +78,9 @@ ran (suc n) l r = cond (ran n l r).same (after (ran n l r) (turned l (16 * n) (r
 abbrev pub start : List ℕ → List ℕ → Run
 start m x = run 0 true (world (block_of old_size (made Steps261)) m x)
 
--- WHAT A REPLAY FINDS: the answers of all whole records; a record that is cut differs
-unfoldable pub tallied : List ℕ → Run → Tally
-tallied l r = record { count = r.count; same = r.same && eqb (length l % 16) 0 }
+-- WHAT A REPLAY FINDS: how many records there are, where all answers agree, and else the number of the first that differs; a record that is cut differs
+unfoldable pub tallied : List ℕ → Run → Result ℕ ℕ
+tallied l r = cond (r.same && eqb (length l % 16) 0) (Ok r.count) (Err r.count)
 
-unfoldable pub replayed : List ℕ → List ℕ → List ℕ → Tally
+unfoldable pub replayed : List ℕ → List ℕ → List ℕ → Result ℕ ℕ
 replayed l m x = tallied l (ran (length l / 16) l (start m x))

@@ -7,26 +7,12 @@ ghost use Rattle.replay.specs.Replay.{sum_of, row_sum, agreed, world, turn, turn
 
 use std::io::Read;
 
-// How many answers agree before the first that does not, and whether all do.
-#[derive(Clone, Copy)]
-struct Tally {
-    count: usize,
-    same: bool,
-}
-
-// The port of its low byte.
-fn port(b: u8) -> u16
-    ensures { result ≡ b }
-{
-    b as u16
-}
-
 // What byte i adds to a checksum.
 fn part(i: usize, byte: u8) -> u32
     requires { i < 1024 }
     ensures { (result ≡ (i + 1) * byte) × (result ≤ 261120) }
 {
-    ((i + 1) as u32) * (byte as u32)
+    (i + 1) as u32 * u32::from(byte)
 }
 
 // The checksum of the first n bytes.
@@ -35,10 +21,8 @@ fn sum_of(bytes: &[u8], n: usize) -> u32
     ensures { result ≡ sum_of n bytes.now }
 {
     let mut sum = 0;
-    let mut i = 0;
-    while i < n {
+    for i in 0..n {
         sum += part(i, bytes[i]);
-        i += 1;
     }
     sum
 }
@@ -58,6 +42,7 @@ fn row_sum(word: u32, area: u8, row: &[u8]) -> u32
 }
 
 // Whether the record at `at` has this answer, this block and this row.
+#[tactic(auto, unfolding(crate::specs::Replay::agreed))]
 fn agrees(list: &[u8], at: usize, word: u32, state: &[u8], sum: u32) -> bool
     requires { (at + 16 ≤ length list.now) × (length state.now ≡ 219) }
     ensures { result ≡ agreed list.now at word state.now sum }
@@ -65,7 +50,7 @@ fn agrees(list: &[u8], at: usize, word: u32, state: &[u8], sum: u32) -> bool
     let answer = small::four_at(list, at + 4);
     let block = small::four_at(list, at + 8);
     let drawn = small::four_at(list, at + 12);
-    (word == answer) & (sum_of(state, 219) == block) & (sum == drawn)
+    word == answer && sum_of(state, 219) == block && sum == drawn
 }
 
 // The call of the record at `at`, and whether it gave what the Rust gave.
@@ -78,11 +63,11 @@ fn call(list: &[u8], at: usize, state: &mut [u8], vram: &mut [u8], row: &mut [u8
     let value = list[at + 2];
     match mark {
         0x57 => {
-            let word = face::vdp_out(state, vram, port(which), value);
+            let word = face::vdp_out(state, vram, u16::from(which), value);
             agrees(list, at, word, state, 0)
         }
         0x52 => {
-            let word = face::vdp_input(state, vram, port(which));
+            let word = face::vdp_input(state, vram, u16::from(which));
             agrees(list, at, word, state, 0)
         }
         0x53 => {
@@ -94,27 +79,20 @@ fn call(list: &[u8], at: usize, state: &mut [u8], vram: &mut [u8], row: &mut [u8
     }
 }
 
-// All records in order, from a fresh device of table 0 in a block of the first version on, up to the first that differs. A record that is cut differs.
-fn replay(list: &[u8], state: &mut [u8], vram: &mut [u8], row: &mut [u8]) -> Tally
+// All records in order, from a fresh device of table 0 in a block of the first version on: how many there are, or, as the error, the number of the first that
+// differs. A record that is cut differs.
+fn replay(list: &[u8], state: &mut [u8], vram: &mut [u8], row: &mut [u8]) -> Result<usize, usize>
     requires { (length state.old ≡ 219) × (length row.old ≡ 1024) }
     ensures { result ≡ replayed list.now vram.old row.old }
 {
     face::vdp_new_table(state, 0);
     let n = list.len() / 16;
-    let mut i = 0;
-    while i < n {
+    for i in 0..n {
         if !call(list, 16 * i, state, vram, row) {
-            return Tally {
-                count: i,
-                same: false,
-            };
+            return Err(i);
         }
-        i += 1;
     }
-    Tally {
-        count: n,
-        same: list.len() % 16 == 0,
-    }
+    if list.len() % 16 == 0 { Ok(n) } else { Err(n) }
 }
 
 // Room for two million bytes of list. The contract gives only the length: so long an array then costs its caller's check nothing.
@@ -131,7 +109,7 @@ fn read_full(reader: &mut impl Read, buf: &mut [u8]) -> usize
     let mut done = 0;
     while done < buf.len() {
         match reader.read(&mut buf[done..]) {
-            Ok(0) | Err(_) => return done,
+            Ok(0) | Err(_) => break,
             Ok(more) => done += more,
         }
     }
@@ -144,13 +122,8 @@ fn main(rt: HostRuntime) {
     let mut row = [0u8; 1024];
     let mut list = room();
     let n = read_full(&mut rt.stdin(), &mut list);
-    let tally = replay(&list[..n], &mut state, &mut vram, &mut row);
-    if tally.same {
-        let _ = rt.print(tally.count);
-        let _ = rt.write_all(b" answers, 0 differ\n");
-    } else {
-        let _ = rt.write_all(b"record ");
-        let _ = rt.print(tally.count);
-        let _ = rt.write_all(b" differs\n");
-    }
+    let _ = match replay(&list[..n], &mut state, &mut vram, &mut row) {
+        Ok(count) => println!(rt; "{count} answers, 0 differ"),
+        Err(record) => println!(rt; "record {record} differs"),
+    };
 }

@@ -1,5 +1,6 @@
 -- The five points of a step, from what it is to do: on a row buffer, and on a frame by the part that is lent.
 -- Assumes nothing.
+use Rattle.std.specs.Prelude.{None, Option, Some, ℕ}
 use mathlib.Core.Path.{◌≡◌, refl, sym, ap, ◌∙◌}
 use mathlib.Core.List.{List, ◌++◌, append-nil}
 use Prim.Native.Nat.{ℕ, ◌+◌, ◌-◌, ◌*◌, ◌<◌, ◌≤◌}
@@ -10,13 +11,10 @@ use lib.ListN.{length, drop, drop_of_length-le}
 use Rattle.laws.specs.Lists.{with_row}
 use Rattle.picture.specs.declared.Screen.{Screen}
 use Rattle.picture.specs.Picture.{Row}
-use Rattle.picture.specs.Screen.{columns, rows, row_size, frame_size, row_bytes, status_bits}
-use Rattle.picture.specs.Layers.{layers_in}
+use Rattle.picture.specs.Screen.{columns, rows, row_size, frame_size, row_bytes}
 use Rattle.raster.specs.declared.Raster.{Raster}
 use Rattle.refusal.specs.Refusals.{Line, under}
 use Rattle.refusal.proofs.Tables.{Passed, under_either}
-use Rattle.points.specs.declared.DrawnRow.{DrawnRow}
-use Rattle.points.specs.declared.DrawnRow.TheVariants.{NoRow, Drawn}
 use Rattle.points.specs.declared.Due.{Due}
 use Rattle.points.specs.declared.Points.{Points}
 use Rattle.points.specs.Points.{Reading, bits_of, points_of, row_lines, frame_lines, points_with}
@@ -26,34 +24,14 @@ use Rattle.points.proofs.Rows.{row_low, row_end}
 use Rattle.points.proofs.Laws.{row_fits, row_memory, frame-fits, frame_memory}
 use Rattle.points.proofs.Order.{due_map}
 
--- ---- drawing: the row's bytes, the status bits that it sets, and its layers
-module _ (a : Screen) (colours : List ℕ) (picture : ℕ → Row) (layer : ℕ → ℕ → ℕ) (b layers : List ℕ) {row : DrawnRow} where
-  pub drawn_none : row ≡ NoRow → (0 ≡ bits_of row picture) × ((b ≡ row_with row a colours picture b) × (layers ≡ layers_by row a layer layers))
-  unfolding bits_of row_with layers_by
-  drawn_none e = (rw e, (rw e, rw e))
-
-  pub drawn_one :
-      (y : ℕ) {b' layers' : List ℕ} {bits : ℕ} → row ≡ Drawn y → b' ≡ row_bytes colours (columns a) (picture y) ++ drop (row_size a) b → bits ≡
-      status_bits (picture y)
-      → layers' ≡ layers_in layers (columns a) (layer y)
-      → (bits ≡ bits_of row picture) × ((b' ≡ row_with row a colours picture b) × (layers' ≡ layers_by row a layer layers))
-  unfolding bits_of row_with layers_by
-  drawn_one y e eb es eo = (es ∙ rw e, (eb ∙ rw e, eo ∙ rw e))
-
-  -- the same of a frame, of which the part from s to below t is lent
-  pub framed_none : row ≡ NoRow → (0 ≡ bits_of row picture) × ((b ≡ frame_with row a colours picture b) × (layers ≡ layers_by row a layer layers))
-  unfolding bits_of frame_with layers_by
-  framed_none e = (rw e, (rw e, rw e))
-
-  pub framed_one :
-      (y : ℕ) {ys layers' : List ℕ} {bits : ℕ} → row ≡ Drawn y → y < rows a → frame_size a ≤ length b
+-- ---- drawing: the row's bytes in a frame, of which the part from s to below t is lent
+module _ (a : Screen) (colours : List ℕ) (picture : ℕ → Row) (b : List ℕ) {row : Option ℕ} where
+  pub framed :
+      (y : ℕ) {ys : List ℕ} → row ≡ Some y → y < rows a → frame_size a ≤ length b
       → ys ≡ row_bytes colours (columns a) (picture y) ++ drop (row_size a) (mid_of (y * row_size a) (y * row_size a + row_size a - y * row_size a) b)
-      → bits ≡ status_bits (picture y) → layers' ≡ layers_in layers (columns a) (layer y)
-      → (bits ≡ bits_of row picture)
-      × ((put_mid (y * row_size a) (y * row_size a + row_size a - y * row_size a) b ys ≡ frame_with row a colours picture b)
-      × (layers' ≡ layers_by row a layer layers))
-  unfolding bits_of frame_with layers_by with_row
-  framed_one y {ys} e low long eb er eo =
+      → put_mid (y * row_size a) (y * row_size a + row_size a - y * row_size a) b ys ≡ frame_with row a colours picture b
+  unfolding frame_with with_row
+  framed y {ys} e low long eb =
       let end = row_end a y low in
       let s : ℕ = y * row_size a in
       let t : ℕ = y * row_size a + row_size a in
@@ -62,7 +40,7 @@ module _ (a : Screen) (colours : List ℕ) (picture : ℕ → Row) (layer : ℕ 
       let q : ys ≡ row_bytes colours (columns a) (picture y) = eb ∙ rw (drop_of_length-le (mid_of s (t - s) b) k)
       (append-nil (row_bytes colours (columns a) (picture y))) in
       let z : post_of s (t - s) b ≡ drop t b = Post-is s t b (omega arith) in
-      (er ∙ rw e, (rw (e, q, z, mul_comm (row_size a) y), eo ∙ rw e))
+      rw (e, q, z, mul_comm (row_size a) y)
 
 -- a row that is due can be drawn
 module _ (s : Screen) (reg : List ℕ) (raster : Raster) (vram : List ℕ) (size : ℕ) where
@@ -120,18 +98,18 @@ module _ (ls : List Line) (s : Screen) (vram : List ℕ) (k : Reading) {d : Due}
   owned layers e = e ∙ rw ed (due_map s k.reg k.raster (λ (x : Due). layers_by x.row s (due_layers s vram k.reg x) layers) ls)
 
   -- the colours that it is handed are those of the machine, if a row is drawn; where none is, nothing depends on them
-  module _ {colours : List ℕ} (ec : (y : ℕ) → d.row ≡ Drawn y → colours ≡ k.colours) (b : List ℕ) where
-    row_recoloured : (r : DrawnRow) (picture : ℕ → Row) → ((y : ℕ) → r ≡ Drawn y → colours ≡ k.colours) → row_with r s colours picture b ≡ row_with r s
+  module _ {colours : List ℕ} (ec : (y : ℕ) → d.row ≡ Some y → colours ≡ k.colours) (b : List ℕ) where
+    row_recoloured : (r : Option ℕ) (picture : ℕ → Row) → ((y : ℕ) → r ≡ Some y → colours ≡ k.colours) → row_with r s colours picture b ≡ row_with r s
         k.colours picture b
     unfolding row_with
-    row_recoloured NoRow picture h = refl
-    row_recoloured (Drawn y) picture h = rw (h y refl)
+    row_recoloured None picture h = refl
+    row_recoloured (Some y) picture h = rw (h y refl)
 
-    frame-recoloured : (r : DrawnRow) (picture : ℕ → Row) → ((y : ℕ) → r ≡ Drawn y → colours ≡ k.colours) → frame_with r s colours picture b ≡
+    frame-recoloured : (r : Option ℕ) (picture : ℕ → Row) → ((y : ℕ) → r ≡ Some y → colours ≡ k.colours) → frame_with r s colours picture b ≡
         frame_with r s k.colours picture b
     unfolding frame_with
-    frame-recoloured NoRow picture h = refl
-    frame-recoloured (Drawn y) picture h = rw (h y refl)
+    frame-recoloured None picture h = refl
+    frame-recoloured (Some y) picture h = rw (h y refl)
 
     pub row_filled_lem : {b' : List ℕ} → b' ≡ row_with d.row s colours (due_picture s vram k.reg d) b
         → b' ≡ under ls (λ r. b) (row_with (taken_due s k.reg k.raster).row s k.colours

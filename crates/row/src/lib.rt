@@ -12,6 +12,7 @@ ghost use Rattle.picture.specs.Layers.{layers_of, layers_in};
 ghost use Rattle.background.specs.Background.{Room, back_colour, shade, prio_to};
 ghost use Rattle.row.specs.Row.{Drawn, Backed};
 
+pub mod machine;
 pub mod points_run;
 
 use bitmap::Bitmap;
@@ -37,13 +38,7 @@ struct Back {
 fn status_bits(line: Line) -> u8
     ensures { result ≡ cond line.hit 32 0 + cond line.ninth 64 0 }
 {
-    let hit = line.hit;
-    let ninth = line.ninth;
-    if hit {
-        if ninth { 96 } else { 32 }
-    } else {
-        if ninth { 64 } else { 0 }
-    }
+    32 * u8::from(line.hit) + 64 * u8::from(line.ninth)
 }
 
 // A row that is all background's, where its layers are asked for: a buffer with fewer bytes than the row has columns asks for none.
@@ -53,11 +48,7 @@ fn clear(layers: &mut [u8], width: usize)
     if layers.len() < width {
         return;
     }
-    let mut i: usize = 0;
-    while i < width {
-        layers[i] = 0;
-        i += 1;
-    }
+    layers[..width].fill(0);
 }
 
 // The background of row `line` of a screen of the visible size: scrolled both ways, its sprites by the line that is 24 further down.
@@ -73,7 +64,7 @@ fn background_visible(
     requires { (length vram.now ≡ vram_size) × (row_size VisibleOnly ≤ length row.old) × (scroll < 256) × (line < rows VisibleOnly) × (columns screen ≡ columns VisibleOnly) }
     ensures { Backed screen reg scroll vram.now colours.now line row.old row.new result }
 {
-    let sx = (GG_VISIBLE_MAP_X - small::wide(reg[8])) % SCROLL_PIXEL_WIDTH;
+    let sx = (GG_VISIBLE_MAP_X - usize::from(reg[8])) % SCROLL_PIXEL_WIDTH;
     let below = line + GG_VISIBLE_AREA_START_Y;
     let cut = background::cut_of(screen, (sx % 8) as u8);
     let prio = background::render_background_line(
@@ -87,7 +78,7 @@ fn background_visible(
         cut,
     );
     Back {
-        prio: prio,
+        prio,
         width: GG_VISIBLE_PIXEL_WIDTH,
         line: below,
         fill: false,
@@ -116,9 +107,9 @@ fn background_effective(
         0,
     );
     Back {
-        prio: prio,
+        prio,
         width: SCROLL_PIXEL_WIDTH,
-        line: line,
+        line,
         fill: false,
     }
 }
@@ -172,10 +163,8 @@ fn fill(row: &mut [u8], on: bool, c: u32)
     if !on {
         return;
     }
-    let mut x: usize = 0;
-    while x < 8 {
+    for x in 0..8 {
         tile::pixel_set_full(row, x, c);
-        x += 1;
     }
 }
 
@@ -189,11 +178,7 @@ fn cover(layers: &mut [u8], on: bool)
     if layers.len() < SCROLL_PIXEL_WIDTH {
         return;
     }
-    let mut i: usize = 0;
-    while i < 8 {
-        layers[i] = LAYER_FILLED;
-        i += 1;
-    }
+    layers[..8].fill(LAYER_FILLED);
 }
 
 // The fill over a finished row and its layers, where `on`.
@@ -202,7 +187,7 @@ fn fill_over(row: &mut [u8], layers: &mut [u8], colours: &[u32; 32], reg: [u8; 1
     ensures row_after { row.new ≡ cond on (painted row.old 0 8 (λ i. at colours.now (16 + at reg 7 % 16))) row.old }
     ensures layers_after { layers.new ≡ layers_in layers.old (columns Home) (λ x. cond (on && ltb x 8) 2 (at layers.old x)) }
 {
-    fill(row, on, colours[16 + small::wide(reg[7]) % 16]);
+    fill(row, on, colours[16 + usize::from(reg[7]) % 16]);
     cover(layers, on);
 }
 
@@ -223,9 +208,9 @@ fn background_home(
     let last = background::home_line(reg, line, y);
     let prio = home_background(row, vram, colours, background::names_at(reg), sx, y, last);
     Back {
-        prio: prio,
+        prio,
         width: SCROLL_PIXEL_WIDTH,
-        line: line,
+        line,
         fill: small::is_set(reg[0], 5),
     }
 }
@@ -244,13 +229,10 @@ fn background_of(
     ensures { Backed screen reg scroll vram.now colours.now line row.old row.new result }
 {
     match screen {
-        Screen::VisibleOnly => {
-            background_visible(row, vram, colours, Screen::VisibleOnly, reg, scroll, line)
+        Screen::VisibleOnly | Screen::TrueEdges => {
+            background_visible(row, vram, colours, screen, reg, scroll, line)
         }
         Screen::EffectiveArea => background_effective(row, vram, colours, reg, line),
-        Screen::TrueEdges => {
-            background_visible(row, vram, colours, Screen::TrueEdges, reg, scroll, line)
-        }
         Screen::Home => background_home(row, vram, colours, reg, scroll, line),
     }
 }
@@ -277,8 +259,8 @@ pub fn render_line(
         colours,
         screen,
         reg,
-        small::wide(scroll),
-        small::wide(line),
+        usize::from(scroll),
+        usize::from(line),
     );
     let prio = back.prio;
     clear(layers, back.width);

@@ -1,7 +1,7 @@
 -- The list of sprites on a line, one at a time.
 -- Assumes nothing.
 use Rattle.std.proofs.Common.{◌≡◌, ℕ, suc, ◌+◌, ◌-◌, ◌*◌, ◌/◌, ◌%◌, ◌^◌, ◌<◌, ◌≤◌, Bool, true, false, cond, ◌&&◌, eqb, ltb, leb, ◌≢◌, List, [], ◌∷◌, length}
-use Rattle.std.proofs.Common.{take, set, sym, refl, ap, ◌∙◌, subst, add-one, arith, get_or-set_other, ltb-false, ltb-true, le-ltb, lt-ltb, le-leb}
+use Rattle.std.proofs.Common.{take, set, sym, refl, ap, ◌∙◌, subst, add-one, arith, get_or-set_other, le-ltb, lt-ltb, le-leb}
 use native.Mathlib.Decide.{dec_lt}
 use lib.Dec.{leb-suc-suc}
 use lib.Bits.{bit_or}
@@ -11,7 +11,6 @@ use Rattle.laws.specs.Bits.{byte_of}
 use Rattle.laws.specs.Lists.{at}
 use Rattle.laws.specs.Paint.{painted}
 use Rattle.laws.proofs.Bits.{number_lt}
-use Rattle.laws.proofs.Tests.{both}
 use Rattle.bitmap.specs.Mask.{bytes_of, byte_at, with_byte, cleared}
 use Rattle.bitmap.proofs.Circle.{read_is, mark_is}
 use Rattle.picture.specs.declared.Stand.{Stand}
@@ -25,7 +24,7 @@ use Rattle.stand.specs.Stand.{stand_of}
 use Rattle.sprites.specs.declared.Marks.{Marks}
 use Rattle.sprites.specs.declared.Next.{Next}
 use Rattle.sprites.specs.declared.Turn.{Turn}
-use Rattle.sprites.specs.Sprites.{Follows, Laid, Turned, bits_of, line_of, eight_of}
+use Rattle.sprites.specs.Sprites.{Laid, Turned, bits_of, line_of, eight_of}
 use Rattle.sprites.proofs.Laws.{Shows, shows-laid, owns-laid}
 
 -- the sprite that the code lays is sprite n
@@ -141,26 +140,6 @@ module _ (m g : ℕ → ℕ) (stand : ℕ → Stand) (l : ℕ) (f : ℕ → Bool
 pub list_done : (m g : ℕ → ℕ) (l n : ℕ) → 64 ≤ n → listed m g l (64 - n) n ≡ []
 unfolding listed
 list_done m g l n e = let z : 64 - n ≡ 0 = omega arith in rw z
-
--- ---- the code's test of the next sprite, n, of which line d is shown: it has its turn, or the list is laid, with a ninth where n is one
-pub has_turn : (n count : ℕ) {b : Bool} → b ≡ (ltb n 64 && ltb count 8) → b ≡ true → (n < 64) × (count < 8)
-has_turn n count e q =
-    let t = both (ltb n 64) (ltb count 8) (sym e ∙ q) in
-    (ltb-true n 64 t.0, ltb-true count 8 t.1)
-
-pub going_stops : (m g : ℕ → ℕ) (stand : ℕ → Stand) (l : ℕ) (f : ℕ → Bool) (colour : ℕ → ℕ) (S : Canvas → (ℕ → ℕ) → Type 0) {from n d count : ℕ} {b : Bool}
-    → count ≤ 8 → b ≡ (ltb n 64 && ltb count 8) → b ≡ false → Follows m g l from n d → Going m g stand l f colour from count S
-    → Done m g stand l f colour (ltb n 64) S
-going_stops m g stand l f colour S {n} {count} h e q w o =
-    elim (dec_lt n 64) [
-      | yes k ↦
-          let t : ltb count 8 ≡ false = rw (lt-ltb n 64 k) at (sym e ∙ q) in
-          let full : count ≡ 8 = omega (arith, ltb-false count 8 t) in
-          rw (lt-ltb n 64 k) (going_full m g stand l f colour S (w.next k) full o)
-      | no k ↦
-          let past : 64 ≤ n = omega arith in
-          rw (le-ltb n 64 past) (going_ends m g stand l f colour S (w.none past) o)
-    ]
 
 -- ---- what the code's tests say of sprite n, whose Y byte is y
 module _ (m g : ℕ → ℕ) (l n : ℕ) {table y : ℕ} (te : table ≡ table_at g) (ye : y ≡ m (table + n)) where

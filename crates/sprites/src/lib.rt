@@ -1,7 +1,7 @@
 // The sprites of a line, over its background: which are on it (R5.6, R5.7), and what their pixels meet (R5.11, R5.12).
 #![tactic(auto)]
 
-ghost use Rattle.std.specs.Prelude.{◌≡◌, ℕ, ◌+◌, ◌-◌, ◌*◌, ◌/◌, ◌%◌, ◌^◌, ◌<◌, ◌≤◌, Bool, not, ◌||◌, List, length, if◌then◌else◌, ◌==◌, bit_and, bit_or};
+ghost use Rattle.std.specs.Prelude.{◌≡◌, ℕ, ◌+◌, ◌-◌, ◌*◌, ◌/◌, ◌%◌, ◌^◌, ◌<◌, ◌≤◌, Bool, not, ◌||◌, List, length, MatchOption, IfSome, if◌then◌else◌, ◌==◌, bit_and, bit_or};
 ghost use Rattle.laws.specs.Lists.{at};
 ghost use Rattle.laws.specs.Paint.{painted};
 ghost use Rattle.laws.specs.Sizes.{vram_size};
@@ -17,7 +17,7 @@ use bitmap::Bitmap;
 use column::Columns;
 use picture::{Screen, Stand};
 
-// The next sprite of the list that is on a line, and the line of it that is shown there; number 64 where there is none.
+// A sprite of the list that is on a line, and the line of it that is shown there.
 #[derive(Clone, Copy)]
 pub struct Next {
     pub n: usize,
@@ -71,7 +71,7 @@ pub fn table_at(reg: [u8; 11]) -> usize
     ensures value { result ≡ table_at (at reg) }
     ensures upper_bound { result ≤ 16128 }
 {
-    small::wide(reg[5] & 0x7E) * 128
+    usize::from(reg[5] & 0x7E) * 128
 }
 
 // The first line of a sprite with this Y byte.
@@ -79,7 +79,7 @@ fn top_of(y: u8) -> usize
     ensures value { result ≡ (y + 1) % 256 }
     ensures upper_bound { result < 256 }
 {
-    small::wide(std::num::wrapping_add_u8(y, 1))
+    usize::from(y.wrapping_add(1))
 }
 
 // The lines of a sprite.
@@ -116,7 +116,7 @@ fn sprite_double_size_src_line(tall: bool, num: u8, d: usize) -> usize
     ensures value { result ≡ (if tall then num / 2 * 2 + d / 8 else num) }
     ensures upper_bound { result < 256 }
 {
-    let char_num = small::wide(num);
+    let char_num = usize::from(num);
     if tall {
         char_num / 2 * 2 + d / 8
     } else {
@@ -141,7 +141,7 @@ pub fn line_at(reg: [u8; 11], num: u8, d: usize) -> usize
 fn collision_calc(hit: bool, taken: u8, bits: u8) -> bool
     ensures { result ≡ (hit || not (bit_and taken bits == 0)) }
 {
-    if hit { true } else { taken & bits != 0 }
+    hit || taken & bits != 0
 }
 
 // What became of the columns of sprite n, from column x on, into the layers; a layer buffer with fewer bytes than the row has columns asks for none.
@@ -166,7 +166,7 @@ fn marked(low: u8, high: u8, place: usize, hit: bool, taken: u8, bits: u8, count
         low: low | bitmap::lower(bits, shift),
         high: high | bitmap::upper(bits, shift),
         hit: collision_calc(hit, taken, bits),
-        count: count,
+        count,
     }
 }
 
@@ -222,31 +222,29 @@ fn render_sprite(
 // ---- the line
 
 // The next sprite on the line, of those from sprite `from` on.
-fn next_on(vram: &[u8], table: usize, from: usize, line: usize, lines: usize) -> Next
+fn next_on(vram: &[u8], table: usize, from: usize, line: usize, lines: usize) -> Option<Next>
     requires { (length vram.now ≡ vram_size) × (table ≤ 16128) × (from ≤ 64) × (lines ≤ 16) }
-    ensures by_index { (g : ℕ → ℕ) → table ≡ table_at g → lines ≡ (if tall g then 16 else 8) → Follows (at vram.now) g line from result.n result.d }
-    ensures from_le_n { (from ≤ result.n) × (result.n ≤ 64) × (result.d < 16) × (64 ≤ result.n → result.d ≡ 0) }
+    ensures by_index { (g : ℕ → ℕ) → table ≡ table_at g → lines ≡ (if tall g then 16 else 8) → MatchOption result (Follows (at vram.now) g line from 64 0) (λ next. Follows (at vram.now) g line from next.n next.d) }
+    ensures from_le_n { IfSome result (λ next. (from ≤ next.n) × (next.n < 64) × (next.d < 16)) }
 {
-    let mut n = from;
-    while n < 64 {
+    for n in from..64 {
         let y = vram[table + n];
         if y == 0xD0 {
-            return Next { n: 64, d: 0 };
+            return None;
         }
-        let d = std::num::wrapping_sub_usize(line, top_of(y));
+        let d = line.wrapping_sub(top_of(y));
         if d < lines {
-            return Next { n: n, d: d };
+            return Some(Next { n, d });
         }
-        n += 1;
     }
-    Next { n: 64, d: 0 }
+    None
 }
 
 // The same by the registers.
-pub fn next_sprite(vram: &[u8], reg: [u8; 11], from: usize, line: usize) -> Next
+pub fn next_sprite(vram: &[u8], reg: [u8; 11], from: usize, line: usize) -> Option<Next>
     requires { (length vram.now ≡ vram_size) × (from ≤ 64) }
-    ensures follows { Follows (at vram.now) (at reg) line from result.n result.d }
-    ensures from_le_n { (from ≤ result.n) × (result.n ≤ 64) × (result.d < 16) × (64 ≤ result.n → result.d ≡ 0) }
+    ensures follows { MatchOption result (Follows (at vram.now) (at reg) line from 64 0) (λ next. Follows (at vram.now) (at reg) line from next.n next.d) }
+    ensures from_le_n { IfSome result (λ next. (from ≤ next.n) × (next.n < 64) × (next.d < 16)) }
 {
     let table = table_of(reg);
     next_on(vram, table.start, from, line, table.lines)
@@ -275,43 +273,46 @@ fn sprites_line(
     let mut hit = false;
     let mut count: usize = 0;
     let mut from: usize = 0;
-    loop {
-        let next = next_on(vram, table.start, from, line, table.lines);
-        if small::both(next.n < 64, count < 8) {
-            let s = stand_of(vram, screen, table.early, table.start, next.n);
-            let p = s.prio % 256 / 8;
-            let low = s.mark % 256 / 8;
-            let high = (low + 1) % 32;
-            let one = render_sprite(
-                row,
-                layers,
-                vram,
-                colours,
-                bytes,
-                reg,
-                width,
-                table.start,
-                next,
-                s,
-                prio.bits[p],
-                prio.bits[(p + 1) % 32],
-                mask.bits[low],
-                mask.bits[high],
-                hit,
-                count,
-            );
-            mask.bits[low] = one.low;
-            mask.bits[high] = one.high;
-            hit = one.hit;
-            count = one.count;
-            from = next.n + 1;
-        } else {
+    while let Some(next) = next_on(vram, table.start, from, line, table.lines) {
+        if count == 8 {
             return Marks {
-                mask: mask,
-                hit: hit,
-                ninth: next.n < 64,
+                mask,
+                hit,
+                ninth: true,
             };
         }
+        let s = stand_of(vram, screen, table.early, table.start, next.n);
+        let p = s.prio % 256 / 8;
+        let low = s.mark % 256 / 8;
+        let high = (low + 1) % 32;
+        let one = render_sprite(
+            row,
+            layers,
+            vram,
+            colours,
+            bytes,
+            reg,
+            width,
+            table.start,
+            next,
+            s,
+            prio.bits[p],
+            prio.bits[(p + 1) % 32],
+            mask.bits[low],
+            mask.bits[high],
+            hit,
+            count,
+        );
+        mask.bits[low] = one.low;
+        mask.bits[high] = one.high;
+        hit = one.hit;
+        count = one.count;
+        from = next.n + 1;
+    }
+    Marks {
+        mask,
+        hit,
+        ninth: false,
     }
 }
 

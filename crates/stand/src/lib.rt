@@ -16,13 +16,6 @@ const WIDTH: u8 = picture::GG_VISIBLE_PIXEL_WIDTH as u8;
 
 const BEFORE_X: u8 = START_X - 8;
 
-// The difference, 0 where it would be below.
-fn minus(a: u8, b: u8) -> u8
-    ensures { result ≡ a - b }
-{
-    if b <= a { a - b } else { 0 }
-}
-
 // The tile's pixel before which a sprite at column x of the visible area ends.
 fn visible_end(x: u8) -> usize
     ensures value { result ≡ visible_end x }
@@ -31,7 +24,7 @@ fn visible_end(x: u8) -> usize
     if WIDTH < x {
         return 8;
     }
-    small::smaller(small::wide(WIDTH - x), 8)
+    usize::from(WIDTH - x).min(8)
 }
 
 // Where a sprite with X byte h stands in the visible area, the early clock taking e off. One that is seen is marked at X, an unseen one at X + start.
@@ -41,16 +34,16 @@ fn sprite_line_settings_visible(e: u8, h: u8) -> Stand
     ensures fits { Fits result }
 {
     let seen = (BEFORE_X < h) & (h < END_X);
-    let x = minus(minus(h, START_X), e);
-    let start = minus(START_X + e, h);
-    let first = small::wide(start);
-    let mark = small::wide(h) + small::weight(!seen, first);
+    let x = h.saturating_sub(START_X).saturating_sub(e);
+    let start = (START_X + e).saturating_sub(h);
+    let first = usize::from(start);
+    let mark = usize::from(h) + small::weight(!seen, first);
     Stand {
         seen: seen,
-        x: small::wide(x),
+        x: usize::from(x),
         start: first,
         end: visible_end(x),
-        prio: small::wide(std::num::wrapping_sub_u8(x, start)),
+        prio: usize::from(x.wrapping_sub(start)),
         mark: mark,
     }
 }
@@ -61,14 +54,14 @@ fn sprite_line_settings_effective(e: u8, h: u8) -> Stand
     ensures value { result ≡ effective_stand e h }
     ensures fits { Fits result }
 {
-    let x = small::wide(std::num::wrapping_sub_u8(h, e));
+    let x = usize::from(h.wrapping_sub(e));
     Stand {
         seen: true,
         x: x,
         start: 0,
         end: 8,
         prio: x,
-        mark: small::wide(h),
+        mark: usize::from(h),
     }
 }
 
@@ -77,11 +70,7 @@ fn edge_end(width: usize, x: usize) -> usize
     ensures value { result ≡ min (width - x) 8 }
     ensures upper_bound { result ≤ 8 }
 {
-    if x < width {
-        small::smaller(width - x, 8)
-    } else {
-        0
-    }
+    width.saturating_sub(x).min(8)
 }
 
 // The same by true columns, on a row of `width` columns whose column 0 is at X byte `left`: what lies off the row neither draws nor marks.
@@ -90,13 +79,13 @@ fn sprite_line_settings_true(left: u8, width: usize, e: u8, h: u8) -> Stand
     ensures value { result ≡ edge_stand left width e h }
     ensures fits { Fits result }
 {
-    let x = minus(minus(h, left), e);
-    let start = minus(left + e, h);
-    let place = small::wide(x);
+    let x = h.saturating_sub(left).saturating_sub(e);
+    let start = (left + e).saturating_sub(h);
+    let place = usize::from(x);
     Stand {
         seen: true,
         x: place,
-        start: small::wide(start),
+        start: usize::from(start),
         end: edge_end(width, place),
         prio: place,
         mark: place,

@@ -1,5 +1,6 @@
 -- What a port call keeps: the raster, and that clean colours are the palette's.
 -- Assumes nothing.
+use Rattle.std.specs.Prelude.{None, Option, Some, ℕ}
 use mathlib.Core.Path.{◌≡◌, refl}
 use mathlib.Core.Bool.{Bool, false, ◌||◌}
 use mathlib.Core.List.{List}
@@ -13,9 +14,7 @@ use Rattle.laws.proofs.Tests.{either, neither}
 use Rattle.colour.specs.Colour.{colours_of}
 use Rattle.front.specs.declared.Front.{Front}
 use Rattle.vdp.specs.declared.VdpState.{VdpState}
-use Rattle.vdp.specs.declared.Written.{Written}
-use Rattle.front.specs.declared.Latch.{Latch}
-use Rattle.front.specs.declared.Latch.TheVariants.{Empty, Held}
+use Rattle.front.specs.declared.Written.{Written}
 use Rattle.vdp.specs.Device.{front_of, with_front}
 use Rattle.front.specs.Ports.{front_write}
 use Rattle.front.specs.Front.{changed}
@@ -37,8 +36,8 @@ unchanged : (p : List ℕ) (a low high : ℕ) → at p (a - 1) ≡ low → at p 
 unchanged p a low high l h = rw (← l, set-get_or p (a - 1) 0, ← h, set-get_or p a 0)
 
 module _ (d : VdpState) where
-  abbrev KeptW : Written → Type 0
-  KeptW r = Keeps d r.vdp
+  abbrev KeptW : Written VdpState → Type 0
+  KeptW r = Keeps d r.device
 
   -- any device with this raster, palette, dirty flag and cache
   alike : (d' : VdpState) → d'.raster ≡ d.raster → (Clean d → Clean d') → Keeps d d'
@@ -53,19 +52,19 @@ module _ (d : VdpState) where
       rw (unchanged d.cram a low high (same_byte _ low q.1) (same_byte _ high p.1)) (k q.0)
 
   -- any front will do
-  odd : (l : Latch) (f : Front) (v : ℕ) → KeptW (odd_palette l (with_front d f) v)
-  odd Empty f v = alike _ refl (λ k. k)
-  odd (Held low) f v = alike _ refl (recoloured f.addr low (v % 16))
+  odd : (l : Option ℕ) (f : Front) (v : ℕ) → KeptW (odd_palette l (with_front d f) v)
+  odd None f v = alike _ refl (λ k. k)
+  odd (Some low) f v = alike _ refl (recoloured f.addr low (v % 16))
 
   palette : (f : Front) (v : ℕ) → KeptW (palette_write (with_front d f) v)
   palette f v = either KeptW (eqb (f.addr % 2) 0) (λ _. alike _ refl (λ k. k)) (λ _. odd d.cram_byte1 f v)
 
-  pub write_keeps : (m : List ℕ) (p v : ℕ) → Keeps d (port_write d m p v).answer.vdp
+  pub write_keeps : (m : List ℕ) (p v : ℕ) → Keeps d (port_write d m p v).answer.device
   unfolding port_write
   write_keeps m p v =
       let a = (front_write 64 (front_of d) m p v).answer in
       either KeptW a.palette (λ _. palette a.front v) (λ _. alike _ refl (λ k. k))
 
-  pub read_keeps : (m : List ℕ) (p : ℕ) → Keeps d (port_read d m p).vdp
+  pub read_keeps : (m : List ℕ) (p : ℕ) → Keeps d (port_read d m p).device
   unfolding port_read
   read_keeps m p = alike _ refl (λ k. k)

@@ -7,15 +7,14 @@ use lib.ListN.{length}
 use Rattle.picture.specs.declared.RenderArea.{RenderArea}
 use Rattle.picture.specs.Screen.{columns}
 use Rattle.picture.specs.Area.{screen_of}
-use Rattle.raster.specs.declared.Raster.{Raster}
 use Rattle.vdp.specs.declared.VdpState.{VdpState}
 use Rattle.refusal.specs.Refusals.{Line, under}
 use Rattle.refusal.proofs.Tables.{under_map}
 use Rattle.points.specs.declared.Points.{Points}
-use Rattle.step.specs.declared.Stepped.{Stepped}
-use Rattle.points.specs.Points.{Reading, reading, row_lines, refused_points, points_of, points_with}
+use Rattle.points.specs.declared.Stepped.{Stepped}
+use Rattle.points.specs.Points.{row_lines, refused_points, points_of, points_with}
 use Rattle.points.specs.Bytes.{row_filled, RowPointsLeave, FramePointsLeave, also_layers, RowLayerPointsLeave}
-use Rattle.step.specs.Step.{colours_now, reading_of, joined, stepped, refused_step, step_with, row_step_of}
+use Rattle.step.specs.Step.{reading_of, joined, stepped, refused_step, step_with, row_step_of}
 use Rattle.step.specs.Layers.{layers_after, RowLayersLeave}
 use Rattle.step.specs.Frame.{row_after, frame_after, RowStepLeaves, FrameStepLeaves}
 use Rattle.points.proofs.Order.{under_also}
@@ -27,31 +26,25 @@ unfolding points_with step_with stepped
 joined_with ls a vram d =
     under_map (joined d) ls (λ r. refused_points r d.status d.raster) (points_of (screen_of a) vram (reading_of d))
 
--- what the points read, part by part
-pub reading_of_lem :
-    (d : VdpState) {reg : List ℕ} {raster : Raster} {status : ℕ} {colours : List ℕ} → reg ≡ d.reg → raster ≡ d.raster → status ≡ d.status →
-    colours ≡ colours_now d
-    → reading reg raster status colours ≡ reading_of d
-reading_of_lem d e f g h = λ i. reading (e i) (f i) (g i) (h i)
-
-module _ (a : RenderArea) (vram : List ℕ) (d : VdpState) {k : Reading} (ek : k ≡ reading_of d) {s : Stepped} {p : Points} (es : s ≡ joined d p) where
-  pub answered : (ls : List Line) → p ≡ points_with ls (screen_of a) vram k → s ≡ step_with ls a vram d
-  answered ls e = es ∙ ap (λ (x : Points). joined d x) (e ∙ ap (points_with ls (screen_of a) vram) ek) ∙ joined_with ls a vram d
+module _ (a : RenderArea) (vram : List ℕ) (d : VdpState) {s : Stepped VdpState} {p : Points} (es : s ≡ joined d p) where
+  pub answered : (ls : List Line) → p ≡ points_with ls (screen_of a) vram (reading_of d) → s ≡ step_with ls a vram d
+  answered ls e = es ∙ ap (λ (x : Points). joined d x) e ∙ joined_with ls a vram d
 
   module _ (b : List ℕ) {b' : List ℕ} where
-    pub row_joined : RowPointsLeave (screen_of a) vram k b p b' → RowStepLeaves a vram d b s b'
+    pub row_joined : RowPointsLeave (screen_of a) vram (reading_of d) b p b' → RowStepLeaves a vram d b s b'
     unfolding row_after
-    row_joined e = record { answer = answered _ e.answer; bytes = e.bytes ∙ rw ek }
+    row_joined e = record { answer = answered _ e.answer; bytes = e.bytes }
 
-    pub frame-joined : FramePointsLeave (screen_of a) vram k b p b' → FrameStepLeaves a vram d b s b'
+    pub frame-joined : FramePointsLeave (screen_of a) vram (reading_of d) b p b' → FrameStepLeaves a vram d b s b'
     unfolding frame_after
-    frame-joined e = record { answer = answered _ e.answer; bytes = e.bytes ∙ rw ek }
+    frame-joined e = record { answer = answered _ e.answer; bytes = e.bytes }
 
     module _ (layers : List ℕ) {layers' : List ℕ} where
-      pub row_layers_joined : RowLayerPointsLeave (screen_of a) vram k b layers p b' layers' → RowLayersLeave (columns (screen_of a)) a vram d b layers
+      pub row_layers_joined :
+          RowLayerPointsLeave (screen_of a) vram (reading_of d) b layers p b' layers' → RowLayersLeave (columns (screen_of a)) a vram d b layers
           s b' layers'
       unfolding layers_after
-      row_layers_joined e = record { answer = answered _ e.points.answer; bytes = e.points.bytes ∙ rw ek; owners = e.owners ∙ rw ek }
+      row_layers_joined e = record { answer = answered _ e.points.answer; bytes = e.points.bytes; owners = e.owners }
 
 -- with room for its layers, a row step answers and leaves in its pixels what it does without
 pub aside :

@@ -5,7 +5,7 @@ use Rattle.picture.specs.declared.RenderArea.{RenderArea}
 use Rattle.picture.specs.Area.{screen_of, columns, row_bytes}
 use Rattle.vdp.specs.declared.VdpState.{VdpState}
 use Rattle.refusal.specs.Refusals.{under}
-use Rattle.step.specs.declared.Stepped.{Stepped}
+use Rattle.points.specs.declared.Stepped.{Stepped}
 use Rattle.points.specs.Bytes.{row_filled, frame_filled}
 use Rattle.step.specs.Step.{colours_now, row_picture, reading_of, row_lines, frame_lines, row_step_of, frame_step_of}
 
@@ -21,10 +21,10 @@ unfoldable pub frame_after : RenderArea → List ℕ → VdpState → List ℕ �
 frame_after a vram d frame = under (frame_lines a vram (length frame)) (λ r. frame) (frame_filled (screen_of a) vram (reading_of d) frame)
 
 -- What the row step promises of its answer r and of the buffer after it, and the frame step of the frame.
-pub record RowStepLeaves (a : RenderArea) (vram : List ℕ) (d : VdpState) (buffer : List ℕ) (r : Stepped) (buffer' : List ℕ) : Type 0 where
+pub record RowStepLeaves (a : RenderArea) (vram : List ℕ) (d : VdpState) (buffer : List ℕ) (r : Stepped VdpState) (buffer' : List ℕ) : Type 0 where
   pub answer : r ≡ row_step_of a vram (length buffer) d
   pub bytes : buffer' ≡ row_after a vram d buffer
 
-pub record FrameStepLeaves (a : RenderArea) (vram : List ℕ) (d : VdpState) (frame : List ℕ) (r : Stepped) (frame' : List ℕ) : Type 0 where
+pub record FrameStepLeaves (a : RenderArea) (vram : List ℕ) (d : VdpState) (frame : List ℕ) (r : Stepped VdpState) (frame' : List ℕ) : Type 0 where
   pub answer : r ≡ frame_step_of a vram (length frame) d
   pub bytes : frame' ≡ frame_after a vram d frame

@@ -5,7 +5,7 @@ use Rattle.picture.specs.declared.RenderArea.{RenderArea}
 use Rattle.picture.specs.Area.{screen_of, layers_of}
 use Rattle.vdp.specs.declared.VdpState.{VdpState}
 use Rattle.refusal.specs.Refusals.{Line, under}
-use Rattle.step.specs.declared.Stepped.{Stepped}
+use Rattle.points.specs.declared.Stepped.{Stepped}
 use Rattle.points.specs.Bytes.{also_layers, row_filled, layers_under}
 use Rattle.step.specs.Step.{reading_of, row_lines, step_with}
 
@@ -19,13 +19,13 @@ layers_after lines a vram d layers = layers_under lines (screen_of a) vram (read
 
 -- What a step that asks for `least` layers promises of its answer r, of its pixels and of the layer buffer: `lines` are those of the step without layers,
 -- and `filled` is what an accepted one leaves in the pixels.
-pub record LayersLeave (least : ℕ) (lines : List Line) (a : RenderArea) (vram : List ℕ) (d : VdpState) (pixels filled layers : List ℕ) (r : Stepped)
+pub record LayersLeave (least : ℕ) (lines : List Line) (a : RenderArea) (vram : List ℕ) (d : VdpState) (pixels filled layers : List ℕ) (r : Stepped VdpState)
     (pixels' layers' : List ℕ) : Type 0 where
   pub answer : r ≡ step_with (also_layers least (length layers) lines) a vram d
   pub bytes : pixels' ≡ under (also_layers least (length layers) lines) (λ q. pixels) filled
   pub owners : layers' ≡ layers_after (also_layers least (length layers) lines) a vram d layers
 
 -- the same of a row buffer
-abbrev pub RowLayersLeave : ℕ → RenderArea → List ℕ → VdpState → List ℕ → List ℕ → Stepped → List ℕ → List ℕ → Type 0
+abbrev pub RowLayersLeave : ℕ → RenderArea → List ℕ → VdpState → List ℕ → List ℕ → Stepped VdpState → List ℕ → List ℕ → Type 0
 RowLayersLeave least a vram d row layers r row' layers' =
     LayersLeave least (row_lines a vram (length row)) a vram d row (row_filled (screen_of a) vram (reading_of d) row) layers r row' layers'

@@ -5,10 +5,11 @@ use mathlib.Core.Bool.{Bool, true, false, not, ◌||◌}
 use Prim.Native.Nat.{ℕ, zero, suc, ◌+◌, ◌-◌, ◌*◌, ◌/◌, ◌%◌, ◌^◌, ◌<◌, ◌≤◌}
 use native.Mathlib.Nat.{not-suc-le-zero, mod-lt, mod-le, one-mul, div-one}
 use native.Mathlib.Omega.{arith}
-use lib.Bits.{bit_and, bit_or}
+use lib.Bits.{bit_or}
 use lib.Dec.{eqb}
 use lib.Arith.{lt-one}
 use lib.Pow.{shr-shr, shr_le, shl_exact, pow-add, pow_pos}
+use Rattle.std.specs.Int.{w8, w64, reverse_bits, reverse_bits_onto, swap_bytes}
 use Rattle.laws.specs.Bits.{bit, digit, number}
 use Rattle.laws.proofs.Bits.{bit-or, number_ext, number_bit, bit_shr, bit_mod}
 use Rattle.laws.proofs.Sweep.{same}
@@ -90,33 +91,20 @@ lanes_is (suc n) w f h e =
     )
 
 -- ---- the bits of a byte in the other order, by a sweep over all bytes
-reverses : ℕ → ℕ
-reverses b =
-    let x = bit_or (b * 16 % 256) (b / 16) in
-    let y = bit_or (bit_and x 0x33 * 4 % 256) (bit_and (x / 4) 0x33) in
-    bit_or (bit_and y 0x55 * 2 % 256) (bit_and (y / 2) 0x55)
+pub reversed_is : (b : ℕ) → b < 256 → reverse_bits w8 b ≡ number 8 (λ k. bit b (7 - k))
+unfolding number bit reverse_bits_onto
+reversed_is b h = same 256 (reverse_bits w8) (λ b. number 8 (λ k. bit b (7 - k))) tt b h
 
-pub reversed_is : (b x y : ℕ) → b < 256 → x ≡ bit_or (b * 16 % 256) (b / 16) → y ≡ bit_or (bit_and x 0x33 * 4 % 256) (bit_and (x / 4) 0x33)
-    → bit_or (bit_and y 0x55 * 2 % 256) (bit_and (y / 2) 0x55) ≡ number 8 (λ k. bit b (7 - k))
-unfolding reverses number bit
-reversed_is b x y h e q = rw (q, e) (same 256 reverses (λ b. number 8 (λ k. bit b (7 - k))) tt b h)
-
--- ---- the lanes in the other order, by fours
-pub half_mirrored_is : (w : ℕ) → w / 16777216 % 256 + w / 65536 % 256 * 256 + w / 256 % 256 * 65536 + w % 256 * 16777216 ≡ lanes 4 (λ k. lane w (3 - k))
+-- ---- the lanes in the other order
+pub mirrored_is : (w : ℕ) → swap_bytes w64 w ≡ lanes 8 (λ k. lane w (7 - k))
 unfolding lanes lane
-half_mirrored_is w =
-    let four : (a b c d : ℕ) → a + b * 256 + c * 65536 + d * 16777216 ≡ a + 256 * (b + 256 * (c + 256 * (d + 256 * 0))) = λ a b c d. omega arith in
-    ap (λ (d : ℕ). w / 16777216 % 256 + w / 65536 % 256 * 256 + w / 256 % 256 * 65536 + d * 16777216) (sym (lane_zero w))
-    ∙ four (w / 16777216 % 256) (w / 65536 % 256) (w / 256 % 256) (lane w 0)
-
-pub mirrored_is : (w : ℕ) {a b : ℕ} → a ≡ lanes 4 (λ k. lane (w / 4294967296) (3 - k)) → b ≡ lanes 4 (λ k. lane w (3 - k))
-    → a + b * 4294967296 ≡ lanes 8 (λ k. lane w (7 - k))
-unfolding lanes
-mirrored_is w p q =
-    let eight : (a b c d e f g h : ℕ) → a + 256 * (b + 256 * (c + 256 * (d + 256 * 0))) + (e + 256 * (f + 256 * (g + 256 * (h + 256 * 0)))) * 4294967296
-    ≡ a + 256 * (b + 256 * (c + 256 * (d + 256 * (e + 256 * (f + 256 * (g + 256 * (h + 256 * 0))))))) = λ a b c d e f g h. omega arith in
-    rw (p, q, lane_past w 4 3, lane_past w 4 2, lane_past w 4 1, lane_past w 4 0)
-    (eight (lane w 7) (lane w 6) (lane w 5) (lane w 4) (lane w 3) (lane w 2) (lane w 1) (lane w 0))
+mirrored_is w =
+    let eight : (a b c d e f g h : ℕ) →
+    a * 72057594037927936 + b * 281474976710656 + c * 1099511627776 + d * 4294967296 + e * 16777216 + f * 65536 + g * 256 + h
+    ≡ h + 256 * (g + 256 * (f + 256 * (e + 256 * (d + 256 * (c + 256 * (b + 256 * (a + 256 * 0))))))) = λ a b c d e f g h. omega arith in
+    ap (λ (a : ℕ). a * 72057594037927936 + lane w 1 * 281474976710656 + lane w 2 * 1099511627776 + lane w 3 * 4294967296 + lane w 4 * 16777216
+    + lane w 5 * 65536 + lane w 6 * 256 + lane w 7) (sym (lane_zero w))
+    ∙ eight (lane w 0) (lane w 1) (lane w 2) (lane w 3) (lane w 4) (lane w 5) (lane w 6) (lane w 7)
 
 lanes_ext : (n : ℕ) (f g : ℕ → ℕ) → ((k : ℕ) → k < n → f k ≡ g k) → lanes n f ≡ lanes n g
 unfolding lanes

@@ -6,7 +6,13 @@ use mathlib.Core.List.{List}
 use Prim.Native.Nat.{ℕ, zero, suc, ◌+◌, ◌*◌, ◌<◌, ◌≤◌}
 use native.Mathlib.Nat.{add-zero, zero-add, add_assoc}
 use native.Mathlib.Omega.{arith}
-use lib.Seq.{set-get_or}
+use lib.ListN.{length}
+use lib.Seq.{set-get_or, paste-zero}
+use lib.Dec.{lit<}
+use borrow.Rule.Slice.PartMut.{put_mid}
+use Rattle.std.specs.Int.{w32, to_le_bytes}
+use Rattle.std.proofs.lemmas.Slice.{put_mid-paste}
+use Rattle.laws.proofs.Lists.{fill_step}
 use Rattle.laws.specs.Lists.{at}
 use Rattle.laws.specs.Bits.{bit}
 use Rattle.laws.specs.Paint.{put, put_if, painted, overlaid, of_bytes, four_at}
@@ -14,6 +20,19 @@ use Rattle.laws.proofs.Paint.{painted_step, painted_cong, painted_join, put_othe
 use Rattle.laws.proofs.Bytes.{byte_0, byte_1, byte_2, byte_3}
 use Rattle.tile.specs.Fours.{fours, one_of, chosen_of}
 use Rattle.tile.specs.declared.Four.{Four}
+
+-- the four bytes of a colour in the place of those of pixel x
+pub stored_is :
+    (row : List ℕ) (x c : ℕ) {ys : List ℕ} {n : ℕ} → n ≡ 4 → x * 4 + 4 ≤ length row → ys ≡ to_le_bytes w32 c → put_mid (x * 4) n row ys ≡ put row x c
+unfolding put
+stored_is row x c {ys} e h q =
+    let k = x * 4 in
+    let s : List ℕ = to_le_bytes w32 c in
+    let p1 = fill_step row k s 0 (omega arith) (lit< tt) (sym (add-zero k)) refl (paste-zero row k s) in
+    let p2 = fill_step row k s 1 (omega arith) (lit< tt) refl refl p1 in
+    let p3 = fill_step row k s 2 (omega arith) (lit< tt) refl refl p2 in
+    let p4 = fill_step row k s 3 (omega arith) (lit< tt) refl refl p3 in
+    put_mid-paste k _ row ys s 4 q (sym e) refl ∙ sym p4
 
 put_same : (row : List ℕ) (x : ℕ) → ((k : ℕ) → x * 4 ≤ k → at row k < 256) → put row x
     (of_bytes (at row (x * 4)) (at row (x * 4 + 1)) (at row (x * 4 + 2)) (at row (x * 4 + 3))) ≡ row

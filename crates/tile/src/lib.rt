@@ -50,10 +50,7 @@ pub fn pixel_set_full(row: &mut [u8], x: usize, c: u32)
     ensures { row.new ≡ put row.old x c }
 {
     let k = x * 4;
-    row[k] = (c % 256) as u8;
-    row[k + 1] = (c / 256 % 256) as u8;
-    row[k + 2] = (c / 65536 % 256) as u8;
-    row[k + 3] = (c / 16777216 % 256) as u8;
+    row[k..k + 4].copy_from_slice(&c.to_le_bytes());
 }
 
 // The same where `shown`; else the row stays.
@@ -77,22 +74,11 @@ fn exchanged(x: u64, s: usize, m: u64) -> u64
     x ^ t ^ t << s
 }
 
-// The four lowest lanes in the other order.
-fn half_mirrored(w: u64) -> u64
-    ensures value { result ≡ lanes 4 (λ k. lane w (3 - k)) }
-    ensures upper_bound { result < 4294967296 }
-{
-    w / 0x01000000 % 256
-        + w / 0x00010000 % 256 * 0x00000100
-        + w / 0x00000100 % 256 * 0x00010000
-        + w % 256 * 0x01000000
-}
-
-// The lanes in the other order, which the compiler makes one instruction.
+// The lanes in the other order.
 fn mirrored(w: u64) -> u64
     ensures { result ≡ lanes 8 (λ k. lane w (7 - k)) }
 {
-    half_mirrored(w / 0x0000000100000000) + half_mirrored(w) * 0x0000000100000000
+    w.swap_bytes()
 }
 
 // The codes of a line whose four bytes are the lanes of x, the leftmost pixel's in lane 0. The bits of x stand in rows of eight, a byte to a row; with rows
@@ -100,7 +86,7 @@ fn mirrored(w: u64) -> u64
 fn codes_of(flip: bool, x: u32) -> u64
     ensures { result ≡ lanes 8 (λ k. code_of (lane x 0) (lane x 1) (lane x 2) (lane x 3) (7 - turned flip k)) }
 {
-    let long = x as u64;
+    let long = u64::from(x);
     let fours = (long | long << 28) & 0x0F0F0F0F0F0F0F0F;
     let twos = exchanged(fours, 14, 0x0000CCCC0000CCCC);
     let w = exchanged(twos, 7, 0x00AA00AA00AA00AA);
@@ -119,9 +105,7 @@ fn solid_of(x: u32) -> u8
 fn reversed(b: u8) -> u8
     ensures { result ≡ number 8 (λ k. bit b (7 - k)) }
 {
-    let x = b << 4 | b >> 4;
-    let y = (x & 0x33) << 2 | x >> 2 & 0x33;
-    (y & 0x55) << 1 | y >> 1 & 0x55
+    b.reverse_bits()
 }
 
 // A bit for each pixel of that line, the leftmost's lowest.
@@ -169,7 +153,7 @@ fn cut(bits: u8, start: usize, n: usize) -> u8
     ensures { result ≡ number n (λ k. bit bits (start + k)) }
 {
     let low: usize = 1 << n;
-    ((small::wide(bits) >> start) % low) as u8
+    ((usize::from(bits) >> start) % low) as u8
 }
 
 // ---- the background
@@ -182,12 +166,10 @@ fn paint(row: &mut [u8], colours: &[u32], palette: usize, x: usize, codes: u64, 
     let top = palette + 16;
     let some = &colours[palette..top];
     let mut w = codes;
-    let mut i: usize = 0;
-    while i < n {
+    for i in 0..n {
         let c = (w % 256) as usize;
         pixel_set_full(row, x + i, some[c]);
-        w = w / 256;
-        i += 1;
+        w /= 256;
     }
 }
 
@@ -199,10 +181,8 @@ fn paint_colours(row: &mut [u8], colours: &[u32])
     ensures row_after { row.new ≡ colour_bytes colours.now }
     ensures row_after_2 { colours_in row.new ≡ colours.now }
 {
-    let mut i: usize = 0;
-    while i < 32 {
+    for i in 0..32 {
         pixel_set_full(row, i, colours[i]);
-        i += 1;
     }
 }
 
@@ -313,7 +293,7 @@ fn in_row(width: usize, x: usize) -> u8
     if width <= x {
         return 0;
     }
-    cut(255, 0, small::smaller(width - x, 8))
+    cut(255, 0, (width - x).min(8))
 }
 
 // The colours in palette 1 that the first n lanes name, from pixel x of the row on, where `drawn` has their bits.
@@ -322,12 +302,10 @@ fn overlay_some(row: &mut [u8], colours: &[u32; 32], x: usize, codes: u64, n: us
     ensures { row.new ≡ overlaid row.old x n (bit drawn) (λ k. at colours.now (16 + lane codes k)) }
 {
     let mut w = codes;
-    let mut i: usize = 0;
-    while i < n {
+    for i in 0..n {
         let c = 16 + (w % 256) as usize;
         pixel_set_if(small::is_set(drawn, i), row, x + i, colours[c]);
-        w = w / 256;
-        i += 1;
+        w /= 256;
     }
 }
 
@@ -447,7 +425,7 @@ pub fn character_line_sprite(
     ensures row_after { row.new ≡ overlaid row.old x 8 (line_drawn vram.now addr start end held taken width x) (sprite_colour colours.now vram.now addr start) }
     ensures marks_value { (result.marks ≡ byte_of (line_marked vram.now addr start end held)) × (result.drawn ≡ byte_of (line_drawn vram.now addr start end held taken width x)) × (result.held ≡ byte_of (line_held vram.now addr start end held)) }
 {
-    if small::both(small::both(start == 0, end == 8), x + 8 <= width) {
+    if start == 0 && end == 8 && x + 8 <= width {
         return sprite_whole(row, vram, table, addr, held, taken, width, x);
     }
     sprite_columns(row, vram, colours, addr, held, taken, width, x, start, end)
@@ -482,8 +460,7 @@ pub fn own_columns(layers: &mut [u8], width: usize, x: usize, n: usize, drawn: u
     requires { (width ≤ length layers.old) × (x < 65536) × (n < 64) }
     ensures { layers.new ≡ stamped layers.old width x n drawn held 8 }
 {
-    let mut i: usize = 0;
-    while i < 8 {
+    for i in 0..8 {
         own_column(
             layers,
             width,
@@ -492,6 +469,5 @@ pub fn own_columns(layers: &mut [u8], width: usize, x: usize, n: usize, drawn: u
             small::is_set(drawn, i),
             small::is_set(held, i),
         );
-        i += 1;
     }
 }

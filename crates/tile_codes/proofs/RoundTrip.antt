@@ -1,5 +1,6 @@
 -- The way in matches the way out.
 -- Assumes nothing.
+use Rattle.std.specs.Prelude.{Ok}
 use mathlib.Core.Path.{◌≡◌, refl, sym, ap, ◌∙◌}
 use mathlib.Core.Bool.{Bool, true, false, cond}
 use mathlib.Core.List.{List}
@@ -18,7 +19,6 @@ use Rattle.laws.proofs.Tables.{is_table}
 use Rattle.laws.proofs.Tests.{split}
 use Rattle.picture.specs.Tile.{code_at, entry_code, tile_line, turned}
 use Rattle.picture.specs.Picture.{tall, sprite_line}
-use Rattle.refusal.specs.declared.Refusal.TheVariants.{Accepted}
 use Rattle.refusal.specs.Refusals.{refusal_number, whole}
 use Rattle.tile_codes.specs.Tiles.{codes_at, tile_bytes}
 use Rattle.tile_codes.specs.Calls.{any_high, read_tile_refusal, write_tile_refusal, tile_written, tile_read}
@@ -42,7 +42,7 @@ pub record Taken (vram : List ℕ) (n size : ℕ) : Type 0 where
   pub few : n ≤ 511
   pub many : size ≡ 64
 
-pub read_taken : (vram : List ℕ) (n size : ℕ) → read_tile_refusal vram n size ≡ Accepted → Taken vram n size
+pub read_taken : (vram : List ℕ) (n size : ℕ) → read_tile_refusal vram n size ≡ (Ok tt) → Taken vram n size
 unfolding read_tile_refusal
 read_taken vram n size e =
     split (whole vram)
@@ -53,7 +53,7 @@ read_taken vram n size e =
     (λ u. let z = ap refusal_number (simp (t, u) at e) in absurd (omega (arith, z))))
     (λ t. let z = ap refusal_number (simp t at e) in absurd (omega (arith, z)))
 
-pub write_taken : (vram : List ℕ) (n : ℕ) (codes : List ℕ) → write_tile_refusal vram n codes ≡ Accepted → Taken vram n (length codes) ×
+pub write_taken : (vram : List ℕ) (n : ℕ) (codes : List ℕ) → write_tile_refusal vram n codes ≡ (Ok tt) → Taken vram n (length codes) ×
     (any_high codes ≡ false)
 unfolding write_tile_refusal
 write_taken vram n codes e =
@@ -67,21 +67,21 @@ write_taken vram n codes e =
     (λ u. let z = ap refusal_number (simp (t, u) at e) in absurd (omega (arith, z))))
     (λ t. let z = ap refusal_number (simp t at e) in absurd (omega (arith, z)))
 
-pub reads : (vram : List ℕ) (n size : ℕ) → Taken vram n size → read_tile_refusal vram n size ≡ Accepted
+pub reads : (vram : List ℕ) (n size : ℕ) → Taken vram n size → read_tile_refusal vram n size ≡ (Ok tt)
 unfolding read_tile_refusal
 reads vram n size g = rw (eq-eqb (length vram) 16384 g.mem, le-leb n 511 g.few, eq-eqb size 64 g.many)
 
-pub writes : (vram : List ℕ) (n : ℕ) (codes : List ℕ) → Taken vram n (length codes) → any_high codes ≡ false → write_tile_refusal vram n codes ≡ Accepted
+pub writes : (vram : List ℕ) (n : ℕ) (codes : List ℕ) → Taken vram n (length codes) → any_high codes ≡ false → write_tile_refusal vram n codes ≡ (Ok tt)
 unfolding write_tile_refusal
 writes vram n codes g h = rw (eq-eqb (length vram) 16384 g.mem, le-leb n 511 g.few, eq-eqb (length codes) 64 g.many, h)
 
 -- ---- what it left
-pub wrote : (vram : List ℕ) (n : ℕ) (codes : List ℕ) → write_tile_refusal vram n codes ≡ Accepted → tile_written vram n codes ≡ written vram (32 * n)
+pub wrote : (vram : List ℕ) (n : ℕ) (codes : List ℕ) → write_tile_refusal vram n codes ≡ (Ok tt) → tile_written vram n codes ≡ written vram (32 * n)
     (tile_bytes (at codes))
 unfolding tile_written
 wrote vram n codes e = rw e
 
-pub read : (vram : List ℕ) (n : ℕ) (buffer : List ℕ) → read_tile_refusal vram n (length buffer) ≡ Accepted → tile_read vram n buffer ≡ codes_at (at vram)
+pub read : (vram : List ℕ) (n : ℕ) (buffer : List ℕ) → read_tile_refusal vram n (length buffer) ≡ (Ok tt) → tile_read vram n buffer ≡ codes_at (at vram)
     (32 * n)
 unfolding tile_read
 read vram n buffer e = rw e
@@ -101,7 +101,7 @@ unfolding sprite_line
 sprite_at g tile d n e = omega (arith, e, base (bit (g 6) 2))
 
 -- ---- codes written
-module _ (vram : List ℕ) (n : ℕ) (codes : List ℕ) (e : write_tile_refusal vram n codes ≡ Accepted) where
+module _ (vram : List ℕ) (n : ℕ) (codes : List ℕ) (e : write_tile_refusal vram n codes ≡ (Ok tt)) where
   g : Taken vram n (length codes)
   g = (write_taken vram n codes e).0
 
@@ -159,7 +159,7 @@ module _ (vram : List ℕ) (n : ℕ) (codes : List ℕ) (e : write_tile_refusal 
       }
 
 -- ---- bytes read
-module _ (vram : List ℕ) (n : ℕ) (buffer : List ℕ) (bytes : (k : ℕ) → at vram k < 256) (e : read_tile_refusal vram n (length buffer) ≡ Accepted) where
+module _ (vram : List ℕ) (n : ℕ) (buffer : List ℕ) (bytes : (k : ℕ) → at vram k < 256) (e : read_tile_refusal vram n (length buffer) ≡ (Ok tt)) where
   given : Taken vram n (length buffer)
   given = read_taken vram n (length buffer) e
 
@@ -177,7 +177,7 @@ module _ (vram : List ℕ) (n : ℕ) (buffer : List ℕ) (bytes : (k : ℕ) → 
       same_byte (at vram) (32 * n) c (λ k q. code_got (at vram) (32 * n) k q) j l (bytes (32 * n + j))
       ∙ sym (get_or-take 32 (drop (32 * n) vram) j 0 l ∙ get_or-drop (32 * n) vram j 0))
 
-  accepted : write_tile_refusal vram n (codes_at (at vram) (32 * n)) ≡ Accepted
+  accepted : write_tile_refusal vram n (codes_at (at vram) (32 * n)) ≡ (Ok tt)
   accepted =
       let c = codes_at (at vram) (32 * n) in
       let l = codes_long (at vram) (32 * n) in

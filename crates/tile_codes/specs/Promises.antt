@@ -1,11 +1,10 @@
 -- R14.1 to R14.5: what an author relies on: the way in matches the way out.
 -- Assumes nothing.
-use Rattle.std.specs.Prelude.{◌≡◌, ◌↔◌, cond, List, ℕ, ◌+◌, ◌*◌, ◌/◌, ◌%◌, ◌<◌, ◌≤◌, length, take, drop}
+use Rattle.std.specs.Prelude.{◌≡◌, ◌↔◌, cond, List, ℕ, ◌+◌, ◌*◌, ◌/◌, ◌%◌, ◌<◌, ◌≤◌, length, take, drop, Ok}
 use Rattle.laws.specs.Bits.{bit, digit}
 use Rattle.laws.specs.Lists.{at, written}
 use Rattle.picture.specs.Tile.{code_at, entry_code, turned}
 use Rattle.picture.specs.Picture.{tall, sprite_line}
-use Rattle.refusal.specs.declared.Refusal.TheVariants.{Accepted}
 use Rattle.tile_codes.specs.Calls.{write_tile_refusal, tile_written, tile_read}
 use Rattle.tile_codes.specs.Sheet.{bad_line, converted}
 
@@ -30,7 +29,7 @@ pub record Imported (vram : List ℕ) (n : ℕ) (codes : List ℕ) : Type 0 wher
 
 -- Of an accepted read of tile n. What it gave a write takes, and the bytes are the same.
 pub record Exported (vram : List ℕ) (n : ℕ) (buffer : List ℕ) : Type 0 where
-  pub taken : write_tile_refusal vram n (tile_read vram n buffer) ≡ Accepted
+  pub taken : write_tile_refusal vram n (tile_read vram n buffer) ≡ (Ok tt)
   pub same : tile_written vram n (tile_read vram n buffer) ≡ vram
 
 -- R14.5: a sheet, 1 to 256 tiles, one byte a code

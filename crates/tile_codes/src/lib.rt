@@ -45,10 +45,8 @@ fn put_tile(dst: &mut [u8], to: usize, codes: &[u8], from: usize)
     requires { (to + 32 ≤ length dst.old) × (from + 64 ≤ length codes.now) }
     ensures { dst.new ≡ written dst.old to (tile_bytes (λ k. at codes.now (from + k))) }
 {
-    let mut j = 0;
-    while j < 32 {
+    for j in 0..32 {
         dst[to + j] = plane_byte(codes, from + 8 * (j / 4), j % 4);
-        j += 1;
     }
 }
 
@@ -57,70 +55,67 @@ fn get_tile(src: &[u8], from: usize, codes: &mut [u8])
     requires { (from + 32 ≤ length src.now) × (length codes.old ≡ 64) }
     ensures { codes.new ≡ codes_at (at src.now) from }
 {
-    let mut k = 0;
-    while k < 64 {
+    for k in 0..64 {
         let line = from + 4 * (k / 8);
         codes[k] = code_at(src, line, line + 1, line + 2, line + 3, 7 - k % 8);
-        k += 1;
     }
 }
 
-// Whether a code is above 15.
+// Whether a code is above 15. (A loop and no `any`: what the toolchain makes of it answers otherwise on a processor of 32 bits.)
 fn any_high(codes: &[u8]) -> bool
     ensures { result ≡ any_high codes.now }
 {
     let mut high = false;
-    let mut i = 0;
-    while i < codes.len() {
+    for i in 0..codes.len() {
         high = (15 < codes[i]) | high;
-        i += 1;
     }
     high
 }
 
 // Tile n becomes the one of these codes.
-pub fn write_tile(vram: &mut [u8], n: u16, codes: &[u8]) -> Refusal
+pub fn write_tile(vram: &mut [u8], n: u16, codes: &[u8]) -> Result<(), Refusal>
     ensures { WriteLeaves vram.old n codes.now result vram.new }
 {
     if vram.len() != small::VRAM_SIZE {
-        return Refusal::VramLength;
+        return Err(Refusal::VramLength);
     }
     if 511 < n {
-        return Refusal::UnknownTile;
+        return Err(Refusal::UnknownTile);
     }
     if codes.len() != 64 {
-        return Refusal::CodesLength;
+        return Err(Refusal::CodesLength);
     }
     if any_high(codes) {
-        return Refusal::HighCode;
+        return Err(Refusal::HighCode);
     }
-    put_tile(vram, 32 * (n as usize), codes, 0);
-    Refusal::Accepted
+    put_tile(vram, 32 * usize::from(n), codes, 0);
+    Ok(())
 }
 
 // The codes of tile n.
-pub fn read_tile(vram: &[u8], n: u16, codes: &mut [u8]) -> Refusal
+pub fn read_tile(vram: &[u8], n: u16, codes: &mut [u8]) -> Result<(), Refusal>
     ensures { ReadLeaves vram.now n codes.old result codes.new }
 {
     if vram.len() != small::VRAM_SIZE {
-        return Refusal::VramLength;
+        return Err(Refusal::VramLength);
     }
     if 511 < n {
-        return Refusal::UnknownTile;
+        return Err(Refusal::UnknownTile);
     }
     if codes.len() != 64 {
-        return Refusal::CodesLength;
+        return Err(Refusal::CodesLength);
     }
-    get_tile(vram, 32 * (n as usize), codes);
-    Refusal::Accepted
+    get_tile(vram, 32 * usize::from(n), codes);
+    Ok(())
 }
 
 // Whether the input is a sheet: 1 to 256 tiles of 64 codes, none above 15.
+#[tactic(auto, unfolding(crate::specs::Sheet::is_sheet))]
 fn is_sheet(input: &[u8]) -> bool
     ensures { result ≡ is_sheet input.now }
 {
     let n = input.len() / 64;
-    (input.len() % 64 == 0) & (1 <= n) & (n <= 256) & !any_high(input)
+    input.len() % 64 == 0 && 1 <= n && n <= 256 && !any_high(input)
 }
 
 // The bytes of a sheet's tiles, or the line `bad`, at the start of out, and how many they are. Without room for 256 tiles nothing happens.
@@ -136,10 +131,8 @@ pub fn sheet(input: &[u8], out: &mut [u8]) -> usize
         return 4;
     }
     let tiles = input.len() / 64;
-    let mut n = 0;
-    while n < tiles {
+    for n in 0..tiles {
         put_tile(out, 32 * n, input, 64 * n);
-        n += 1;
     }
-    32 * n
+    32 * tiles
 }

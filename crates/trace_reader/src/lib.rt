@@ -12,7 +12,7 @@ pub fn past_record(s: &[u8], at: usize) -> usize
     ensures { result ≡ past s.now at }
 {
     let call = trace_record::record_at(s, at);
-    at + trace_record::size_of(call) as usize
+    at + usize::from(trace_record::size_of(call))
 }
 
 // Whether this offset is at the end, or past it.

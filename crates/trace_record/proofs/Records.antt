@@ -1,5 +1,6 @@
 -- Laws of one record: where it lies, what room it has, and what the writer leaves.
 -- Assumes nothing.
+use Rattle.std.specs.Prelude.{Err, Ok}
 use mathlib.Core.Path.{◌≡◌, refl, sym, ap, ◌∙◌}
 use mathlib.Core.Bool.{Bool, true, false}
 use mathlib.Core.List.{List, []}
@@ -10,7 +11,7 @@ use lib.Dec.{ltb, leb, eqb}
 use lib.ListN.{length, take}
 use Rattle.laws.specs.Lists.{at, written}
 use Rattle.laws.proofs.Tests.{either, split, clash}
-use Rattle.refusal.specs.declared.Refusal.TheVariants.{Accepted, RecordRoom}
+use Rattle.refusal.specs.declared.Refusal.TheVariants.{RecordRoom}
 use Rattle.trace_record.specs.declared.Record.{Record}
 use Rattle.trace_record.specs.declared.Record.TheVariants.{Write, Read, Step, Bad, End}
 use Rattle.trace_record.specs.Record.{record_at, marked}
@@ -75,15 +76,15 @@ module _ (s : List ℕ) (k : ℕ) (x : Record) {c : ℕ} {b : Bool} (count : c �
   too_long_lem : b ≡ false → ltb (length s) (k + size x) ≡ true
   too_long_lem t = let h = leb-false (k + c) (length s) (sym room ∙ t) in lt-ltb (length s) (k + size x) (omega arith)
 
-  pub left_full : b ≡ false → RecordLeaves s k x (record { refusal = RecordRoom; count = 0 }) s
+  pub left_full : b ≡ false → RecordLeaves s k x (Err RecordRoom) s
   unfolding recorded
-  left_full t = let e = too_long_lem t in record { refusal = simp e; count = simp e; recording = simp e }
+  left_full t = let e = too_long_lem t in record { answer = simp e; recording = simp e }
 
   pub left_stored :
       b ≡ true → (l : List ℕ) → take (size x) l ≡ record_bytes x → {s' : List ℕ} → s' ≡ written s k (take c l)
-      → RecordLeaves s k x (record { refusal = Accepted; count = c }) s'
+      → RecordLeaves s k x (Ok c) s'
   unfolding recorded
   left_stored t l f q =
       let h = leb-true (k + c) (length s) (sym room ∙ t) in
       let e : ltb (length s) (k + size x) ≡ false = le-ltb (length s) (k + size x) (omega arith) in
-      record { refusal = simp e; count = simp e count; recording = simp e (q ∙ ap (written s k) (bytes_are x count l f)) }
+      record { answer = simp e (ap Ok count); recording = simp e (q ∙ ap (written s k) (bytes_are x count l f)) }

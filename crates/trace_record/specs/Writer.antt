@@ -1,20 +1,14 @@
 -- R19.1, R19.2: a record put behind those that a recording has.
 -- Assumes nothing.
-use Rattle.std.specs.Prelude.{◌≡◌, List, [], ◌∷◌, ℕ, ◌+◌, ltb, length}
+use Rattle.std.specs.Prelude.{◌≡◌, List, [], ◌∷◌, ℕ, ◌+◌, ltb, length, Result, Err}
 use Rattle.laws.specs.Lists.{written}
-use Rattle.picture.specs.declared.RenderArea.{RenderArea}
-use Rattle.picture.specs.declared.RenderArea.TheVariants.{VisibleOnly, EffectiveArea, TrueEdges}
+use Rattle.refusal.specs.declared.Refusal.{Refusal}
 use Rattle.refusal.specs.declared.Refusal.TheVariants.{RecordRoom}
-use Rattle.refusal.specs.Refusals.{Line, line, first, under}
+use Rattle.refusal.specs.Refusals.{Line, line, first, under, answered}
 use Rattle.trace_record.specs.declared.Record.{Record}
 use Rattle.trace_record.specs.declared.Record.TheVariants.{Write, Read, Step, Bad, End}
-use Rattle.trace_record.specs.declared.Recorded.{Recorded}
-
 -- R7.9: the number of an area
-abbrev pub area_number : RenderArea → ℕ
-area_number VisibleOnly = 0
-area_number EffectiveArea = 1
-area_number TrueEdges = 2
+pub use Rattle.picture.specs.Area.{area_number}
 
 -- R7.9: the bytes of a record: `PW` port value, `PR` port, `LS` area; a bad one and the end are none
 abbrev pub record_bytes : Record → List ℕ
@@ -29,14 +23,13 @@ size x = length (record_bytes x)
 
 -- R19.2, refusal 18: the record is longer than the room from offset k to the end of s; past the end there is none
 abbrev pub record_lines : List ℕ → ℕ → Record → List Line
-record_lines s k x = line (ltb (length s) (k + size x)) RecordRoom ∷ []
+record_lines s k x = line (ltb (length s) (k + size x)) (Err RecordRoom) ∷ []
 
 -- R19.1: the recording with the record in its bytes from offset k on, and all others as they were; refused, it stays
 unfoldable pub recorded : List ℕ → ℕ → Record → List ℕ
 recorded s k x = under (record_lines s k x) (λ r. s) (written s k (record_bytes x))
 
--- What the writer promises of its answer r, and of the recording after it.
-pub record RecordLeaves (s : List ℕ) (k : ℕ) (x : Record) (r : Recorded) (s' : List ℕ) : Type 0 where
-  pub refusal : r.refusal ≡ first (record_lines s k x)
-  pub count : r.count ≡ under (record_lines s k x) (λ r. 0) (size x)
+-- What the writer promises of its answer r, the bytes that the record took or why it was refused, and of the recording after it.
+pub record RecordLeaves (s : List ℕ) (k : ℕ) (x : Record) (r : Result ℕ Refusal) (s' : List ℕ) : Type 0 where
+  pub answer : r ≡ answered (size x) (first (record_lines s k x))
   pub recording : s' ≡ recorded s k x

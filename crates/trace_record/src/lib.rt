@@ -1,7 +1,7 @@
 // The records of a recording (R7.9): what stands at an offset, and a record put behind those that are there. (A reader of them: crate `trace_reader`.)
 #![tactic(auto)]
 
-ghost use Rattle.std.specs.Prelude.{◌≡◌, ◌+◌, ◌≤◌, length, take, leb};
+ghost use Rattle.std.specs.Prelude.{◌≡◌, ℕ, ◌+◌, ◌≤◌, length, take, leb, Ok};
 ghost use Rattle.laws.specs.Lists.{written};
 ghost use Rattle.trace_record.specs.Record.{record_at, marked};
 ghost use Rattle.trace_record.specs.Machine.{has_area, record_on};
@@ -10,7 +10,7 @@ ghost use Rattle.trace_record.specs.Writer.{area_number, record_bytes, size, Rec
 use picture::RenderArea;
 use refusal::Refusal;
 
-// What stands at an offset of a recording.
+// What stands at an offset of a recording. The bad record and the end are cases beside the calls, and no Err and no None, since `size_of` and `put_record` take any of the five.
 #[derive(Clone, Copy)]
 pub enum Record {
     Write(u8, u8),
@@ -21,6 +21,7 @@ pub enum Record {
 }
 
 // The record with this mark at this offset, where so many bytes are left.
+#[tactic(auto, unfolding(crate::specs::Record::marked))]
 fn record_marked(s: &[u8], at: usize, left: usize, mark: u16) -> Record
     requires { (at + left ≡ length s.now) × (3 ≤ left) }
     ensures { result ≡ marked s.now at left mark }
@@ -34,17 +35,16 @@ fn record_marked(s: &[u8], at: usize, left: usize, mark: u16) -> Record
             Record::Write(x, s[at + 3])
         }
         0x5052 => Record::Read(x),
-        0x4C53 => {
-            if picture::LAST_AREA < x {
-                return Record::Bad;
-            }
-            Record::Step(picture::area_from(x))
-        }
+        0x4C53 => match RenderArea::try_from(x) {
+            Ok(area) => Record::Step(area),
+            Err(_) => Record::Bad,
+        },
         _ => Record::Bad,
     }
 }
 
 // The record at this offset. Its mark is two bytes, the first one the higher.
+#[tactic(auto, unfolding(crate::specs::Record::record_at))]
 pub fn record_at(s: &[u8], at: usize) -> Record
     ensures { result ≡ record_at s.now at }
 {
@@ -55,14 +55,14 @@ pub fn record_at(s: &[u8], at: usize) -> Record
     if left < 3 {
         return Record::Bad;
     }
-    let mark = small::word(s[at + 1], s[at]);
+    let mark = u16::from_be_bytes([s[at], s[at + 1]]);
     record_marked(s, at, left, mark)
 }
 
 // ---- a record as a machine takes it
 
 // The machines that a recording can be for: the handheld, and the home machine that the dock shows.
-#[derive(Clone, Copy)]
+#[derive(Clone, Copy, PartialEq, Eq)]
 pub enum Machine {
     Handheld,
     Home,
@@ -72,48 +72,26 @@ pub enum Machine {
 fn has_area(machine: Machine, area: RenderArea) -> bool
     ensures { result ≡ has_area machine area }
 {
-    match machine {
-        Machine::Handheld => true,
-        Machine::Home => match area {
-            RenderArea::VisibleOnly => true,
-            RenderArea::EffectiveArea => false,
-            RenderArea::TrueEdges => false,
-        },
-    }
+    machine == Machine::Handheld || area == RenderArea::VisibleOnly
 }
 
 // R20.9: the record at this offset; a step of an area that the machine has not is bad.
 pub fn record_on(machine: Machine, s: &[u8], at: usize) -> Record
     ensures { result ≡ record_on machine s.now at }
 {
-    let record = record_at(s, at);
-    let Record::Step(area) = record else {
-        return record;
-    };
-    if has_area(machine, area) {
-        return record;
+    match record_at(s, at) {
+        Record::Step(area) if !has_area(machine, area) => Record::Bad,
+        record => record,
     }
-    Record::Bad
 }
 
 // ---- a record behind the others
-
-// What the writer answers: whether there was room, and how many bytes the record took.
-#[derive(Clone, Copy)]
-pub struct Recorded {
-    pub refusal: Refusal,
-    pub count: u8,
-}
 
 // The number of an area.
 pub fn area_number(area: RenderArea) -> u8
     ensures { result ≡ area_number area }
 {
-    match area {
-        RenderArea::VisibleOnly => 0,
-        RenderArea::EffectiveArea => 1,
-        RenderArea::TrueEdges => 2,
-    }
+    u8::from(area)
 }
 
 // How many bytes a record has; a bad one and the end have none.
@@ -123,10 +101,8 @@ pub fn size_of(call: Record) -> u8
 {
     match call {
         Record::Write(_, _) => 4,
-        Record::Read(_) => 3,
-        Record::Step(_) => 3,
-        Record::Bad => 0,
-        Record::End => 0,
+        Record::Read(_) | Record::Step(_) => 3,
+        Record::Bad | Record::End => 0,
     }
 }
 
@@ -137,9 +113,8 @@ fn bytes_of(call: Record) -> [u8; 4]
     match call {
         Record::Write(port, value) => [b'P', b'W', port, value],
         Record::Read(port) => [b'P', b'R', port, 0],
-        Record::Step(area) => [b'L', b'S', area_number(area), 0],
-        Record::Bad => [0; 4],
-        Record::End => [0; 4],
+        Record::Step(area) => [b'L', b'S', u8::from(area), 0],
+        Record::Bad | Record::End => [0; 4],
     }
 }
 
@@ -149,40 +124,29 @@ pub fn put_all(out: &mut [u8], at: usize, src: &[u8]) -> usize
     ensures value { result ≡ at + length src.now }
     ensures out_after { out.new ≡ written out.old at src.now }
 {
-    let mut i = 0;
-    while i < src.len() {
-        out[at + i] = src[i];
-        i += 1;
-    }
-    at + i
+    let end = at + src.len();
+    out[at..end].copy_from_slice(src);
+    end
 }
 
 // Whether so many bytes have room from offset `used` on in a recording of this length.
 fn has_room(length: usize, used: usize, count: usize) -> bool
     ensures { result ≡ leb (used + count) length }
 {
-    if length < used {
-        return false;
-    }
-    count <= length - used
+    used <= length && count <= length - used
 }
 
-// A record into the bytes from offset `used` on; without room for it nothing happens.
-pub fn put_record(recording: &mut [u8], used: usize, call: Record) -> Recorded
+// A record into the bytes from offset `used` on, answered by how many it took; without room for it nothing happens.
+pub fn put_record(recording: &mut [u8], used: usize, call: Record) -> Result<u8, Refusal>
     ensures record_leaves { RecordLeaves recording.old used call result recording.new }
-    ensures count_bound { result.count ≤ 4 }
+    ensures count_bound { (count : ℕ) → result ≡ Ok count → count ≤ 4 }
 {
     let count = size_of(call);
-    if !has_room(recording.len(), used, count as usize) {
-        return Recorded {
-            refusal: Refusal::RecordRoom,
-            count: 0,
-        };
+    let size = usize::from(count);
+    if !has_room(recording.len(), used, size) {
+        return Err(Refusal::RecordRoom);
     }
     let bytes = bytes_of(call);
-    put_all(recording, used, &bytes[..count as usize]);
-    Recorded {
-        refusal: Refusal::Accepted,
-        count: count,
-    }
+    put_all(recording, used, &bytes[..size]);
+    Ok(count)
 }

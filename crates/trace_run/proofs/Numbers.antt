@@ -1,5 +1,6 @@
 -- A number of at most five digits, as a trace prints it, reads back as that number; and every number that a trace prints in decimal is such a one.
 -- Assumes nothing.
+use Rattle.std.specs.Prelude.{Err, Ok}
 use mathlib.Core.Path.{◌≡◌, refl, sym}
 use mathlib.Core.List.{List, [], ◌∷◌}
 use Prim.Native.Nat.{ℕ, ◌+◌, ◌-◌, ◌*◌, ◌/◌, ◌<◌, ◌≤◌}
@@ -9,11 +10,10 @@ use borrow.Author.Tests.{ltb-true, ltb-false, lt-ltb, le-ltb}
 use lib.Dec.{ltb, lit≤}
 use lib.ListN.{length}
 use Rattle.laws.proofs.Tests.{split}
-use Rattle.refusal.specs.declared.Refusal.{Refusal}
-use Rattle.refusal.specs.declared.Refusal.TheVariants.{Accepted, UnknownPort, HorizontalCounter, HighRegister, NothingChosen, PaletteRead, NoPaletteByte}
+use Rattle.refusal.specs.declared.Refusal.TheVariants.{UnknownPort, HorizontalCounter, HighRegister, NothingChosen, PaletteRead, NoPaletteByte}
 use Rattle.refusal.specs.declared.Refusal.TheVariants.{OutsideMemory, VramLength, PixelLength, BlockMalformed, UnknownArea, FrameTooLong, UnknownTile}
 use Rattle.refusal.specs.declared.Refusal.TheVariants.{CodesLength, HighCode, LayerLength, ListLength, RecordRoom}
-use Rattle.refusal.specs.Refusals.{refusal_number}
+use Rattle.refusal.specs.Refusals.{refusal_number, Outcome}
 use Rattle.trace_run.specs.declared.Device.{Device}
 use Rattle.trace_text.specs.Text.{digit_of, decimal}
 use Rattle.trace_run.specs.Run.{start, row_turn, ran}
@@ -88,26 +88,26 @@ reads_back n h =
     (more (n / 100) (n / 10) h1 (more (n / 1000) (n / 100) h2 (more (n / 10000) (n / 1000) h3 (first (n / 10000) (below_100000 n h))))))))))
 
 -- every number that is printed in decimal is one: refusals, interrupts, reports, and places and counts in a recording that is not too long
-pub refusal_low : (f : Refusal) → refusal_number f < 100000
-refusal_low Accepted = lit≤ tt
-refusal_low UnknownPort = lit≤ tt
-refusal_low HorizontalCounter = lit≤ tt
-refusal_low HighRegister = lit≤ tt
-refusal_low NothingChosen = lit≤ tt
-refusal_low PaletteRead = lit≤ tt
-refusal_low NoPaletteByte = lit≤ tt
-refusal_low OutsideMemory = lit≤ tt
-refusal_low VramLength = lit≤ tt
-refusal_low PixelLength = lit≤ tt
-refusal_low BlockMalformed = lit≤ tt
-refusal_low UnknownArea = lit≤ tt
-refusal_low FrameTooLong = lit≤ tt
-refusal_low UnknownTile = lit≤ tt
-refusal_low CodesLength = lit≤ tt
-refusal_low HighCode = lit≤ tt
-refusal_low LayerLength = lit≤ tt
-refusal_low ListLength = lit≤ tt
-refusal_low RecordRoom = lit≤ tt
+pub refusal_low : (f : Outcome) → refusal_number f < 100000
+refusal_low (Ok tt) = lit≤ tt
+refusal_low (Err UnknownPort) = lit≤ tt
+refusal_low (Err HorizontalCounter) = lit≤ tt
+refusal_low (Err HighRegister) = lit≤ tt
+refusal_low (Err NothingChosen) = lit≤ tt
+refusal_low (Err PaletteRead) = lit≤ tt
+refusal_low (Err NoPaletteByte) = lit≤ tt
+refusal_low (Err OutsideMemory) = lit≤ tt
+refusal_low (Err VramLength) = lit≤ tt
+refusal_low (Err PixelLength) = lit≤ tt
+refusal_low (Err BlockMalformed) = lit≤ tt
+refusal_low (Err UnknownArea) = lit≤ tt
+refusal_low (Err FrameTooLong) = lit≤ tt
+refusal_low (Err UnknownTile) = lit≤ tt
+refusal_low (Err CodesLength) = lit≤ tt
+refusal_low (Err HighCode) = lit≤ tt
+refusal_low (Err LayerLength) = lit≤ tt
+refusal_low (Err ListLength) = lit≤ tt
+refusal_low (Err RecordRoom) = lit≤ tt
 
 pub place_low : (d : Device) (s : List ℕ) (vram row frame : List ℕ) → length s ≤ 65535 → (ran row_turn s (start d vram row frame)).run.at < 100000
 unfolding ran

@@ -17,7 +17,7 @@ use Rattle.picture.specs.Screen.{frame_size}
 use Rattle.trace_run.specs.declared.Device.{Device}
 use Rattle.trace_text.specs.Text.{long_line}
 use Rattle.trace_run.specs.Run.{World, Turn, start, row_turn, after, lines, ran}
-use Rattle.trace_text.specs.End.{last_line, pixels, pixel_count, picture_room, drawn}
+use Rattle.trace_text.specs.End.{last_line, pixel_count, picture_room, drawn}
 use Rattle.trace_text.proofs.Endings.{frame_bytes, many_pixels}
 use Rattle.trace_run.specs.Output.{text, printed, screen_for, pictured, Left, left, leaves, traced, snapped, TraceLeaves, RunLeaves, PictureLeaves}
 use Rattle.trace_text.proofs.Lines.{grow}

@@ -1,5 +1,6 @@
 -- A whole recording, record by record: what bounds hold, and how the world and the text grow.
 -- Assumes nothing.
+use Rattle.std.specs.Prelude.{None, Option, Some}
 use mathlib.Core.Path.{◌≡◌, refl, ap, ◌∙◌}
 use mathlib.Core.List.{List, [], ◌∷◌, ◌++◌}
 use Prim.Native.Nat.{ℕ, zero, suc, ◌+◌, ◌-◌, ◌*◌, ◌/◌, ◌%◌, ◌<◌, ◌≤◌}
@@ -40,11 +41,11 @@ use Rattle.trace_run.specs.Run.{turn_of, after, lines, TurnLeaves}
 use Rattle.trace_text.proofs.Lines.{decimal_short, one, grow}
 
 -- ---- how long a line is
-pub wrote_short : (n : ℕ) → length (line_of (Says.Wrote n)) ≤ 8
+pub wrote_short : (n : ℕ) → length (line_of (Some (Says.Wrote n))) ≤ 8
 unfolding line_of
 wrote_short n = simp length-append (omega (arith, decimal_short n))
 
-pub gave_short : (n b : ℕ) → length (line_of (Says.Gave n b)) ≤ 11
+pub gave_short : (n b : ℕ) → length (line_of (Some (Says.Gave n b))) ≤ 11
 unfolding line_of
 gave_short n b = simp length-append (omega (arith, decimal_short n))
 
@@ -62,11 +63,11 @@ abbrev rest : ℕ → VdpInt → DisplayRefresh → List ℕ
 rest c i d = 0x20 ∷ hex_digit (c / 16) ∷ hex_digit (c % 16) ∷ 0x20 ∷ digit_of (interrupt_number i) ∷ 0x20 ∷ digit_of (report_number d) ∷ 0x0A ∷ []
 
 stepped_line :
-    (n c : ℕ) (i : VdpInt) (d : DisplayRefresh) → line_of (Says.Stepped n c i d) ≡ 0x73 ∷ 0x20 ∷ (decimal n ++ rest c i d)
+    (n c : ℕ) (i : VdpInt) (d : DisplayRefresh) → line_of (Some (Says.Stepped n c i d)) ≡ 0x73 ∷ 0x20 ∷ (decimal n ++ rest c i d)
 unfolding line_of
 stepped_line n c i d = rw (one (interrupt_number i) (interrupt_one i), one (report_number d) (report_one d))
 
-pub stepped_short : (n c : ℕ) (i : VdpInt) (d : DisplayRefresh) → length (line_of (Says.Stepped n c i d)) ≤ 15
+pub stepped_short : (n c : ℕ) (i : VdpInt) (d : DisplayRefresh) → length (line_of (Some (Says.Stepped n c i d))) ≤ 15
 stepped_short n c i d =
     let k = ap length (stepped_line n c i d) ∙ ap (λ (m : ℕ). suc (suc m)) (length-append (decimal n) (rest c i d)) in
     omega (arith, decimal_short n)
@@ -99,8 +100,8 @@ pub record Moved (w : World) (t : Turn) : Type 0 where
 abbrev pub Moves : (RenderArea → World → Turn) → Type 0
 Moves step = (a : RenderArea) (w : World) → Moved w (step a w)
 
-answer_short : (s : AfterStep) → length (line_of (step_answer s)) ≤ 15
-answer_short s = stepped_short (refusal_number s.refusal) s.counter s.interrupt s.report
+answer_short : (s : AfterStep) → length (line_of (Some (step_answer s))) ≤ 15
+answer_short s = stepped_short (refusal_number s.outcome) s.counter s.interrupt s.report
 
 pub row_moves : Moves row_turn
 unfolding row_turn
@@ -165,7 +166,7 @@ pub record Small (n : ℕ) (r : Run) (t : List ℕ) : Type 0 where
   pub counted : r.count ≤ r.at
   pub short : length t ≤ 5 * r.at
 
-still : (n : ℕ) (r : Run) (t : List ℕ) → Small n r t → Small n r (t ++ line_of Says.Nothing)
+still : (n : ℕ) (r : Run) (t : List ℕ) → Small n r t → Small n r (t ++ line_of None)
 unfolding line_of
 still n r t g = record { inside = g.inside; counted = g.counted; short = simp length-append (omega (arith, g.short)) }
 
@@ -196,14 +197,14 @@ module _ {step : RenderArea → World → Turn} (moves : Moves step) where
         inside = omega arith;
         counted = omega arith;
         short = simp length-append
-            (omega (arith, wrote_short (refusal_number (device_write w.run.device w.vram p v).refusal)));
+            (omega (arith, wrote_short (refusal_number (device_write w.run.device w.vram p v).outcome)));
       }
   small_by (Read p) n w t h g =
       let i = g.inside in
       let k = g.counted in
       let s = g.short in
       let a = device_read w.run.device w.vram p in
-      record { inside = omega arith; counted = omega arith; short = simp length-append (omega (arith, gave_short (refusal_number a.refusal) a.byte)) }
+      record { inside = omega arith; counted = omega arith; short = simp length-append (omega (arith, gave_short (refusal_number a.outcome) a.byte)) }
   small_by (Step a) n w t h g =
       let i = g.inside in
       let k = g.counted in
@@ -255,7 +256,7 @@ module _ (step : RenderArea → World → Turn) (s : List ℕ) (w : World) (i : 
       step (i + 1) s w
   unfolding lines
   line_is h =
-      ap (λ (a : Answer). lines step i s w ++ line_of a) h.answer
+      ap (λ (a : Option Answer). lines step i s w ++ line_of a) h.answer
       ∙ ap (λ (y : World). lines step i s w ++ line_of (turn_of step s y).answer) e
       ∙ rw add-one
 

@@ -1,6 +1,7 @@
 -- The snapshot follows a recording as the trace does: with buffers of the sizes that the programs hold, the device goes through the same states, video
 -- memory has the same bytes, and every call answers the same. Only what is drawn where differs.
 -- Assumes nothing.
+use Rattle.std.specs.Prelude.{None, Option, Some, ℕ}
 use mathlib.Core.Path.{◌≡◌, refl, sym, ap, subst, ◌∙◌}
 use mathlib.Core.List.{List, [], ◌++◌}
 use Prim.Native.Nat.{ℕ, zero, suc, ◌*◌, ◌≤◌}
@@ -18,15 +19,13 @@ use Rattle.vdp.specs.Ports.{port_write}
 use Rattle.refusal.specs.Refusals.{refusal_number}
 use Rattle.refusal.proofs.Tables.{Passed}
 use Rattle.front.proofs.Kept.{write_kept}
-use Rattle.points.specs.declared.DrawnRow.{DrawnRow}
-use Rattle.points.specs.declared.DrawnRow.TheVariants.{NoRow, Drawn}
-use Rattle.step.specs.declared.Stepped.{Stepped}
+use Rattle.points.specs.declared.Stepped.{Stepped}
 use Rattle.points.specs.Points.{row_lines, frame_lines}
 use Rattle.step.specs.Step.{counter_up, stepped, row_step_of}
 use Rattle.step.specs.Layers.{row_layers}
 use Rattle.points.proofs.Laws.{row_passes, frame_passes}
 use Rattle.step.proofs.Laws.{step_accepted, row_step_length, frame_step_length}
-use Rattle.home.specs.declared.HomeStepped.{HomeStepped}
+use Rattle.points.specs.declared.Stepped.{Stepped}
 use Rattle.home.specs.Step as homeStep
 use Rattle.home.proofs.Kept as homeKept
 use Rattle.home.proofs.Laws as homeLaws
@@ -47,6 +46,8 @@ use Rattle.trace_record.specs.Machine.{record_on}
 use Rattle.trace_run.specs.Run.{layer_turn, turn_for, turn_by, turn_of, after, lines}
 use Rattle.trace_run.specs.Output.{screen_for}
 use Rattle.trace_run.proofs.Runs.{write_machine, read_machine, row_machine, frame_machine}
+use Rattle.vdp.specs.declared.VdpState.{VdpState}
+use Rattle.home.specs.declared.HomeState.{HomeState}
 
 -- ---- what a call writes keeps its length
 module _ (d : Device) (vram : List ℕ) where
@@ -64,9 +65,9 @@ module _ (d : Device) (vram : List ℕ) where
     frame_length Handheld = frame_step_length a vram d.vdp b
     frame_length Home = homeLaws.frame_step_length vram d.home b
 
-painted_length : (r : DrawnRow) (layer : ℕ → ℕ → ℕ) (frame : List ℕ) → length (layers_painted r layer frame) ≡ length frame
-painted_length NoRow layer frame = refl
-painted_length (Drawn y) layer frame = length-painted frame (160 * y) 160 _
+painted_length : (r : Option ℕ) (layer : ℕ → ℕ → ℕ) (frame : List ℕ) → length (layers_painted r layer frame) ≡ length frame
+painted_length None layer frame = refl
+painted_length (Some y) layer frame = length-painted frame (160 * y) 160 _
 
 layers_length : (m : Machine) (a : RenderArea) (d : Device) (vram : List ℕ) (n : ℕ) (frame : List ℕ) → length (layers_on m a d vram n frame) ≡ length
     frame
@@ -89,14 +90,14 @@ pub record SameTurn (a b : Turn) : Type 0 where
 
 -- two steps that answer the same, and leave the same device
 record SameStep (x y : AfterStep) : Type 0 where
-  answer : step_answer x ≡ step_answer y
+  answer : Some (step_answer x) ≡ Some (step_answer y)
   device : x.device ≡ y.device
 
-same_handheld : {d d' : Device} {k k' : Stepped} {b b' : List ℕ} → d ≡ d' → k ≡ k' → SameStep (of_handheld d k b) (of_handheld d' k' b')
-same_handheld {d} e f = record { answer = λ i. step_answer (of_handheld d (f i) []); device = λ i. with_vdp (e i) (f i).vdp }
+same_handheld : {d d' : Device} {k k' : Stepped VdpState} {b b' : List ℕ} → d ≡ d' → k ≡ k' → SameStep (of_handheld d k b) (of_handheld d' k' b')
+same_handheld {d} e f = record { answer = λ i. Some (step_answer (of_handheld d (f i) [])); device = λ i. with_vdp (e i) (f i).device }
 
-same_home : {d d' : Device} {k k' : HomeStepped} {b b' : List ℕ} → d ≡ d' → k ≡ k' → SameStep (of_home d k b) (of_home d' k' b')
-same_home {d} e f = record { answer = λ i. step_answer (of_home d (f i) []); device = λ i. with_home (e i) (f i).home }
+same_home : {d d' : Device} {k k' : Stepped HomeState} {b b' : List ℕ} → d ≡ d' → k ≡ k' → SameStep (of_home d k b) (of_home d' k' b')
+same_home {d} e f = record { answer = λ i. Some (step_answer (of_home d (f i) [])); device = λ i. with_home (e i) (f i).device }
 
 -- no area has longer rows than 1,024 bytes
 short_row : (a : RenderArea) → row_size (screen_of a) ≤ 1024
@@ -232,7 +233,7 @@ module _ {t w : World} (h : Alike t w) where
   turn_by_lem shown (Write p v) =
       let e : device_write d t.vram p v ≡ device_write d' w.vram p v = λ i. device_write (h.runs i).device (h.memory i) p v in
       record {
-        answer = ap (λ (a : AfterWrite). Says.Wrote (refusal_number a.refusal)) e;
+        answer = ap (λ (a : AfterWrite). Some (Says.Wrote (refusal_number a.outcome))) e;
         world = record {
           runs = λ i. on (h.runs i) 4 (e i).device;
           memory = ap (λ (a : AfterWrite). a.vram) e;
@@ -245,7 +246,7 @@ module _ {t w : World} (h : Alike t w) where
   turn_by_lem shown (Read p) =
       let e : device_read d t.vram p ≡ device_read d' w.vram p = λ i. device_read (h.runs i).device (h.memory i) p in
       record {
-        answer = ap (λ (a : AfterRead). Says.Gave (refusal_number a.refusal) a.byte) e;
+        answer = ap (λ (a : AfterRead). Some (Says.Gave (refusal_number a.outcome) a.byte)) e;
         world = record {
           runs = λ i. on (h.runs i) 3 (e i).device;
           memory = h.memory;

@@ -1,9 +1,10 @@
 -- One record of a recording: what its call leaves.
 -- Assumes nothing.
+use Rattle.std.specs.Prelude.{None, Option, Some, ℕ}
 use mathlib.Core.Path.{◌≡◌, refl, sym, ap, ◌∙◌}
 use mathlib.Core.Logic.{◌⊎◌, inl, inr}
 use mathlib.Core.List.{List, [], ◌∷◌}
-use Prim.Native.Nat.{ℕ, ◌*◌, ◌≤◌}
+use Prim.Native.Nat.{◌*◌, ◌≤◌}
 use native.Mathlib.Omega.{arith}
 use lib.ListN.{length}
 use Rattle.laws.specs.Lists.{at}
@@ -15,20 +16,11 @@ use Rattle.picture.specs.declared.RenderArea.{RenderArea}
 use Rattle.picture.specs.declared.RenderArea.TheVariants.{VisibleOnly, EffectiveArea, TrueEdges}
 use Rattle.picture.specs.Area.{screen_of, columns, rows, frame_size}
 use Rattle.vdp.specs.declared.VdpState.{VdpState}
-use Rattle.vdp.specs.declared.Written.{Written}
-use Rattle.vdp.specs.declared.ReadBack.{ReadBack}
 use Rattle.refusal.specs.Refusals.{Line}
-use Rattle.vdp.specs.Ports.{port_read, WriteLeaves}
-use Rattle.points.specs.declared.DrawnRow.{DrawnRow}
-use Rattle.points.specs.declared.DrawnRow.TheVariants.{NoRow, Drawn}
-use Rattle.step.specs.declared.Stepped.{Stepped}
+use Rattle.points.specs.declared.Stepped.{Stepped}
 use Rattle.step.specs.Step.{line_of, counter_up, row_on, stepped, row_lines, step_with, row_step_of}
 use Rattle.points.specs.Points.{RowIn, points_of}
 use Rattle.step.specs.Frame.{RowStepLeaves, FrameStepLeaves}
-use Rattle.home.specs.declared.HomeWritten.{HomeWritten}
-use Rattle.home.specs.declared.HomeRead.{HomeRead}
-use Rattle.home.specs.declared.HomeStepped.{HomeStepped}
-use Rattle.home.specs.Ports as homePorts
 use Rattle.home.specs.Step as homeStep
 use Rattle.points.specs.Bytes.{layers_by, also_layers}
 use Rattle.step.specs.Layers.{row_layers, layers_after, RowLayersLeave}
@@ -39,58 +31,39 @@ use Rattle.trace_record.specs.declared.Record.TheVariants.{Write, Read, Step, Ba
 use Rattle.trace_record.specs.declared.Machine.{Machine}
 use Rattle.trace_record.specs.declared.Machine.TheVariants.{Handheld, Home}
 use Rattle.trace_run.specs.declared.Device.{Device}
-use Rattle.trace_text.specs.declared.Answer.TheVariants as Says
 use Rattle.trace_run.specs.declared.Shown.{Shown}
 use Rattle.trace_run.specs.declared.Shown.TheVariants.{Nothing, Colours, Layers}
 use Rattle.trace_run.specs.declared.Turned.{Turned}
 use Rattle.trace_record.specs.Machine.{record_on}
-use Rattle.trace_run.specs.Device.{with_vdp, with_home, AfterStep, wrote, gave, of_handheld, of_home, write_on, read_on, row_step_on, frame_step_on}
+use Rattle.trace_run.specs.Device.{AfterStep, of_handheld, of_home, row_step_on, frame_step_on}
 use Rattle.trace_run.specs.Device.{device_write, device_read, device_row_step, device_frame_step}
 use Rattle.trace_run.specs.Run.{World, Turn, held, on, step_answer, row_turn, into_frame, frame_turn, layer_colour, layers_painted, layers_on}
 use Rattle.trace_run.specs.Run.{layers_into, layer_turn, shown_of, frame_for, turn_for, turn_by, turn_of, TurnLeaves, write_turned, read_turned, step_turned}
+use Rattle.home.specs.declared.HomeState.{HomeState}
 
 -- the same turn, said in another way
 same_turn : {u v : Turn} {t : Turned} {vram row frame : List ℕ} → u ≡ v → TurnLeaves u t vram row frame → TurnLeaves v t vram row frame
 same_turn e h = record { answer = h.answer ∙ ap (λ (x : Turn). x.answer) e; world = h.world ∙ ap (λ (x : Turn). x.world) e }
 
 -- ---- a call of either machine, as its own contract has it, is one of the device
-module _ (d : Device) (m : List ℕ) (p : ℕ) where
-  pub handheld_wrote : (v : ℕ) {r : Written} {m' : List ℕ} → d.machine ≡ Handheld → WriteLeaves d.vdp m p v r m' → wrote r.refusal
-      (with_vdp d r.vdp) m' ≡ device_write d m p v
-  handheld_wrote v e h = (λ i. wrote (h.answer i).refusal (with_vdp d (h.answer i).vdp) (h.memory i)) ∙ ap (λ (k : Machine). write_on k d m p v)
-      (sym e)
-
-  pub home_wrote : (v : ℕ) {r : HomeWritten} {m' : List ℕ} → d.machine ≡ Home → homePorts.WriteLeaves d.home m p v r m' → wrote r.refusal
-      (with_home d r.home) m' ≡ device_write d m p v
-  home_wrote v e h = (λ i. wrote (h.answer i).refusal (with_home d (h.answer i).home) (h.memory i)) ∙ ap (λ (k : Machine). write_on k d m p v)
-      (sym e)
-
-  pub handheld_gave : {r : ReadBack} → d.machine ≡ Handheld → r ≡ port_read d.vdp m p → gave r.refusal r.byte (with_vdp d r.vdp) ≡
-      device_read d m p
-  handheld_gave e h = (λ i. gave (h i).refusal (h i).byte (with_vdp d (h i).vdp)) ∙ ap (λ (k : Machine). read_on k d m p) (sym e)
-
-  pub home_gave : {r : HomeRead} → d.machine ≡ Home → r ≡ homePorts.port_read d.home m p → gave r.refusal r.byte (with_home d r.home) ≡
-      device_read d m p
-  home_gave e h = (λ i. gave (h i).refusal (h i).byte (with_home d (h i).home)) ∙ ap (λ (k : Machine). read_on k d m p) (sym e)
-
 module _ (a : RenderArea) (d : Device) (vram : List ℕ) where
   pub handheld_row :
-      {row row' : List ℕ} {k : Stepped} → d.machine ≡ Handheld → RowStepLeaves a vram d.vdp row k row' → of_handheld d k row' ≡ device_row_step a d
+      {row row' : List ℕ} {k : Stepped VdpState} → d.machine ≡ Handheld → RowStepLeaves a vram d.vdp row k row' → of_handheld d k row' ≡ device_row_step a d
       vram row
   handheld_row {row} e h = (λ i. of_handheld d (h.answer i) (h.bytes i)) ∙ ap (λ (m : Machine). row_step_on m a d vram row) (sym e)
 
   pub home_row_lem :
-      {row row' : List ℕ} {k : HomeStepped} → d.machine ≡ Home → homeStep.RowStepLeaves vram d.home row k row' → of_home d k row' ≡ device_row_step
+      {row row' : List ℕ} {k : Stepped HomeState} → d.machine ≡ Home → homeStep.RowStepLeaves vram d.home row k row' → of_home d k row' ≡ device_row_step
       a d vram row
   home_row_lem {row} e h = (λ i. of_home d (h.answer i) (h.bytes i)) ∙ ap (λ (m : Machine). row_step_on m a d vram row) (sym e)
 
   pub handheld_frame :
-      {frame frame' : List ℕ} {k : Stepped} → d.machine ≡ Handheld → FrameStepLeaves a vram d.vdp frame k frame'
+      {frame frame' : List ℕ} {k : Stepped VdpState} → d.machine ≡ Handheld → FrameStepLeaves a vram d.vdp frame k frame'
       → of_handheld d k frame' ≡ device_frame_step a d vram frame
   handheld_frame {frame} e h = (λ i. of_handheld d (h.answer i) (h.bytes i)) ∙ ap (λ (m : Machine). frame_step_on m a d vram frame) (sym e)
 
   pub home_frame :
-      {frame frame' : List ℕ} {k : HomeStepped} → d.machine ≡ Home → homeStep.FrameStepLeaves vram d.home frame k frame'
+      {frame frame' : List ℕ} {k : Stepped HomeState} → d.machine ≡ Home → homeStep.FrameStepLeaves vram d.home frame k frame'
       → of_home d k frame' ≡ device_frame_step a d vram frame
   home_frame {frame} e h = (λ i. of_home d (h.answer i) (h.bytes i)) ∙ ap (λ (m : Machine). frame_step_on m a d vram frame) (sym e)
 
@@ -112,7 +85,7 @@ module _ (a : RenderArea) (w : World) {k : AfterStep} {t : Turned} (et : t ≡ s
 -- a step draws no row, or it is the accepted one, and the layers are told
 told_or_not :
     (ls : List Line) (a : RenderArea) (vram : List ℕ) (d : VdpState) (layers : List ℕ)
-    → ((step_with ls a vram d).row ≡ NoRow)
+    → ((step_with ls a vram d).row ≡ None)
     ⊎ (((step_with ls a vram d).row ≡ row_on a (line_of (counter_up d))) ×
     (layers_after ls a vram d layers ≡ layers_by (row_on a (line_of (counter_up d))) (screen_of a) (row_layers a vram (counter_up d)) layers))
 unfolding step_with layers_after stepped points_of
@@ -127,20 +100,20 @@ same_rows TrueEdges c = refl
 
 module _ (a : RenderArea) (c : columns a ≡ 160) (vram : List ℕ) (d : VdpState) (frame layers : List ℕ) (n : length layers ≡ 160) where
   shown_layers : (y : ℕ) → painted frame (160 * y) 160
-      (λ x. layer_colour (at (layers_by (Drawn y) (screen_of a) (row_layers a vram (counter_up d)) layers) x))
+      (λ x. layer_colour (at (layers_by (Some y) (screen_of a) (row_layers a vram (counter_up d)) layers) x))
       ≡ painted frame (160 * y) 160 (λ x. layer_colour (row_layers a vram (counter_up d) y x))
   unfolding layers_by
   shown_layers y =
       let h : 160 ≤ length layers = omega arith in
       painted_cong frame (160 * y) 160 _ _ (λ x i. ap layer_colour (rw c (layers_in-at layers 160 (row_layers a vram (counter_up d) y) h x i)))
 
-  painted_by : (r : DrawnRow) → layers_painted r (λ y. at (layers_by r (screen_of a) (row_layers a vram (counter_up d)) layers)) frame ≡ layers_painted r
+  painted_by : (r : Option ℕ) → layers_painted r (λ y. at (layers_by r (screen_of a) (row_layers a vram (counter_up d)) layers)) frame ≡ layers_painted r
       (row_layers a vram (counter_up d)) frame
-  painted_by NoRow = refl
-  painted_by (Drawn y) = shown_layers y
+  painted_by None = refl
+  painted_by (Some y) = shown_layers y
 
   painted_is :
-      (ls : List Line) {r : DrawnRow} {layers' : List ℕ} → r ≡ (step_with ls a vram d).row → layers' ≡ layers_after ls a vram d layers
+      (ls : List Line) {r : Option ℕ} {layers' : List ℕ} → r ≡ (step_with ls a vram d).row → layers' ≡ layers_after ls a vram d layers
       → layers_painted r (λ y. at layers') frame ≡ layers_painted r (row_layers a vram (counter_up d)) frame
   painted_is ls {r} er el =
       elim (told_or_not ls a vram d layers) [
@@ -149,15 +122,15 @@ module _ (a : RenderArea) (c : columns a ≡ 160) (vram : List ℕ) (d : VdpStat
       ]
 
   -- the row that is drawn is one of the area's
-  pub row_told : (ls : List Line) {r : DrawnRow} → r ≡ (step_with ls a vram d).row → RowIn (screen_of VisibleOnly) r
+  pub row_told : (ls : List Line) {r : Option ℕ} → r ≡ (step_with ls a vram d).row → RowIn (screen_of VisibleOnly) r
   row_told ls er =
       elim (told_or_not ls a vram d layers) [
-        | inl z ↦ λ y q. absurd (let k : NoRow ≡ Drawn y = sym (er ∙ z) ∙ q in let o : ◌≡◌ {A = ℕ} 0 1 = cc in omega arith)
+        | inl z ↦ λ y q. absurd (let k : None ≡ Some y = sym (er ∙ z) ∙ q in let o : ◌≡◌ {A = ℕ} 0 1 = cc in omega arith)
         | inr z ↦ λ y q. omega (arith, row_in (screen_of a) (line_of (counter_up d)) (er ∙ z.0) y q, same_rows a c)
       ]
 
 pub layer_stepped :
-    (a : RenderArea) → columns a ≡ 160 → (w : World) (layers : List ℕ) {k : Stepped} {row layers' frame : List ℕ} {t : Turned} → length layers ≡ 160
+    (a : RenderArea) → columns a ≡ 160 → (w : World) (layers : List ℕ) {k : Stepped VdpState} {row layers' frame : List ℕ} {t : Turned} → length layers ≡ 160
     → w.run.device.machine ≡ Handheld
     → RowLayersLeave (columns a) a w.vram w.run.device.vdp w.row layers k row layers' → frame ≡ layers_painted k.row (λ y. at layers')
     w.frame
@@ -173,8 +146,8 @@ layer_stepped a c w layers {k} {row} {layers'} {frame} {t} n e g ef et =
     let h = handheld_row a d w.vram {row = w.row} {row' = row} {k = k} e (record { answer = q; bytes = g.bytes ∙ s.1 }) in
     let f : frame ≡ layers_on d.machine a d w.vram (length w.row) w.frame =
     ef
-    ∙ painted_is a c w.vram d.vdp w.frame layers n al (ap (λ (x : Stepped). x.row) g.answer) g.owners
-    ∙ ap (λ (x : Stepped). layers_painted x.row (row_layers a w.vram (counter_up d.vdp)) w.frame) q
+    ∙ painted_is a c w.vram d.vdp w.frame layers n al (ap (λ (x : Stepped VdpState). x.row) g.answer) g.owners
+    ∙ ap (λ (x : Stepped VdpState). layers_painted x.row (row_layers a w.vram (counter_up d.vdp)) w.frame) q
     ∙ ap (λ (m : Machine). layers_on m a d w.vram (length w.row) w.frame) (sym e) in
     let q = et ∙ ap (step_turned w.run) h in
     record { answer = ap (λ (x : Turned). x.answer) q; world = λ i. held (q i).run w.vram (h i).buffer (f i) }
@@ -188,7 +161,7 @@ no_layers a w e h =
     let d = w.run.device in
     let s = device_row_step a d w.vram w.row in
     let into : Machine → Turn = λ m. record {
-      answer = step_answer s;
+      answer = Some (step_answer s);
       world = held (on w.run 3 s.device) w.vram s.buffer
           (layers_on m a d w.vram (length w.row) w.frame);
     } in
@@ -253,10 +226,10 @@ module _ (step : RenderArea → World → Turn) (s : List ℕ) (w : World) {x : 
   unfolding turn_by
   at_step f h = same_turn (is_turn f) h
 
-  pub at_bad : x ≡ Bad → TurnLeaves (turn_of step s w) (record { answer = Says.Nothing; run = w.run }) w.vram w.row w.frame
+  pub at_bad : x ≡ Bad → TurnLeaves (turn_of step s w) (record { answer = None; run = w.run }) w.vram w.row w.frame
   unfolding turn_by
   at_bad f = same_turn (is_turn f) (record { answer = refl; world = refl })
 
-  pub at_end_lem : x ≡ End → TurnLeaves (turn_of step s w) (record { answer = Says.Nothing; run = w.run }) w.vram w.row w.frame
+  pub at_end_lem : x ≡ End → TurnLeaves (turn_of step s w) (record { answer = None; run = w.run }) w.vram w.row w.frame
   unfolding turn_by
   at_end_lem f = same_turn (is_turn f) (record { answer = refl; world = refl })

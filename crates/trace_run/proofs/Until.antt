@@ -1,6 +1,7 @@
 -- To read the records of a recording until one is no call, bad or the end, and to take a turn for each of its bytes come to the same: at a record that
 -- is no call a turn changes nothing.
 -- Assumes nothing.
+use Rattle.std.specs.Prelude.{None}
 use mathlib.Core.Path.{◌≡◌, refl, sym, ap, ◌∙◌}
 use mathlib.Core.Bool.{Bool, true, false}
 use mathlib.Core.List.{List, [], ◌++◌, append_assoc, append-nil}
@@ -15,7 +16,6 @@ use Rattle.picture.specs.declared.RenderArea.{RenderArea}
 use Rattle.picture.specs.Area.{area_from}
 use Rattle.trace_record.specs.declared.Record.{Record}
 use Rattle.trace_record.specs.declared.Record.TheVariants.{Write, Read, Step, Bad, End}
-use Rattle.trace_text.specs.declared.Answer.TheVariants as Says
 use Rattle.trace_run.specs.declared.Run.{Run}
 use Rattle.trace_record.specs.Record.{record_at, marked}
 use Rattle.trace_record.specs.Reader.{is_call}
@@ -51,7 +51,7 @@ module _ (step : RenderArea → World → Turn) (s : List ℕ) where
       (h.0, ap (λ (l : List ℕ). line_of (turn_of step s w).answer ++ l) h.1)
 
   -- a turn at a record that is no call changes nothing
-  still_by : (x : Record) (w : World) → is_call x ≡ false → turn_by x step w ≡ record { answer = Says.Nothing; world = w }
+  still_by : (x : Record) (w : World) → is_call x ≡ false → turn_by x step w ≡ record { answer = None; world = w }
   unfolding turn_by
   still_by (Write p v) w e = clash e
   still_by (Read p) w e = clash e
@@ -59,7 +59,7 @@ module _ (step : RenderArea → World → Turn) (s : List ℕ) where
   still_by Bad w e = refl
   still_by End w e = refl
 
-  pub still : (w : World) → calls s w ≡ false → turn_of step s w ≡ record { answer = Says.Nothing; world = w }
+  pub still : (w : World) → calls s w ≡ false → turn_of step s w ≡ record { answer = None; world = w }
   unfolding turn_of
   still w e = still_by (here s w.run) w e
 

@@ -1,18 +1,18 @@
 -- R7.8, R20.9: a device of either machine, and what its port calls and its steps do.
 -- Assumes nothing.
+use Rattle.refusal.specs.Refusals.{Outcome, outcome_of, byte_given}
 use Rattle.std.specs.Prelude.{List, ℕ, length}
 use Rattle.picture.specs.declared.RenderArea.{RenderArea}
-use Rattle.refusal.specs.declared.Refusal.{Refusal}
 use Rattle.vdp.specs.declared.VdpState.{VdpState}
 use Rattle.vdp.specs.Device.{fresh}
 use Rattle.vdp.specs.Ports.{port_write, port_read}
 use Rattle.points.specs.declared.VdpInt.{VdpInt}
 use Rattle.points.specs.declared.DisplayRefresh.{DisplayRefresh}
-use Rattle.step.specs.declared.Stepped.{Stepped}
+use Rattle.points.specs.declared.Stepped.{Stepped}
 use Rattle.step.specs.Step.{row_step_of, frame_step_of}
 use Rattle.step.specs.Frame.{row_after, frame_after}
 use Rattle.home.specs.declared.HomeState.{HomeState}
-use Rattle.home.specs.declared.HomeStepped.{HomeStepped}
+use Rattle.points.specs.declared.Stepped.{Stepped}
 use Rattle.home.specs.Home as homeState
 use Rattle.home.specs.Ports as homePorts
 use Rattle.home.specs.Step as homeStep
@@ -36,55 +36,55 @@ with_home d x = record { machine = d.machine; vdp = d.vdp; home = x }
 
 -- ---- What a call answers and leaves, whichever machine it is made on: a port write, a port read, and a step into a buffer, a row's or a frame.
 pub record AfterWrite : Type 0 where
-  pub refusal : Refusal
+  pub outcome : Outcome
   pub device : Device
   pub vram : List ℕ
 
 pub record AfterRead : Type 0 where
-  pub refusal : Refusal
+  pub outcome : Outcome
   pub byte : ℕ
   pub device : Device
 
 pub record AfterStep : Type 0 where
-  pub refusal : Refusal
+  pub outcome : Outcome
   pub counter : ℕ
   pub interrupt : VdpInt
   pub report : DisplayRefresh
   pub device : Device
   pub buffer : List ℕ
 
-abbrev pub wrote : Refusal → Device → List ℕ → AfterWrite
-wrote r d m = record { refusal = r; device = d; vram = m }
+abbrev pub wrote : Outcome → Device → List ℕ → AfterWrite
+wrote r d m = record { outcome = r; device = d; vram = m }
 
-abbrev pub gave : Refusal → ℕ → Device → AfterRead
-gave r b d = record { refusal = r; byte = b; device = d }
+abbrev pub gave : Outcome → ℕ → Device → AfterRead
+gave r b d = record { outcome = r; byte = b; device = d }
 
-abbrev pub went : Refusal → ℕ → VdpInt → DisplayRefresh → Device → List ℕ → AfterStep
-went r counter i t d buffer = record { refusal = r; counter = counter; interrupt = i; report = t; device = d; buffer = buffer }
+abbrev pub went : Outcome → ℕ → VdpInt → DisplayRefresh → Device → List ℕ → AfterStep
+went r counter i t d buffer = record { outcome = r; counter = counter; interrupt = i; report = t; device = d; buffer = buffer }
 
 -- a step of each machine, by its own answer
-abbrev pub of_handheld : Device → Stepped → List ℕ → AfterStep
-of_handheld d s = went s.refusal s.vdp.raster.v_counter s.interrupt s.report (with_vdp d s.vdp)
+abbrev pub of_handheld : Device → Stepped VdpState → List ℕ → AfterStep
+of_handheld d s = went s.outcome s.device.raster.v_counter s.interrupt s.report (with_vdp d s.device)
 
-abbrev pub of_home : Device → HomeStepped → List ℕ → AfterStep
-of_home d s = went s.refusal s.home.raster.v_counter s.interrupt s.report (with_home d s.home)
+abbrev pub of_home : Device → Stepped HomeState → List ℕ → AfterStep
+of_home d s = went s.outcome s.device.raster.v_counter s.interrupt s.report (with_home d s.device)
 
 -- ---- the calls, by the machine: those of crates `vdp` and `step`, and those of crate `home`
 abbrev pub write_on : Machine → Device → List ℕ → ℕ → ℕ → AfterWrite
 write_on Handheld d m p v =
     let a = port_write d.vdp m p v in
-    wrote a.answer.refusal (with_vdp d a.answer.vdp) a.vram
+    wrote a.answer.outcome (with_vdp d a.answer.device) a.vram
 write_on Home d m p v =
     let a = homePorts.port_write d.home m p v in
-    wrote a.answer.refusal (with_home d a.answer.home) a.vram
+    wrote a.answer.outcome (with_home d a.answer.device) a.vram
 
 abbrev pub read_on : Machine → Device → List ℕ → ℕ → AfterRead
 read_on Handheld d m p =
     let a = port_read d.vdp m p in
-    gave a.refusal a.byte (with_vdp d a.vdp)
+    gave (outcome_of a.byte) (byte_given a.byte) (with_vdp d a.device)
 read_on Home d m p =
     let a = homePorts.port_read d.home m p in
-    gave a.refusal a.byte (with_home d a.home)
+    gave (outcome_of a.byte) (byte_given a.byte) (with_home d a.device)
 
 abbrev pub row_step_on : Machine → RenderArea → Device → List ℕ → List ℕ → AfterStep
 row_step_on Handheld a d m row = of_handheld d (row_step_of a m (length row) d.vdp) (row_after a m d.vdp row)

@@ -1,12 +1,10 @@
 -- R7.8, R7.13, R15.5, R20.9: what a recording does, record by record. All programs follow a recording by these definitions.
 -- Assumes nothing.
-use Rattle.std.specs.Prelude.{◌≡◌, cond, List, [], ◌++◌, ℕ, zero, suc, ◌+◌, ◌-◌, ◌*◌, ◌%◌, eqb, length}
+use Rattle.std.specs.Prelude.{◌≡◌, cond, List, [], ◌++◌, ℕ, zero, suc, ◌+◌, ◌-◌, ◌*◌, ◌%◌, eqb, length, None, Option, Some}
 use Rattle.laws.specs.Paint.{painted, of_bytes}
 use Rattle.picture.specs.declared.RenderArea.{RenderArea}
 use Rattle.picture.specs.declared.RenderArea.TheVariants.{VisibleOnly, EffectiveArea, TrueEdges}
 use Rattle.picture.specs.Area.{frame_size}
-use Rattle.points.specs.declared.DrawnRow.{DrawnRow}
-use Rattle.points.specs.declared.DrawnRow.TheVariants.{NoRow, Drawn}
 use Rattle.step.specs.Step.{counter_up, row_step_of}
 use Rattle.step.specs.Layers.{row_layers}
 use Rattle.trace_record.specs.declared.Record.{Record}
@@ -39,9 +37,9 @@ held run vram row frame = record { run = run; vram = vram; row = row; frame = fr
 abbrev pub start : Device → List ℕ → List ℕ → List ℕ → World
 start d vram row frame = held (record { device = d; at = 0; count = 0 }) vram row frame
 
--- What a record does: the answer of its call, and the world after it.
+-- What a record does: the answer of its call, if it is one, and the world after it.
 pub record Turn : Type 0 where
-  pub answer : Answer
+  pub answer : Option Answer
   pub world : World
 
 -- the run after a call, one record and k bytes on
@@ -50,19 +48,19 @@ on run k d = record { device = d; at = run.at + k; count = run.count + 1 }
 
 -- R7.10: what a step's line tells
 abbrev pub step_answer : AfterStep → Answer
-step_answer s = Says.Stepped (refusal_number s.refusal) s.counter s.interrupt s.report
+step_answer s = Says.Stepped (refusal_number s.outcome) s.counter s.interrupt s.report
 
 -- a step into the row buffer, as the trace makes all of its steps
 unfoldable pub row_turn : RenderArea → World → Turn
 row_turn a w =
     let s = device_row_step a w.run.device w.vram w.row in
-    record { answer = step_answer s; world = held (on w.run 3 s.device) w.vram s.buffer w.frame }
+    record { answer = Some (step_answer s); world = held (on w.run 3 s.device) w.vram s.buffer w.frame }
 
 -- a step into the frame
 unfoldable pub into_frame : RenderArea → World → Turn
 into_frame a w =
     let s = device_frame_step a w.run.device w.vram w.frame in
-    record { answer = step_answer s; world = held (on w.run 3 s.device) w.vram w.row s.buffer }
+    record { answer = Some (step_answer s); world = held (on w.run 3 s.device) w.vram w.row s.buffer }
 
 -- R7.13, R18.5, R20.9: a step as the snapshot makes it: of an area of the visible size into the frame, and so of area 0 at home; of the effective area
 -- as in the trace
@@ -77,9 +75,9 @@ layer_colour l =
     cond (eqb l 0) (of_bytes 32 32 32 255) (cond (eqb l 1) (of_bytes 255 0 255 255) (of_bytes (4 * (l - 64) % 256) (255 - 4 * (l - 64) % 256) 128 255))
 
 -- the frame with the colours of the layers in a buffer at its row; the layers of the row that a step on this device draws, where it is drawn
-abbrev pub layers_painted : DrawnRow → (ℕ → ℕ → ℕ) → List ℕ → List ℕ
-layers_painted NoRow layer frame = frame
-layers_painted (Drawn y) layer frame = painted frame (160 * y) 160 (λ x. layer_colour (layer y x))
+abbrev pub layers_painted : Option ℕ → (ℕ → ℕ → ℕ) → List ℕ → List ℕ
+layers_painted None layer frame = frame
+layers_painted (Some y) layer frame = painted frame (160 * y) 160 (λ x. layer_colour (layer y x))
 
 -- those of the row that a step into a row buffer of n bytes draws; the home machine tells no layers
 abbrev pub layers_on : Machine → RenderArea → Device → List ℕ → ℕ → List ℕ → List ℕ
@@ -92,7 +90,7 @@ layers_into a w =
     let d = w.run.device in
     let s = device_row_step a d w.vram w.row in
     record {
-      answer = step_answer s;
+      answer = Some (step_answer s);
       world = held (on w.run 3 s.device) w.vram s.buffer (layers_on d.machine a d w.vram (length w.row) w.frame);
     }
 
@@ -123,13 +121,13 @@ shown_of shown TrueEdges = shown
 unfoldable pub turn_by : Record → (RenderArea → World → Turn) → World → Turn
 turn_by (Write port value) step w =
     let a = device_write w.run.device w.vram port value in
-    record { answer = Says.Wrote (refusal_number a.refusal); world = held (on w.run 4 a.device) a.vram w.row w.frame }
+    record { answer = Some (Says.Wrote (refusal_number a.outcome)); world = held (on w.run 4 a.device) a.vram w.row w.frame }
 turn_by (Read port) step w =
     let a = device_read w.run.device w.vram port in
-    record { answer = Says.Gave (refusal_number a.refusal) a.byte; world = held (on w.run 3 a.device) w.vram w.row w.frame }
+    record { answer = Some (Says.Gave (refusal_number a.outcome) a.byte); world = held (on w.run 3 a.device) w.vram w.row w.frame }
 turn_by (Step area) step w = step area w
-turn_by Bad step w = record { answer = Says.Nothing; world = w }
-turn_by End step w = record { answer = Says.Nothing; world = w }
+turn_by Bad step w = record { answer = None; world = w }
+turn_by End step w = record { answer = None; world = w }
 
 -- the record at the run's place, as its machine takes it
 unfoldable pub turn_of : (RenderArea → World → Turn) → List ℕ → World → Turn
@@ -154,14 +152,14 @@ pub record TurnLeaves (t : Turn) (r : Turned) (vram row frame : List ℕ) : Type
   pub world : held r.run vram row frame ≡ t.world
 
 -- ---- what a turn of the code answers, by the call that it makes
-abbrev pub turned : Answer → Run → Turned
+abbrev pub turned : Option Answer → Run → Turned
 turned a run = record { answer = a; run = run }
 
 abbrev pub write_turned : Run → AfterWrite → Turned
-write_turned run a = turned (Says.Wrote (refusal_number a.refusal)) (on run 4 a.device)
+write_turned run a = turned (Some (Says.Wrote (refusal_number a.outcome))) (on run 4 a.device)
 
 abbrev pub read_turned : Run → AfterRead → Turned
-read_turned run a = turned (Says.Gave (refusal_number a.refusal) a.byte) (on run 3 a.device)
+read_turned run a = turned (Some (Says.Gave (refusal_number a.outcome) a.byte)) (on run 3 a.device)
 
 abbrev pub step_turned : Run → AfterStep → Turned
-step_turned run s = turned (step_answer s) (on run 3 s.device)
+step_turned run s = turned (Some (step_answer s)) (on run 3 s.device)

@@ -1,22 +1,25 @@
 // A recording of port calls and steps, and what it does: a device of either machine, and each record's call on it.
 #![tactic(auto)]
 
-ghost use Rattle.std.specs.Prelude.{◌≡◌, List, [], ℕ, ◌-◌, ◌<◌, ◌≤◌, length};
+ghost use Rattle.refusal.specs.Refusals.{refusal_number, outcome_of, byte_given};
+ghost use Rattle.std.specs.Prelude.{◌≡◌, List, [], ℕ, ◌-◌, ◌<◌, ◌≤◌, length, Some};
 ghost use Rattle.laws.specs.Lists.{at};
 ghost use Rattle.picture.specs.declared.RenderArea.TheVariants.{VisibleOnly};
 ghost use Rattle.picture.specs.Area.{screen_of, columns, frame_size};
 ghost use Rattle.points.specs.Points.{RowIn};
-ghost use Rattle.trace_run.specs.Device.{handheld, home, with_vdp, with_home, device_write, device_read, of_handheld, of_home};
+ghost use Rattle.trace_run.specs.declared.Device.{Device};
+ghost use Rattle.trace_run.specs.Device.{handheld, home, with_vdp, with_home, device_write, device_read, went};
 ghost use Rattle.trace_run.specs.Run.{held, on, row_turn, into_frame, layer_colour, layers_painted, layers_into, shown_of, frame_for, turn_for, turn_of, TurnLeaves};
 ghost use Rattle.trace_run.specs.Run.{turned, write_turned, read_turned, step_turned};
 
 pub mod output;
 
-use home::{HomeState, HomeStepped};
+use front::{ReadBack, Written};
+use home::HomeState;
 use picture::{GG_VISIBLE_PIXEL_WIDTH, RenderArea};
-use points::DrawnRow;
+use points::Stepped;
 use refusal::refusal_number;
-use step::{Stepped, layer_row_step};
+use step::layer_row_step;
 use trace_record::{Machine, Record, record_on};
 use trace_text::Answer;
 use vdp::VdpState;
@@ -52,6 +55,55 @@ impl Device {
     }
 }
 
+// A state of either machine, which a device holds.
+trait State: Copy {
+    ghost line_of: { Self → ℕ };
+
+    ghost held_in: { Device → Self → Device };
+
+    // The line that its counter reads.
+    fn line(&self) -> u8
+        ensures { result ≡ line_of self.now };
+
+    // The same device with this state.
+    fn held_in(self, device: Device) -> Device
+        ensures { result ≡ held_in device self };
+}
+
+impl State for VdpState {
+    ghost line_of = { λ state. state.raster.v_counter };
+
+    ghost held_in = { with_vdp };
+
+    fn line(&self) -> u8 {
+        self.raster.v_counter
+    }
+
+    fn held_in(self, device: Device) -> Device {
+        Device {
+            vdp: self,
+            ..device
+        }
+    }
+}
+
+impl State for HomeState {
+    ghost line_of = { λ state. state.raster.v_counter };
+
+    ghost held_in = { with_home };
+
+    fn line(&self) -> u8 {
+        self.raster.v_counter
+    }
+
+    fn held_in(self, device: Device) -> Device {
+        Device {
+            home: self,
+            ..device
+        }
+    }
+}
+
 // The device, the place in the recording, and the records so far.
 #[derive(Clone, Copy)]
 pub struct Run {
@@ -68,60 +120,61 @@ pub enum Shown {
     Layers,
 }
 
-// What a record's call answers, and the run after it.
+// What a record's call answers, if there is one, and the run after it.
 #[derive(Clone, Copy)]
 pub struct Turned {
-    pub answer: Answer,
+    pub answer: Option<Answer>,
     pub run: Run,
 }
 
-// The machine of a run's device.
-fn machine_of(run: Run) -> Machine
-    ensures { result ≡ run.device.machine }
-{
-    let device = run.device;
-    device.machine
-}
-
-// A call that is made, on each machine: its answer, and the run one record and some bytes on, with the machine's new state.
-fn handheld_turned(mut run: Run, bytes: usize, answer: Answer, vdp: VdpState) -> Turned
+// A call that is made: its answer, and the run one record and some bytes on, with the device that it leaves.
+fn made(run: Run, bytes: usize, answer: Answer, device: Device) -> Turned
     requires { (run.at < 4294967296) × (run.count < 4294967296) × (bytes < 16) }
-    ensures { result ≡ turned answer (on run bytes (with_vdp run.device vdp)) }
+    ensures { result ≡ turned (Some answer) (on run bytes device) }
 {
-    let mut device = run.device;
-    device.vdp = vdp;
-    run.device = device;
-    run.at += bytes;
-    run.count += 1;
     Turned {
-        answer: answer,
-        run: run,
+        answer: Some(answer),
+        run: Run {
+            device,
+            at: run.at + bytes,
+            count: run.count + 1,
+        },
     }
 }
 
-fn home_turned(mut run: Run, bytes: usize, answer: Answer, home: HomeState) -> Turned
-    requires { (run.at < 4294967296) × (run.count < 4294967296) × (bytes < 16) }
-    ensures { result ≡ turned answer (on run bytes (with_home run.device home)) }
+// A call of either machine, once it is made: what it answers, and the run with the state that it leaves.
+fn wrote<D: State>(run: Run, written: Written<D>) -> Turned
+    requires { (run.at < 4294967296) × (run.count < 4294967296) }
+    ensures { result ≡ turned (Some (Answer.Wrote (refusal_number written.outcome))) (on run 4 (D.held_in run.device written.device)) }
 {
-    let mut device = run.device;
-    device.home = home;
-    run.device = device;
-    run.at += bytes;
-    run.count += 1;
-    Turned {
-        answer: answer,
-        run: run,
-    }
+    let answer = Answer::Wrote(refusal_number(written.outcome));
+    made(run, 4, answer, written.device.held_in(run.device))
 }
 
-// No call: the run stays where it is.
-fn none(run: Run) -> Turned
-    ensures { result ≡ turned Answer.Nothing run }
+// A refused read gives byte 0, as a line says it (R2.3).
+fn gave<D: State>(run: Run, back: ReadBack<D>) -> Turned
+    requires { (run.at < 4294967296) × (run.count < 4294967296) }
+    ensures { result ≡ turned (Some (Answer.Gave (refusal_number (outcome_of back.byte)) (byte_given back.byte))) (on run 3 (D.held_in run.device back.device)) }
 {
-    Turned {
-        answer: Answer::Nothing,
-        run: run,
-    }
+    let answer = match back.byte {
+        Ok(byte) => Answer::Gave(0, byte),
+        Err(refusal) => Answer::Gave(u8::from(refusal), 0),
+    };
+    made(run, 3, answer, back.device.held_in(run.device))
+}
+
+// A step tells the line that the counter then reads (R7.10).
+fn stepped<D: State>(run: Run, stepped: Stepped<D>) -> Turned
+    requires { (run.at < 4294967296) × (run.count < 4294967296) }
+    ensures { result ≡ step_turned run (went stepped.outcome (D.line_of stepped.device) stepped.interrupt stepped.report (D.held_in run.device stepped.device) []) }
+{
+    let answer = Answer::Stepped(
+        refusal_number(stepped.outcome),
+        stepped.device.line(),
+        stepped.interrupt,
+        stepped.report,
+    );
+    made(run, 3, answer, stepped.device.held_in(run.device))
 }
 
 // A port write.
@@ -130,17 +183,10 @@ fn write_turn(run: Run, vram: &mut [u8], port: u8, value: u8) -> Turned
     ensures value { result ≡ write_turned run (device_write run.device vram.old port value) }
     ensures vram_after { vram.new ≡ (device_write run.device vram.old port value).vram }
 {
-    match machine_of(run) {
-        Machine::Handheld => {
-            let written = run.device.vdp.out(vram, port as u16, value);
-            let refusal = written.refusal;
-            return handheld_turned(run, 4, Answer::Wrote(refusal_number(refusal)), written.vdp);
-        }
-        Machine::Home => {
-            let written = run.device.home.out(vram, port as u16, value);
-            let refusal = written.refusal;
-            return home_turned(run, 4, Answer::Wrote(refusal_number(refusal)), written.home);
-        }
+    let port = u16::from(port);
+    match run.device.machine {
+        Machine::Handheld => wrote(run, run.device.vdp.out(vram, port, value)),
+        Machine::Home => wrote(run, run.device.home.out(vram, port, value)),
     }
 }
 
@@ -149,61 +195,11 @@ fn read_turn(run: Run, vram: &[u8], port: u8) -> Turned
     requires { (run.at < 4294967296) × (run.count < 4294967296) }
     ensures { result ≡ read_turned run (device_read run.device vram.now port) }
 {
-    match machine_of(run) {
-        Machine::Handheld => {
-            let back = run.device.vdp.input(vram, port as u16);
-            let refusal = back.refusal;
-            return handheld_turned(
-                run,
-                3,
-                Answer::Gave(refusal_number(refusal), back.byte),
-                back.vdp,
-            );
-        }
-        Machine::Home => {
-            let back = run.device.home.input(vram, port as u16);
-            let refusal = back.refusal;
-            return home_turned(
-                run,
-                3,
-                Answer::Gave(refusal_number(refusal), back.byte),
-                back.home,
-            );
-        }
+    let port = u16::from(port);
+    match run.device.machine {
+        Machine::Handheld => gave(run, run.device.vdp.input(vram, port)),
+        Machine::Home => gave(run, run.device.home.input(vram, port)),
     }
-}
-
-// A step of each machine, once it is made.
-fn handheld_stepped(run: Run, stepped: Stepped) -> Turned
-    requires { (run.at < 4294967296) × (run.count < 4294967296) }
-    ensures { result ≡ step_turned run (of_handheld run.device stepped []) }
-{
-    let refusal = stepped.refusal;
-    let interrupt = stepped.interrupt;
-    let report = stepped.report;
-    let counter = stepped.vdp.raster.v_counter;
-    handheld_turned(
-        run,
-        3,
-        Answer::Stepped(refusal_number(refusal), counter, interrupt, report),
-        stepped.vdp,
-    )
-}
-
-fn home_stepped(run: Run, stepped: HomeStepped) -> Turned
-    requires { (run.at < 4294967296) × (run.count < 4294967296) }
-    ensures { result ≡ step_turned run (of_home run.device stepped []) }
-{
-    let refusal = stepped.refusal;
-    let interrupt = stepped.interrupt;
-    let report = stepped.report;
-    let counter = stepped.home.raster.v_counter;
-    home_turned(
-        run,
-        3,
-        Answer::Stepped(refusal_number(refusal), counter, interrupt, report),
-        stepped.home,
-    )
 }
 
 // A step into the row buffer.
@@ -211,12 +207,9 @@ fn row_step_turn(run: Run, vram: &[u8], row: &mut [u8], area: RenderArea) -> Tur
     requires { (run.at < 4294967296) × (run.count < 4294967296) }
     ensures { (frame : List ℕ) → TurnLeaves (row_turn area (held run vram.now row.old frame)) result vram.now row.new frame }
 {
-    match machine_of(run) {
-        Machine::Handheld => return handheld_stepped(
-            run,
-            step::row_step(run.device.vdp, vram, row, area),
-        ),
-        Machine::Home => return home_stepped(run, home::row_step(run.device.home, vram, row)),
+    match run.device.machine {
+        Machine::Handheld => stepped(run, step::row_step(run.device.vdp, vram, row, area)),
+        Machine::Home => stepped(run, home::row_step(run.device.home, vram, row)),
     }
 }
 
@@ -225,49 +218,38 @@ fn frame_step_turn(run: Run, vram: &[u8], frame: &mut [u8], area: RenderArea) ->
     requires { (run.at < 4294967296) × (run.count < 4294967296) }
     ensures { (row : List ℕ) → TurnLeaves (into_frame area (held run vram.now row frame.old)) result vram.now row frame.new }
 {
-    match machine_of(run) {
-        Machine::Handheld => return handheld_stepped(
-            run,
-            step::frame_step(run.device.vdp, vram, frame, area),
-        ),
-        Machine::Home => return home_stepped(run, home::frame_step(run.device.home, vram, frame)),
+    match run.device.machine {
+        Machine::Handheld => stepped(run, step::frame_step(run.device.vdp, vram, frame, area)),
+        Machine::Home => stepped(run, home::frame_step(run.device.home, vram, frame)),
     }
 }
 
-// How far a layer is past 64, the first sprite's.
-fn sprite_of(layer: u8) -> u8
-    ensures { result ≡ layer - 64 }
-{
-    if layer < 64 { 0 } else { layer - 64 }
-}
-
-// The colour of a layer.
+// The colour of a layer: the first sprite's is layer 64.
+#[tactic(auto, unfolding(crate::specs::Run::layer_colour))]
 fn layer_colour(layer: u8) -> u32
     ensures { result ≡ layer_colour layer }
 {
-    if layer == 0 {
-        return 0xFF202020;
+    match layer {
+        0 => 0xFF202020,
+        1 => 0xFFFF00FF,
+        _ => {
+            let red = u32::from(layer.saturating_sub(64)) * 4 % 256;
+            red + (255 - red) * 256 + 0xFF800000
+        }
     }
-    if layer == 1 {
-        return 0xFFFF00FF;
-    }
-    let red = (sprite_of(layer) as u32) * 4 % 256;
-    red + (255 - red) * 256 + 0xFF800000
 }
 
 // The layers of a row as colours, into its place in the frame.
-fn paint_layers(frame: &mut [u8], drawn: DrawnRow, layers: &[u8; GG_VISIBLE_PIXEL_WIDTH])
+fn paint_layers(frame: &mut [u8], drawn: Option<u8>, layers: &[u8; GG_VISIBLE_PIXEL_WIDTH])
     requires { (frame_size VisibleOnly ≤ length frame.old) × RowIn (screen_of VisibleOnly) drawn }
     ensures { frame.new ≡ layers_painted drawn (λ y. at layers.now) frame.old }
 {
-    let DrawnRow::Drawn(y) = drawn else {
+    let Some(y) = drawn else {
         return;
     };
-    let first = small::wide(y) * GG_VISIBLE_PIXEL_WIDTH;
-    let mut x: usize = 0;
-    while x < GG_VISIBLE_PIXEL_WIDTH {
+    let first = usize::from(y) * GG_VISIBLE_PIXEL_WIDTH;
+    for x in 0..GG_VISIBLE_PIXEL_WIDTH {
         tile::pixel_set_full(frame, first + x, layer_colour(layers[x]));
-        x += 1;
     }
 }
 
@@ -276,15 +258,14 @@ fn layer_turn(run: Run, vram: &[u8], row: &mut [u8], frame: &mut [u8], area: Ren
     requires { (run.at < 4294967296) × (run.count < 4294967296) × (frame_size VisibleOnly ≤ length frame.old) × (columns area ≡ columns VisibleOnly) }
     ensures { TurnLeaves (layers_into area (held run vram.now row.old frame.old)) result vram.now row.new frame.new }
 {
-    match machine_of(run) {
+    match run.device.machine {
         Machine::Handheld => {
             let mut layers = [0u8; GG_VISIBLE_PIXEL_WIDTH];
-            let stepped = layer_row_step(run.device.vdp, vram, row, &mut layers, area);
-            let drawn = stepped.row;
-            paint_layers(frame, drawn, &layers);
-            return handheld_stepped(run, stepped);
+            let step = layer_row_step(run.device.vdp, vram, row, &mut layers, area);
+            paint_layers(frame, step.row, &layers);
+            stepped(run, step)
         }
-        Machine::Home => return row_step_turn(run, vram, row, area),
+        Machine::Home => row_step_turn(run, vram, row, area),
     }
 }
 
@@ -292,10 +273,10 @@ fn layer_turn(run: Run, vram: &[u8], row: &mut [u8], frame: &mut [u8], area: Ren
 fn shown_of(shown: Shown, area: RenderArea) -> Shown
     ensures { result ≡ shown_of shown area }
 {
-    match area {
-        RenderArea::VisibleOnly => shown,
-        RenderArea::EffectiveArea => Shown::Nothing,
-        RenderArea::TrueEdges => shown,
+    if area == RenderArea::EffectiveArea {
+        Shown::Nothing
+    } else {
+        shown
     }
 }
 
@@ -312,13 +293,13 @@ fn step_turn(
     ensures { TurnLeaves (turn_for shown area (held run vram.now row.old frame.old)) result vram.now row.new frame.new }
 {
     match shown_of(shown, area) {
-        Shown::Nothing => return row_step_turn(run, vram, row, area),
-        Shown::Colours => return frame_step_turn(run, vram, frame, area),
-        Shown::Layers => return layer_turn(run, vram, row, frame, area),
+        Shown::Nothing => row_step_turn(run, vram, row, area),
+        Shown::Colours => frame_step_turn(run, vram, frame, area),
+        Shown::Layers => layer_turn(run, vram, row, frame, area),
     }
 }
 
-// The record at the run's place.
+// The record at the run's place; without a call the run stays there.
 pub fn turn(
     run: Run,
     shown: Shown,
@@ -330,11 +311,10 @@ pub fn turn(
     requires { (run.at < 4294967296) × (run.count < 4294967296) × (frame_for shown ≤ length frame.old) }
     ensures { TurnLeaves (turn_of (turn_for shown) input.now (held run vram.old row.old frame.old)) result vram.new row.new frame.new }
 {
-    match record_on(machine_of(run), input, run.at) {
-        Record::Write(port, value) => return write_turn(run, vram, port, value),
-        Record::Read(port) => return read_turn(run, vram, port),
-        Record::Step(area) => return step_turn(run, shown, vram, row, frame, area),
-        Record::Bad => return none(run),
-        Record::End => return none(run),
+    match record_on(run.device.machine, input, run.at) {
+        Record::Write(port, value) => write_turn(run, vram, port, value),
+        Record::Read(port) => read_turn(run, vram, port),
+        Record::Step(area) => step_turn(run, shown, vram, row, frame, area),
+        Record::Bad | Record::End => Turned { answer: None, run },
     }
 }

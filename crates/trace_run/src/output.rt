@@ -28,19 +28,16 @@ pub fn trace(device: Device, input: &[u8], vram: &mut [u8], row: &mut [u8], out:
         return put_all(out, 0, b"long\n");
     }
     let mut run = Run {
-        device: device,
+        device,
         at: 0,
         count: 0,
     };
     let mut none = [0u8; 0];
     let mut len = 0;
-    let mut i = 0;
-    while i < input.len() {
+    for _i in 0..input.len() {
         let turned = turn(run, Shown::Nothing, input, vram, row, &mut none);
-        let answer = turned.answer;
-        len = put_answer(out, len, answer);
+        len = put_answer(out, len, turned.answer);
         run = turned.run;
-        i += 1;
     }
     trace_text::end::put_last(out, len, input, run.at, run.count)
 }
@@ -60,10 +57,7 @@ fn has_room(screen: Screen, frame: usize, out: usize) -> bool
     ensures { result ≡ (leb (picture_room screen) out && eqb frame (frame_size screen)) }
 {
     let count = trace_text::end::pixel_count(screen);
-    if out < 15 + 3 * count {
-        return false;
-    }
-    frame == 4 * count
+    15 + 3 * count <= out && frame == 4 * count
 }
 
 // A whole recording, record by record; answers where the run then stands.
@@ -79,15 +73,12 @@ fn run_all(
     ensures { RunLeaves (ran (turn_for shown) input.now (start device vram.old row.old frame.old)) result vram.new row.new frame.new }
 {
     let mut run = Run {
-        device: device,
+        device,
         at: 0,
         count: 0,
     };
-    let mut i = 0;
-    while i < input.len() {
-        let turned = turn(run, shown, input, vram, row, frame);
-        run = turned.run;
-        i += 1;
+    for _i in 0..input.len() {
+        run = turn(run, shown, input, vram, row, frame).run;
     }
     run.at
 }
@@ -106,8 +97,7 @@ pub fn snapshot(
     ensures picture_leaves { PictureLeaves (turn_for shown) device input.now vram.old row.old frame.old out.old result vram.new row.new frame.new out.new }
     ensures upper_bound { (result ≤ length out.new) × (result ≡ length (take result out.new)) }
 {
-    let machine = device.machine;
-    let screen = screen_for(machine);
+    let screen = screen_for(device.machine);
     if !has_room(screen, frame.len(), out.len()) {
         return 0;
     }

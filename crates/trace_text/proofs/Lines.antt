@@ -1,6 +1,7 @@
 -- Numbers and lines, as the code writes them.
 -- Assumes nothing.
-use mathlib.Core.Path.{◌≡◌, refl, sym, ap, ◌∙◌}
+use Rattle.std.specs.Prelude.{None, Option, Some}
+use mathlib.Core.Path.{◌≡◌, sym, ap, ◌∙◌}
 use mathlib.Core.List.{List, [], ◌∷◌, ◌++◌, append_assoc}
 use Prim.Native.Nat.{ℕ, ◌+◌, ◌-◌, ◌/◌, ◌%◌, ◌<◌, ◌≤◌}
 use native.Mathlib.Omega.{arith}
@@ -14,7 +15,7 @@ use Rattle.points.specs.declared.VdpInt.{VdpInt}
 use Rattle.points.specs.declared.DisplayRefresh.{DisplayRefresh}
 use Rattle.points.specs.Points.{interrupt_number, report_number}
 use Rattle.trace_text.specs.declared.Answer.{Answer}
-use Rattle.trace_text.specs.declared.Answer.TheVariants.{Stepped, Nothing}
+use Rattle.trace_text.specs.declared.Answer.TheVariants.{Stepped}
 use Rattle.trace_text.specs.Text.{digit_of, decimal, hex_digit, told, line_of}
 
 -- a number of one digit
@@ -59,18 +60,18 @@ put_as o at e h = (h.0 ∙ ap (λ (l : List ℕ). at + length l) e, h.1 ∙ ap (
 
 -- the line of an answer, by its cases: what was written is that line
 pub line_done :
-    (o : List ℕ) (at : ℕ) {a b : Answer} {x o' : List ℕ} {r : ℕ} → a ≡ b → x ≡ line_of b → (r ≡ at + length x) × (o' ≡ written o at x)
-    → (r ≡ at + length (line_of a)) × (o' ≡ written o at (line_of a))
-line_done o at e f h = put_as o at (f ∙ ap line_of (sym e)) h
+    (o : List ℕ) (at : ℕ) {a : Option Answer} {b c : Answer} {x o' : List ℕ} {r : ℕ} → a ≡ Some b → b ≡ c → x ≡ line_of (Some c)
+    → (r ≡ at + length x) × (o' ≡ written o at x) → (r ≡ at + length (line_of a)) × (o' ≡ written o at (line_of a))
+line_done o at e d f h = put_as o at (f ∙ ap line_of (sym (e ∙ ap Some d))) h
 
-pub no_line : (o : List ℕ) (at : ℕ) {a : Answer} → a ≡ Nothing → (at ≡ at + length (line_of a)) × (o ≡ written o at (line_of a))
+pub no_line : (o : List ℕ) (at : ℕ) {a : Option Answer} → a ≡ None → (at ≡ at + length (line_of a)) × (o ≡ written o at (line_of a))
 unfolding line_of
-no_line o at e = line_done o at {x = []} e refl (omega arith, sym (written_nil o at))
+no_line o at e = put_as o at {x = []} (ap line_of (sym e)) (omega arith, sym (written_nil o at))
 
 pub step_line :
     (f k : ℕ) (i : VdpInt) (d : DisplayRefresh) {h l x y : ℕ} → h ≡ hex_digit (k / 16) → l ≡ hex_digit (k % 16)
     → (x ≡ interrupt_number i) × (x < 2) → (y ≡ report_number d) × (y < 3)
-    → told 0x73 f (0x20 ∷ h ∷ l ∷ 0x20 ∷ (48 + x) ∷ 0x20 ∷ (48 + y) ∷ 0x0A ∷ []) ≡ line_of (Stepped f k i d)
+    → told 0x73 f (0x20 ∷ h ∷ l ∷ 0x20 ∷ (48 + x) ∷ 0x20 ∷ (48 + y) ∷ 0x0A ∷ []) ≡ line_of (Some (Stepped f k i d))
 unfolding line_of
 step_line f k i d eh el p q =
     let ei = as_digit p.0 (omega (arith, p.1)) in

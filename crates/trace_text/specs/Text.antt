@@ -1,9 +1,9 @@
 -- R7.10, R7.11: numbers as text, and the lines that a trace prints.
 -- Assumes nothing.
-use Rattle.std.specs.Prelude.{cond, List, [], ◌∷◌, ◌++◌, ℕ, ◌+◌, ◌/◌, ◌%◌, ltb}
+use Rattle.std.specs.Prelude.{cond, List, [], ◌∷◌, ◌++◌, ℕ, ◌+◌, ◌/◌, ◌%◌, ltb, None, Option, Some}
 use Rattle.points.specs.Points.{interrupt_number, report_number}
 use Rattle.trace_text.specs.declared.Answer.{Answer}
-use Rattle.trace_text.specs.declared.Answer.TheVariants.{Wrote, Gave, Stepped, Nothing}
+use Rattle.trace_text.specs.declared.Answer.TheVariants.{Wrote, Gave, Stepped}
 
 -- ---- R7.10, numbers: in decimal, and in two hexadecimal capitals
 -- the last digit of n
@@ -50,13 +50,13 @@ bad = 0x62 ∷ 0x61 ∷ 0x64 ∷ []
 abbrev pub long : List ℕ
 long = 0x6C ∷ 0x6F ∷ 0x6E ∷ 0x67 ∷ []
 
--- R7.10: the line of a call's answer, which has its refusal's number; no call prints nothing
-unfoldable pub line_of : Answer → List ℕ
-line_of (Wrote refusal) = line (w ∷ decimal refusal ∷ [])
-line_of (Gave refusal byte) = line (r ∷ decimal refusal ∷ hex byte ∷ [])
-line_of (Stepped refusal counter interrupt report) =
+-- R7.10: the line of a call's answer, which has its refusal's number; without a call there is none
+unfoldable pub line_of : Option Answer → List ℕ
+line_of None = []
+line_of (Some (Wrote refusal)) = line (w ∷ decimal refusal ∷ [])
+line_of (Some (Gave refusal byte)) = line (r ∷ decimal refusal ∷ hex byte ∷ [])
+line_of (Some (Stepped refusal counter interrupt report)) =
     line (s ∷ decimal refusal ∷ hex counter ∷ decimal (interrupt_number interrupt) ∷ decimal (report_number report) ∷ [])
-line_of Nothing = []
 
 -- R7.11, R7.8: the lines of the end, of a bad record and of a long recording
 unfoldable pub end_line : ℕ → List ℕ

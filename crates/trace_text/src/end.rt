@@ -20,25 +20,25 @@ pub fn put_last(out: &mut [u8], at: usize, input: &[u8], stopped: usize, count: 
 }
 
 // The pixels of a screen, of which its frame has four bytes each and its picture three.
+#[tactic(auto, unfolding(crate::specs::End::pixel_count))]
 pub fn pixel_count(screen: Screen) -> usize
     ensures { (result ≡ pixel_count screen) × (result ≤ 57344) }
 {
     match screen {
-        Screen::VisibleOnly => 23040,
+        Screen::VisibleOnly | Screen::TrueEdges => 23040,
         Screen::EffectiveArea => 57344,
-        Screen::TrueEdges => 23040,
         Screen::Home => 49152,
     }
 }
 
 // The header of a binary PPM.
+#[tactic(auto, unfolding(crate::specs::End::header, crate::specs::Text::decimal))]
 fn header_of(screen: Screen) -> [u8; 15]
     ensures { result ≡ header screen }
 {
     match screen {
-        Screen::VisibleOnly => *b"P6\n160 144\n255\n",
+        Screen::VisibleOnly | Screen::TrueEdges => *b"P6\n160 144\n255\n",
         Screen::EffectiveArea => *b"P6\n256 224\n255\n",
-        Screen::TrueEdges => *b"P6\n160 144\n255\n",
         Screen::Home => *b"P6\n256 192\n255\n",
     }
 }
@@ -52,12 +52,10 @@ fn put_ppm(out: &mut [u8], screen: Screen, frame: &[u8]) -> usize
     let count = pixel_count(screen);
     let header = header_of(screen);
     let mut at = put_all(out, 0, &header);
-    let mut i = 0;
-    while i < count {
+    for i in 0..count {
         let k = 4 * i;
         let end = k + 3;
         at = put_all(out, at, &frame[k..end]);
-        i += 1;
     }
     at
 }

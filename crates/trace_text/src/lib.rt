@@ -1,7 +1,8 @@
 // Numbers and lines as text (R7.10, R7.11).
+// A text is put at a place of a buffer, and the place behind it given: the contracts of `Cursor` and `Write` of std over a slice do not say what the slice holds at the end.
 #![tactic(auto)]
 
-ghost use Rattle.std.specs.Prelude.{◌≡◌, [], ◌∷◌, ◌+◌, ◌/◌, ◌≤◌, ◌<◌, length};
+ghost use Rattle.std.specs.Prelude.{◌≡◌, [], ◌∷◌, ◌+◌, ◌/◌, ◌≤◌, ◌<◌, length, Some};
 ghost use Rattle.laws.specs.Lists.{written};
 ghost use Rattle.trace_text.specs.Text.{digit_of, decimal, hex_digit, numbered, told, line_of};
 
@@ -10,13 +11,12 @@ pub mod end;
 use points::{DisplayRefresh, VdpInt};
 use trace_record::put_all;
 
-// What a call answers, and its line says: first the number of its refusal.
+// What a call answers, and its line says: first the number of its refusal. (No Refusal: `put_answer` takes any number.)
 #[derive(Clone, Copy)]
 pub enum Answer {
     Wrote(u8),
     Gave(u8, u8),
     Stepped(u8, u8, VdpInt, DisplayRefresh),
-    Nothing,
 }
 
 // A digit, in capitals.
@@ -48,22 +48,17 @@ fn five_digits(n: usize) -> [u8; 5]
 }
 
 // How many of the five are not printed: the zeros in front.
+#[tactic(auto, unfolding(crate::specs::Text::decimal))]
 fn unprinted(n: usize) -> usize
     ensures { length (decimal n) + result ≡ 5 }
 {
-    if n < 10 {
-        return 4;
+    match n {
+        0..=9 => 4,
+        10..=99 => 3,
+        100..=999 => 2,
+        1000..=9999 => 1,
+        _ => 0,
     }
-    if n < 100 {
-        return 3;
-    }
-    if n < 1000 {
-        return 2;
-    }
-    if n < 10000 {
-        return 1;
-    }
-    0
 }
 
 // A number of at most five digits.
@@ -95,15 +90,15 @@ fn put_line(out: &mut [u8], at: usize, letter: u8, refusal: u8, rest: &[u8]) -> 
     ensures out_after { out.new ≡ written out.old at (told letter refusal rest.now) }
 {
     let a = put_all(out, at, &[letter, b' ']);
-    let b = put_decimal(out, a, refusal as usize);
+    let b = put_decimal(out, a, usize::from(refusal));
     put_all(out, b, rest)
 }
 
 // That of a read.
 fn put_read(out: &mut [u8], at: usize, refusal: u8, byte: u8) -> usize
     requires { at + 15 ≤ length out.old }
-    ensures value { result ≡ at + length (line_of (Answer.Gave refusal byte)) }
-    ensures out_after { out.new ≡ written out.old at (line_of (Answer.Gave refusal byte)) }
+    ensures value { result ≡ at + length (line_of (Some (Answer.Gave refusal byte))) }
+    ensures out_after { out.new ≡ written out.old at (line_of (Some (Answer.Gave refusal byte))) }
 {
     let high = hex_digit(byte / 16);
     let low = hex_digit(byte % 16);
@@ -120,13 +115,13 @@ fn put_step(
     report: DisplayRefresh,
 ) -> usize
     requires { at + 15 ≤ length out.old }
-    ensures value { result ≡ at + length (line_of (Answer.Stepped refusal counter interrupt report)) }
-    ensures out_after { out.new ≡ written out.old at (line_of (Answer.Stepped refusal counter interrupt report)) }
+    ensures value { result ≡ at + length (line_of (Some (Answer.Stepped refusal counter interrupt report))) }
+    ensures out_after { out.new ≡ written out.old at (line_of (Some (Answer.Stepped refusal counter interrupt report))) }
 {
     let high = hex_digit(counter / 16);
     let low = hex_digit(counter % 16);
-    let i = b'0' + points::interrupt_number(interrupt);
-    let d = b'0' + points::report_number(report);
+    let i = b'0' + u8::from(interrupt);
+    let d = b'0' + u8::from(report);
     put_line(
         out,
         at,
@@ -136,18 +131,20 @@ fn put_step(
     )
 }
 
-// The line of an answer.
-pub fn put_answer(out: &mut [u8], at: usize, answer: Answer) -> usize
+// The line of an answer; without one no line.
+pub fn put_answer(out: &mut [u8], at: usize, answer: Option<Answer>) -> usize
     requires { at + 15 ≤ length out.old }
     ensures value { result ≡ at + length (line_of answer) }
     ensures out_after { out.new ≡ written out.old at (line_of answer) }
 {
+    let Some(answer) = answer else {
+        return at;
+    };
     match answer {
         Answer::Wrote(refusal) => put_line(out, at, b'w', refusal, b"\n"),
         Answer::Gave(refusal, byte) => put_read(out, at, refusal, byte),
         Answer::Stepped(refusal, counter, interrupt, report) => put_step(
             out, at, refusal, counter, interrupt, report,
         ),
-        Answer::Nothing => at,
     }
 }

@@ -1,5 +1,7 @@
 -- What a refused port call leaves of the device is what the table's column says, and video memory stays; a refused read gives byte 0.
 -- Assumes nothing.
+use Rattle.refusal.specs.Refusals.{outcome_of, byte_given}
+use Rattle.std.specs.Prelude.{None, Option, Some, ℕ, Ok}
 use Prim.Native.Nat.{ℕ, ◌%◌}
 use mathlib.Core.Path.{◌≡◌, refl, ap}
 use mathlib.Core.Logic.{◌≢◌}
@@ -7,11 +9,8 @@ use mathlib.Core.List.{List}
 use lib.Dec.{eqb}
 use Rattle.laws.proofs.Tests.{either}
 use Rattle.vdp.specs.declared.VdpState.{VdpState}
-use Rattle.front.specs.declared.Latch.{Latch}
-use Rattle.front.specs.declared.Latch.TheVariants.{Empty, Held}
-use Rattle.vdp.specs.declared.Written.{Written}
-use Rattle.vdp.specs.declared.ReadBack.{ReadBack}
-use Rattle.refusal.specs.declared.Refusal.TheVariants.{Accepted}
+use Rattle.front.specs.declared.Written.{Written}
+use Rattle.front.specs.declared.ReadBack.{ReadBack}
 use Rattle.vdp.specs.Device.{front_of, with_front, unlatched}
 use Rattle.vdp.specs.Refusals.{device_left}
 use Rattle.front.specs.Ports.{front_write}
@@ -21,20 +20,20 @@ use Rattle.front.proofs.Behind.{accepted, front_write_behind, front_read_behind}
 
 -- ---- of the device
 module _ (s : VdpState) where
-  abbrev LeftW : Written → Type 0
-  LeftW a = a.refusal ≢ Accepted → a.vdp ≡ device_left a.refusal s
+  abbrev LeftW : Written VdpState → Type 0
+  LeftW a = a.outcome ≢ (Ok tt) → a.device ≡ device_left a.outcome s
 
   pub record LeftA (m : List ℕ) (a : After) : Type 0 where
     pub device : LeftW a.answer
-    pub memory : a.answer.refusal ≢ Accepted → a.vram ≡ m
+    pub memory : a.answer.outcome ≢ (Ok tt) → a.vram ≡ m
 
-  pub record LeftR (a : ReadBack) : Type 0 where
-    pub device : a.refusal ≢ Accepted → a.vdp ≡ device_left a.refusal s
-    pub zero : a.refusal ≢ Accepted → a.byte ≡ 0
+  pub record LeftR (a : ReadBack VdpState) : Type 0 where
+    pub device : outcome_of a.byte ≢ (Ok tt) → a.device ≡ device_left (outcome_of a.byte) s
+    pub zero : outcome_of a.byte ≢ (Ok tt) → byte_given a.byte ≡ 0
 
-  odd : (l : Latch) (v : ℕ) → LeftW (odd_palette l (unlatched s) v)
-  odd Empty v = λ _. refl
-  odd (Held b) v = accepted
+  odd : (l : Option ℕ) (v : ℕ) → LeftW (odd_palette l (unlatched s) v)
+  odd None v = λ _. refl
+  odd (Some b) v = accepted
 
   palette : (v : ℕ) → LeftW (palette_write (unlatched s) v)
   palette v = either LeftW (eqb (s.addr % 2) 0) (λ _. accepted) (λ _. odd s.cram_byte1 v)
@@ -48,7 +47,7 @@ module _ (s : VdpState) where
       let b = front_write_behind f 64 m p v in
       record {
         device = either LeftW a.answer.palette (λ t. rw (k.palette t).answer (palette v)) (λ _ n. ap (with_front s) (b.front n));
-        memory = either (λ (w : Written). w.refusal ≢ Accepted → a.vram ≡ m) a.answer.palette (λ t _. (k.palette t).memory)
+        memory = either (λ (w : Written VdpState). w.outcome ≢ (Ok tt) → a.vram ≡ m) a.answer.palette (λ t _. (k.palette t).memory)
             (λ _ n. b.memory n);
       }
 

@@ -4,7 +4,7 @@ use Rattle.std.specs.Prelude.{ℕ, List, [], ◌∷◌, replicate}
 use Rattle.laws.specs.Sizes.{vram_size}
 use Rattle.vdp.specs.declared.VdpState.{VdpState}
 use Rattle.vdp.specs.Device.{fresh}
-use Rattle.refusal.specs.Refusals.{refusal_number}
+use Rattle.refusal.specs.Refusals.{refusal_number, outcome_of, byte_given}
 use Rattle.vdp.specs.Ports.{port_write, port_read}
 
 -- A call of a port: a write of a byte, or a read.
@@ -25,14 +25,14 @@ pub record World : Type 0 where
 unfoldable pub after : World → Call → World
 after k (write p v) =
     let a = port_write k.device k.vram p v in
-    record { device = a.answer.vdp; vram = a.vram }
-after k (read p) = record { device = (port_read k.device k.vram p).vdp; vram = k.vram }
+    record { device = a.answer.device; vram = a.vram }
+after k (read p) = record { device = (port_read k.device k.vram p).device; vram = k.vram }
 
 unfoldable pub answer : World → Call → Answer
-answer k (write p v) = w (refusal_number (port_write k.device k.vram p v).answer.refusal)
+answer k (write p v) = w (refusal_number (port_write k.device k.vram p v).answer.outcome)
 answer k (read p) =
     let b = port_read k.device k.vram p in
-    r (refusal_number b.refusal) b.byte
+    r (refusal_number (outcome_of b.byte)) (byte_given b.byte)
 
 unfoldable pub after_all : World → List Call → World
 after_all k [] = k

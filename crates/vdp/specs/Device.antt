@@ -1,6 +1,6 @@
 -- R3.1, R3.2: the device record, fresh, and with one field changed.
 -- Assumes nothing.
-use Rattle.std.specs.Prelude.{ℕ, List, Bool, true, false, replicate}
+use Rattle.std.specs.Prelude.{ℕ, List, Bool, true, false, replicate, None, Option}
 use Rattle.raster.specs.declared.Raster.{Raster}
 use Rattle.raster.specs.declared.LineTable.{LineTable}
 use Rattle.raster.specs.declared.LineTable.TheVariants.{Steps262}
@@ -9,12 +9,10 @@ use Rattle.laws.specs.Sizes.{cram_size}
 use Rattle.front.specs.declared.Front.{Front}
 use Rattle.vdp.specs.declared.VdpState.{VdpState}
 use Rattle.front.specs.declared.WriteDest.{WriteDest}
-use Rattle.front.specs.declared.Latch.{Latch}
-use Rattle.front.specs.declared.Latch.TheVariants.{Empty}
 use Rattle.front.specs.Front.{fresh_front, front, emptied}
 
 -- R3.1: the record of these fields, in the order of the Rust's `VdpState`
-abbrev pub device : ℕ → List ℕ → Raster → ℕ → ℕ → WriteDest → List ℕ → Latch → Latch → Bool → List ℕ → VdpState
+abbrev pub device : ℕ → List ℕ → Raster → ℕ → ℕ → Option WriteDest → List ℕ → Option ℕ → Option ℕ → Bool → List ℕ → VdpState
 device status reg raster addr buffer dest cram command half dirty cache =
     record {
       status = status;
@@ -34,7 +32,7 @@ device status reg raster addr buffer dest cram command half dirty cache =
 abbrev pub made : LineTable → VdpState
 made t =
     device fresh_front.status fresh_front.reg (fresh_raster t) fresh_front.addr fresh_front.vram_buffer fresh_front.dest
-    (replicate cram_size 0) fresh_front.cmd_byte1 Empty true (replicate 32 0)
+    (replicate cram_size 0) fresh_front.cmd_byte1 None true (replicate 32 0)
 
 -- R4.8: with no table named, that of the chart
 abbrev pub fresh : VdpState
@@ -54,7 +52,7 @@ abbrev pub unlatched : VdpState → VdpState
 unlatched d = with_front d (emptied (front_of d))
 
 -- ---- the same device with another palette latch, and so on
-abbrev pub with_palette_byte : VdpState → Latch → VdpState
+abbrev pub with_palette_byte : VdpState → Option ℕ → VdpState
 with_palette_byte d l =
     device d.status d.reg d.raster d.addr d.vram_buffer d.dest d.cram d.cmd_byte1 l d.cram_dirty d.color_cache
 

@@ -1,5 +1,6 @@
 -- A call of the C face, from what its parts give, on either machine's block.
 -- Assumes nothing.
+use Rattle.std.specs.Prelude.{Err}
 use mathlib.Core.Path.{◌≡◌, refl, sym, ap, ◌∙◌}
 use mathlib.Core.Logic.{◌≢◌}
 use mathlib.Core.Bool.{Bool, true, false, cond, not, ◌&&◌}
@@ -10,9 +11,8 @@ use borrow.Author.Tests.{leb-true, leb-false, le-ltb, lt-ltb}
 use lib.Dec.{leb, ltb}
 use lib.ListN.{set}
 use Rattle.laws.proofs.Tests.{split}
-use Rattle.refusal.specs.declared.Refusal.{Refusal}
 use Rattle.refusal.specs.declared.Refusal.TheVariants.{BlockMalformed, UnknownArea}
-use Rattle.refusal.specs.Refusals.{refusal_number, first}
+use Rattle.refusal.specs.Refusals.{refusal_number, first, Outcome}
 use Rattle.front.specs.declared.Front.{Front}
 use Rattle.front.specs.Front.{emptied}
 use Rattle.front.specs.Lines.{left_behind}
@@ -35,7 +35,7 @@ along p l =
 
 -- ---- the block is tested first
 module _ {D : Type 0} {good : Bool} (d : D) (b x : List ℕ) (call : D → Called) where
-  pub ten : {n : ℕ} → good ≡ false → n ≡ refusal_number BlockMalformed → Leaves (on_device good d b x call) n b x
+  pub ten : {n : ℕ} → good ≡ false → n ≡ refusal_number (Err BlockMalformed) → Leaves (on_device good d b x call) n b x
   ten w en = rw en (leaves (sym (rw w)))
 
   pub on : good ≡ true → call d ≡ on_device good d b x call
@@ -59,7 +59,7 @@ module _ (good : Bool) (n : ℕ) {r : ℕ} where
 
     -- refused: all unchanged
     pub asked_refused : {D : Type 0} (d : D) (b x : List ℕ) (call : D → Called) → r ≢ 0
-        → Leaves (on_device good d b x (λ s. cond (leb n 2) (call s) (refused UnknownArea b x))) r b x
+        → Leaves (on_device good d b x (λ s. cond (leb n 2) (call s) (refused (Err UnknownArea) b x))) r b x
     asked_refused d b x call z =
         split good
         (λ e. split (leb n 2) (λ f. absurd (z (er ∙ rw (e, f)))) (λ f. rw er (rw (e, f) (leaves refl))))
@@ -67,7 +67,7 @@ module _ (good : Bool) (n : ℕ) {r : ℕ} where
 
 -- ---- R2.2 of a front and of the block that it stands in, by its command latch
 pub left_block :
-    (block : Front → List ℕ) (f : Front) {b : List ℕ} → block f ≡ b → block (emptied f) ≡ set (set b 21 0) 22 0 → (r : Refusal) {n : ℕ} → n ≡ refusal_number r
+    (block : Front → List ℕ) (f : Front) {b : List ℕ} → block f ≡ b → block (emptied f) ≡ set (set b 21 0) 22 0 → (r : Outcome) {n : ℕ} → n ≡ refusal_number r
     → block (left_behind r f) ≡ block_left n b
 left_block block f {b} e l r en =
     ap block (left_is r f)
@@ -75,7 +75,7 @@ left_block block f {b} e l r en =
     ∙ ap (λ (k : ℕ). block_left k b) (sym en)
 
 -- refused before the device is asked: all unchanged
-pub whole-refused : (b : List ℕ) (r : Refusal) (x : List ℕ) → b ≡ block_left (refusal_number r) b → LeftBehind b x (refused r b x)
+pub whole-refused : (b : List ℕ) (r : Outcome) (x : List ℕ) → b ≡ block_left (refusal_number r) b → LeftBehind b x (refused r b x)
 whole-refused b r x e =
     record {
       word = λ _. omega (arith, number_low r);

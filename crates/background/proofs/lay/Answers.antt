@@ -6,24 +6,19 @@ use Rattle.background.proofs.lay.Goals as goal
 
 pub loop-i-init : goal.loop-i-init
 loop-i-init c =
-    let a = c.args in (
-      omega arith,
-      lay_none a.marks a.shift a.prio.bits (search rules) (λ k. let f : Fits w8 (get_or a.prio.bits k 0) = search rules in f.fits),
-    )
+    let a = c.args in
+    lay_none a.marks a.shift a.prio.bits (search rules) (λ k. let f : Fits w8 (get_or a.prio.bits k 0) = search rules in f.fits)
 
 pub loop-i-preserved : goal.loop-i-preserved
 loop-i-preserved c =
     let a = c.args in
     let v = c.loop-i.invariant in
     let i = c.loop-i.i in
-    let f : Fits w8 (at a.marks i) = search rules in (
-      omega arith,
-      lay_step a.marks a.shift a.prio.bits i (search rules) (omega arith) f.fits v.1
-          (rw (c.lower.ensures, c.upper.ensures)),
-    )
+    let f : Fits w8 (at a.marks i) = search rules in
+    lay_step a.marks a.shift a.prio.bits i (search rules) (omega arith) f.fits v (rw (c.lower.ensures, c.upper.ensures))
 
 pub returns : goal.returns
 returns c =
     let a = c.args in
     let e : c.loop-i.i ≡ 32 = omega arith in
-    c.loop-i.invariant.1 ∙ lay_all a.marks a.shift a.prio.bits e
+    c.loop-i.invariant ∙ lay_all a.marks a.shift a.prio.bits e

@@ -2,7 +2,6 @@
 use Rattle.std.proofs.Common.{◌≡◌, ℕ, ◌+◌, ◌*◌, ◌/◌, ◌%◌, ◌≤◌, true, length, refl, ap, ◌∙◌, ⊎_elim, le_antisymm, arith, lit≤, length-set, get_or-set_other}
 use Rattle.std.proofs.Common.{ne_eqb}
 use lib.ListN.{length-replicate}
-use Rattle.laws.specs.Lists.{at}
 use Rattle.laws.specs.Paint.{painted}
 use Rattle.laws.proofs.Paint.{painted_on}
 use Rattle.bitmap.specs.Mask.{bytes_of}
@@ -15,7 +14,7 @@ use Rattle.background.proofs.render_background_line.Goals as goal
 pub render_tile-prio-requires-clause-n_bound_2 : goal.render_tile-prio-requires-clause-n_bound_2
 render_tile-prio-requires-clause-n_bound_2 c =
     let a = c.args in
-    let m = c.smaller-first.result in
+    let m = c.min-first.result in
     let d = c.requires.width_bound.2 in
     let f : a.sx % 8 + m ≤ 8 = omega arith in
     (omega arith, ⊎_elim (λ q. omega arith) (λ q. omega arith) d, whole-first a.sx a.cut m d f)
@@ -23,8 +22,8 @@ render_tile-prio-requires-clause-n_bound_2 c =
 pub loop-x-init : goal.loop-x-init
 loop-x-init c =
     let a = c.args in
-    let m = c.smaller-first.result in
-    let f = first_ends a.sx a.width c.smaller-first.ensures in (
+    let m = c.min-first.result in
+    let f = first_ends a.sx a.width c.min-first.ensures in (
       f.0,
       λ base e. e,
       λ e. laid_none (prio_to a.vram.now a.names a.sx a.y a.cut m) (m % 8) e,
@@ -53,20 +52,20 @@ loop-x-preserved c =
           (λ j. back_front a.vram.now a.names a.sx a.y (x + j)) true (λ j h. refl) (v.2 e)
           c.render_whole_tile-bits.ensures.value
           (rw (ne_eqb x 0 (not_first a.sx a.width a.cut x p.2 p.0 v.4 t))
-          (laid_next c.loop-x.marks c.render_tile-prio.result.bits (c.smaller-first.result % 8) x bits v.6
+          (laid_next c.loop-x.marks c.render_tile-prio.result.bits (c.min-first.result % 8) x bits v.6
           (inside a.sx a.width a.cut x p.2 p.0 v.4 t)
           c.render_whole_tile-bits.type_inv v.5 (v.7 (x / 8 + 1) (own_mark x)))),
       c.row-in-loop-x-1.given ∙ v.3,
       next_starts a.sx a.width a.cut x p.2 p.0 v.4 t,
       simp length-set v.5,
-      mark_step x c.smaller-first.result v.6,
+      mark_step x c.min-first.result v.6,
       λ k h. let o = other_mark x k h in get_or-set_other c.loop-x.marks (x / 8 + 1) k bits 0 o.0 ∙ v.7 k o.1,
     )
 
 pub returns-then-x-width-clause-row_after : goal.returns-then-x-width-clause-row_after
 returns-then-x-width-clause-row_after c =
     let a = c.args in
-    let m = c.smaller-first.result in
+    let m = c.min-first.result in
     let r1 = from_start a.row.now m (shade a.colours.now (back_colour a.vram.now a.names a.sx a.y))
     c.render_tile-prio.ensures.row_after in
     let p1 = from-cleared a.vram.now a.names a.sx a.y a.cut m c.render_tile-prio.ensures.bits_value c.new-none.ensures in
@@ -78,7 +77,7 @@ returns-then-x-width-clause-row_after c =
 pub returns-then-x-width-clause-bits_value : goal.returns-then-x-width-clause-bits_value
 returns-then-x-width-clause-bits_value c =
     let a = c.args in
-    let m = c.smaller-first.result in
+    let m = c.min-first.result in
     let r1 = from_start a.row.now m (shade a.colours.now (back_colour a.vram.now a.names a.sx a.y))
     c.render_tile-prio.ensures.row_after in
     let p1 = from-cleared a.vram.now a.names a.sx a.y a.cut m c.render_tile-prio.ensures.bits_value c.new-none.ensures in
@@ -90,7 +89,7 @@ returns-then-x-width-clause-bits_value c =
 pub returns-else-x-width-clause-row_after : goal.returns-else-x-width-clause-row_after
 returns-else-x-width-clause-row_after c =
     let a = c.args in
-    let m = c.smaller-first.result in
+    let m = c.min-first.result in
     let r1 = from_start a.row.now m (shade a.colours.now (back_colour a.vram.now a.names a.sx a.y))
     c.render_tile-prio.ensures.row_after in
     let p1 = from-cleared a.vram.now a.names a.sx a.y a.cut m c.render_tile-prio.ensures.bits_value c.new-none.ensures in
@@ -103,7 +102,7 @@ returns-else-x-width-clause-row_after c =
 pub returns-else-x-width-clause-bits_value : goal.returns-else-x-width-clause-bits_value
 returns-else-x-width-clause-bits_value c =
     let a = c.args in
-    let m = c.smaller-first.result in
+    let m = c.min-first.result in
     let r1 = from_start a.row.now m (shade a.colours.now (back_colour a.vram.now a.names a.sx a.y))
     c.render_tile-prio.ensures.row_after in
     let p1 = from-cleared a.vram.now a.names a.sx a.y a.cut m c.render_tile-prio.ensures.bits_value c.new-none.ensures in

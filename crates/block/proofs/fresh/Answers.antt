@@ -11,7 +11,7 @@ returns-then-not-has_room c = simp (sym c.has_room.ensures ∙ c.if-not-has_room
 pub returns-then-len-gt-OLD_SIZE : goal.returns-then-len-gt-OLD_SIZE
 returns-then-len-gt-OLD_SIZE c =
     fresh_new c.args.table c.args.block.now (sym c.has_room.ensures ∙ c.if-not-has_room.false)
-    c.stamp.ensures c.mark_of.ensures c.if-len-gt-OLD_SIZE.true c.table_number.ensures
+    c.stamp.ensures c.mark_of.ensures c.if-len-gt-OLD_SIZE.true c.from.ensures
 
 pub returns-else-len-gt-OLD_SIZE : goal.returns-else-len-gt-OLD_SIZE
 returns-else-len-gt-OLD_SIZE c =

@@ -9,11 +9,11 @@ pub loop-i-preserved : goal.loop-i-preserved
 loop-i-preserved c =
     let l = c.loop-i in
     let a = c.args in
-    (omega arith, colours_step a.place a.src.now l.i (omega arith) c.colour_at.ensures l.invariant.1, simp length-set l.invariant.2)
+    (colours_step a.place a.src.now l.i (omega arith) c.colour_at.ensures l.invariant.0, simp length-set l.invariant.1)
 
 pub returns : goal.returns
 returns c =
     let l = c.loop-i in
     let a = c.args in
     let e : l.i ≡ 32 = omega arith in
-    l.invariant.1 ∙ colours_all a.place a.src.now l.i e
+    l.invariant.0 ∙ colours_all a.place a.src.now l.i e

@@ -1,13 +1,9 @@
 -- `block_parts::put_colours` meets its contract: the four bytes of each colour, the lowest first, into dst at this place.
-use Prim.Native.Nat.{◌-◌, ◌*◌, ◌≤◌}
+use Prim.Native.Nat.{◌*◌}
 use mathlib.Core.Path.{◌≡◌}
-use lib.ListN.{length}
 use lib.Seq.{paste}
 use Rattle.block_parts.specs.Parts.{colour_bytes}
 use Rattle.block_parts.proofs.put_colours.Given as goal
 
 abbrev pub invariant-loop-i : goal.invariant-loop-i
-invariant-loop-i l = (l.i ≤ 32) × (l.dst ≡ paste l.initial.dst l.place (colour_bytes l.colours) (4 * l.i)) × (length l.dst ≡ length l.initial.dst)
-
-abbrev pub decreases-loop-i : goal.decreases-loop-i
-decreases-loop-i l = 32 - l.i
+invariant-loop-i l = (l.dst ≡ paste l.initial.dst l.place (colour_bytes l.colours) (4 * l.i))

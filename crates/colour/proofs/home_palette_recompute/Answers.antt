@@ -1,14 +1,12 @@
 -- `colour::home_palette_recompute` meets its contract: the 32 colours of that palette.
-use borrow.Author.Rules.{rules}
-use mathlib.Core.Path.{◌≡◌, ◌∙◌}
-use native.Mathlib.Omega.{arith}
-use Rattle.laws.proofs.Lists.{filled}
-use Rattle.colour.proofs.Laws.{length-home_colours, home_colours_step}
+use Rattle.std.proofs.Common.{rules, ◌≡◌, refl}
+use Rattle.laws.specs.Lists.{at}
+use Rattle.colour.specs.Home.{home_colour, home_colours_of}
+use Rattle.colour.proofs.Laws.{is_table_by_calls}
 use Rattle.colour.proofs.home_palette_recompute.Goals as goal
 
-pub loop-color-preserved : goal.loop-color-preserved
-loop-color-preserved c =
-    (omega arith, home_colours_step _ _ (omega arith) c.home_rgb.ensures c.loop-color.invariant.1, search rules)
-
 pub returns : goal.returns
-returns c = let e : c.loop-color.color ≡ 32 = omega arith in c.loop-color.invariant.1 ∙ filled 32 _ (length-home_colours _) e
+unfolding home_colours_of
+returns c =
+    let bytes = c.args.cram in
+    is_table_by_calls _ (λ p. p.0.now ≡ bytes) (λ i. home_colour (at bytes i)) (λ p i y q e k. search rules) 32 _ _ refl c.from_fn.ensures.items

@@ -11,4 +11,4 @@ returns c =
     let e : c.loop-chr.chr ≡ 512 = omega arith in
     let l : length c.loop-chr.pixels ≡ 131072 = omega arith in
     dumping_ends a.vram.now a.reg a.colours.now a.pixels.now l e c.is_set-tall.ensures c.is_set-high.ensures
-    c.loop-chr.invariant.2
+    c.loop-chr.invariant.1

@@ -1,13 +1,10 @@
 -- `dump::draw_tileset` meets its contract: all tiles, by the cached colours as they stand.
 use mathlib.Core.Path.{◌≡◌}
-use Prim.Native.Nat.{◌*◌, ◌-◌, ◌≤◌}
+use Prim.Native.Nat.{◌*◌}
 use lib.ListN.{length}
 use Rattle.dump.specs.Lines.{Dumping}
 use Rattle.dump.proofs.draw_tileset.Given as goal
 
 abbrev pub invariant-loop-chr : goal.invariant-loop-chr
 invariant-loop-chr l =
-    (l.chr ≤ 512) × (length l.pixels ≡ length l.initial.pixels) × Dumping l.vram l.tall l.high l.colours l.initial.pixels (8 * l.chr) l.pixels
-
-abbrev pub decreases-loop-chr : goal.decreases-loop-chr
-decreases-loop-chr l = 512 - l.chr
+    (length l.pixels ≡ length l.initial.pixels) × Dumping l.vram l.tall l.high l.colours l.initial.pixels (8 * l.chr) l.pixels

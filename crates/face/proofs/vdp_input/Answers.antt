@@ -9,4 +9,4 @@ returns-then-refused-ne0 c =
 pub returns : goal.returns
 returns c =
     input_done c.args.state.now c.asked-refused.ensures c.if-refused-ne0.false c.args.vram.now c.args.port
-    c.input-got.ensures c.number.ensures.0
+    c.input.ensures c.byte_word.ensures

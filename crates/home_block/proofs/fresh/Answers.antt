@@ -4,4 +4,4 @@ use Rattle.home_block.proofs.fresh.Goals as goal
 
 pub returns : goal.returns
 returns c =
-    fresh_block c.args.table c.args.block.now c.requires c.stamp.ensures c.table_number.ensures
+    fresh_block c.args.table c.args.block.now c.requires c.stamp.ensures c.from.ensures

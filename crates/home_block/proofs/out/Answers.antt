@@ -26,7 +26,7 @@ returns-then-sent c =
     (λ i. omega (arith, c.slice_known-1.given i)) c.args.vram.now c.args.port c.args.val
     c.write-sent.ensures.sent_in_place c.write-sent.ensures.vram_after))
 
-pub returns : goal.returns
-returns c =
+pub returns-else-sent : goal.returns-else-sent
+returns-else-sent c =
     by_front c.args.block.now c.requires (λ i. omega (arith, c.slice_known-1.given i)) c.args.vram.now
     c.args.port c.args.val c.write-sent.ensures.sent_in_place c.write-sent.ensures.vram_after c.if-sent.false

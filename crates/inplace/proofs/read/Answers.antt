@@ -9,7 +9,7 @@ use Rattle.inplace.proofs.read.Goals as goal
 pub returns-then-vram-ne-VRAM_SIZE : goal.returns-then-vram-ne-VRAM_SIZE
 unfolding front_read
 returns-then-vram-ne-VRAM_SIZE c =
-    refused_by (simp (ne_eqb _ _ c.if-vram-ne-VRAM_SIZE.true)) c.refused.ensures (sym (stays c.args.block.now c.requires))
+    refused_by (simp (ne_eqb _ _ c.if-vram-ne-VRAM_SIZE.true)) (sym (stays c.args.block.now c.requires))
 
 pub returns-in-126 : goal.returns-in-126
 unfolding front_read
@@ -19,7 +19,7 @@ returns-in-126 c =
 pub returns-in-127 : goal.returns-in-127
 unfolding front_read
 returns-in-127 c =
-    refused_by (simp (eq-eqb _ _ c.if-vram-ne-VRAM_SIZE.false, c.in-127.is)) c.refused-in-127.ensures
+    refused_by (simp (eq-eqb _ _ c.if-vram-ne-VRAM_SIZE.false, c.in-127.is))
     (sym (stays c.args.block.now c.requires))
 
 pub returns-in-191 : goal.returns-in-191
@@ -37,4 +37,4 @@ unfolding front_read
 returns-in_default c =
     let none = c.in_default.in_default-own.rest in
     refused_by (simp (eq-eqb _ _ c.if-vram-ne-VRAM_SIZE.false, ne_eqb _ _ none.0.0.0.1, ne_eqb _ _ none.0.0.1, ne_eqb _ _ none.0.1, ne_eqb _ _ none.1))
-    c.refused-in_default.ensures (sym (stays c.args.block.now c.requires))
+    (sym (stays c.args.block.now c.requires))

@@ -6,13 +6,13 @@ use Rattle.inplace.proofs.read_ram.Goals as goal
 
 pub returns-in-0 : goal.returns-in-0
 returns-in-0 c =
-    refused_by (simp (none_is c.args.block.now c.in-0.is)) c.refused.ensures
+    refused_by (simp (none_is c.args.block.now c.in-0.is))
     (emptied_stored c.args.block.now c.requires.front_formed)
 
 pub returns-in_default : goal.returns-in_default
 returns-in_default c =
     let none = c.in_default.in_default-own.rest in
-    refused_by (simp (palette_is c.args.block.now none.0.1 none.1)) c.refused-in_default.ensures
+    refused_by (simp (palette_is c.args.block.now none.0.1 none.1))
     (emptied_stored c.args.block.now c.requires.front_formed)
 
 pub returns-then-addr-ge-VRAM_ADDRESSES : goal.returns-then-addr-ge-VRAM_ADDRESSES
@@ -22,7 +22,7 @@ returns-then-addr-ge-VRAM_ADDRESSES c =
       then_address c.args.block.now c.requires.front_formed
           c.address_in-addr.ensures,
       le-ltb _ _ c.if-addr-ge-VRAM_ADDRESSES.true,
-    )) c.refused-then-addr-ge-VRAM_ADDRESSES.ensures
+    ))
     (emptied_stored c.args.block.now c.requires.front_formed)
 
 pub returns : goal.returns

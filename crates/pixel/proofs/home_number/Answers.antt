@@ -10,7 +10,7 @@ returns-then-is_set-col c =
     let a = c.args in
     let e : fills (at a.reg) a.col ≡ true = ap (λ (t : Bool). t && ltb a.col 8) (sym c.is_set.ensures) ∙
     c.if-is_set-col.true in
-    ap (λ (k : ℕ). 16 + k % 16) c.wide.ensures.value ∙ home_filled a.vram.now a.reg a.scroll a.row a.col e
+    ap (λ (k : ℕ). 16 + k % 16) c.from.ensures ∙ home_filled a.vram.now a.reg a.scroll a.row a.col e
 
 pub returns : goal.returns
 returns c =

@@ -1,8 +1,8 @@
 -- `pixel::spot_at` meets its contract: the pixel at a row and a column of a screen, by the registers, the latched scroll and video memory.
-use Rattle.std.proofs.Common.{length, sym, ◌∙◌, eq-eqb, ne_eqb}
+use Rattle.std.proofs.Common.{◌≡◌, length, sym, ◌∙◌, eq-eqb, ne_eqb}
 use Rattle.laws.specs.Sizes.{vram_size}
 use Rattle.picture.proofs.Laws.{colour_of_lt}
-use Rattle.pixel.specs.Pixel.{on_screen, spot_of}
+use Rattle.pixel.specs.Pixel.{spot_of}
 use Rattle.pixel.proofs.spot_at.Goals as goal
 
 pub returns-then-vram-ne-VRAM_SIZE-clause-value : goal.returns-then-vram-ne-VRAM_SIZE-clause-value
@@ -28,7 +28,7 @@ returns-clause-value c =
     )
 
 pub returns-clause-colour_bound : goal.returns-clause-colour_bound
-unfolding spot_of
-returns-clause-colour_bound c =
+returns-clause-colour_bound c n q =
     let a = c.args in
-    rw c.colour_number.ensures (colour_of_lt a.screen a.reg a.scroll a.vram.now a.row a.column)
+    let m : c.colour_number.result ≡ n = cc in
+    rw (← m, c.colour_number.ensures) (colour_of_lt a.screen a.reg a.scroll a.vram.now a.row a.column)

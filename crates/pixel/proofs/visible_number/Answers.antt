@@ -9,5 +9,5 @@ returns c =
     let p = c.requires in
     let fit : Fits w8 (get_or a.reg 8 0) = search rules in
     scrolled_number a.screen a.vram.now a.reg _ _ _ a.scroll a.row a.col p.4 fit.fits c.names_at.ensures.value
-    (ap (λ (k : ℕ). (304 - k) % 256) c.wide.ensures.value) (c.wide-2.ensures.value ∙ c.cut_of.ensures.value) p.3
+    (ap (λ (k : ℕ). (304 - k) % 256) c.from.ensures) (c.from-2.ensures ∙ c.cut_of.ensures.value) p.3
     c.column_at.ensures

@@ -7,12 +7,12 @@ use Rattle.replay.proofs.call.Goals as goal
 pub returns-in-87 : goal.returns-in-87
 returns-in-87 c =
     let a = c.args in
-    wrote_turn a.list.now a.at (world a.state.now a.vram.now a.row.now) c.in-87.is c.port.ensures c.vdp_out-word.ensures c.agrees.ensures
+    wrote_turn a.list.now a.at (world a.state.now a.vram.now a.row.now) c.in-87.is c.from.ensures c.vdp_out-word.ensures c.agrees.ensures
 
 pub returns-in-82 : goal.returns-in-82
 returns-in-82 c =
     let a = c.args in
-    read_turn a.list.now a.at (world a.state.now a.vram.now a.row.now) c.in-82.is c.port-in-82.ensures c.vdp_input-word.ensures c.agrees-in-82.ensures
+    read_turn a.list.now a.at (world a.state.now a.vram.now a.row.now) c.in-82.is c.from-in-82.ensures c.vdp_input-word.ensures c.agrees-in-82.ensures
 
 pub returns-in-83 : goal.returns-in-83
 returns-in-83 c =

@@ -6,12 +6,12 @@ use Rattle.replay.proofs.sum_of.Goals as goal
 
 pub loop-i-init : goal.loop-i-init
 unfolding sum_of
-loop-i-init c = (omega arith, refl, omega arith)
+loop-i-init c = (refl, omega arith)
 
 pub loop-i-preserved : goal.loop-i-preserved
-loop-i-preserved c = (omega arith, sum_step c.args.bytes.now c.loop-i.i c.loop-i.invariant.1 c.part-sum.ensures.0, omega arith)
+loop-i-preserved c = (sum_step c.args.bytes.now c.loop-i.i c.loop-i.invariant.0 c.part-sum.ensures.0, omega arith)
 
 pub returns : goal.returns
 returns c =
     let e : c.loop-i.i ≡ c.args.n = omega arith in
-    c.loop-i.invariant.1 ∙ ap (λ (k : ℕ). sum_of k c.args.bytes.now) e
+    c.loop-i.invariant.0 ∙ ap (λ (k : ℕ). sum_of k c.args.bytes.now) e

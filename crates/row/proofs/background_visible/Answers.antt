@@ -14,5 +14,5 @@ returns c =
     let fit : Fits w8 (get_or a.reg 8 0) = search rules in
     let b = c.render_background_line-prio.ensures in
     scrolled a.screen a.vram.now a.reg _ _ _ a.scroll a.line a.row.now a.colours.now _ c.requires.4 fit.fits
-    c.names_at.ensures.value (ap (λ (k : ℕ). (304 - k) % 256) c.wide.ensures.value) c.cut_of-cut.ensures.value b.row_after
+    c.names_at.ensures.value (ap (λ (k : ℕ). (304 - k) % 256) c.from.ensures) c.cut_of-cut.ensures.value b.row_after
     b.bits_value refl refl refl

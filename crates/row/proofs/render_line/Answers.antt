@@ -7,7 +7,7 @@ returns-clause-drawn c =
     let a = c.args in
     let whole = drawn_is a.vram.now a.reg a.scroll a.line a.row.now a.layers.now a.colours.now a.screen
     c.background_of-back.result c.requires.1
-    (rw (c.wide.ensures.value, c.wide-2.ensures.value) at c.background_of-back.ensures) c.clear.ensures
+    (rw (c.from.ensures, c.from-2.ensures) at c.background_of-back.ensures) c.clear.ensures
     c.render_sprites_line.ensures c.status_bits-bits.ensures
     c.fill_over.ensures.row_after c.fill_over.ensures.layers_after in whole.0
 
@@ -16,6 +16,6 @@ returns-clause-layers_after c =
     let a = c.args in
     let whole = drawn_is a.vram.now a.reg a.scroll a.line a.row.now a.layers.now a.colours.now a.screen
     c.background_of-back.result c.requires.1
-    (rw (c.wide.ensures.value, c.wide-2.ensures.value) at c.background_of-back.ensures) c.clear.ensures
+    (rw (c.from.ensures, c.from-2.ensures) at c.background_of-back.ensures) c.clear.ensures
     c.render_sprites_line.ensures c.status_bits-bits.ensures
     c.fill_over.ensures.row_after c.fill_over.ensures.layers_after in whole.1

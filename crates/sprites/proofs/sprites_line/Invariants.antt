@@ -9,8 +9,8 @@ use Rattle.stand.specs.Stand.{stand_of}
 use Rattle.sprites.proofs.List.{Going, Told}
 use Rattle.sprites.proofs.sprites_line.Given as goal
 
-abbrev pub invariant-loop-from : goal.invariant-loop-from
-invariant-loop-from l = (l.from ≤ 64)
+abbrev pub invariant-loop-next : goal.invariant-loop-next
+invariant-loop-next l = (l.from ≤ 64)
     × (l.count ≤ 8)
     × (length l.row ≡ length l.initial.row)
     × (length l.layers ≡ length l.initial.layers)
@@ -20,5 +20,5 @@ invariant-loop-from l = (l.from ≤ 64)
     Going (at l.vram) (at l.reg) (stand_of l.screen (early (at l.reg))) l.line f colour l.from l.count
     (Told base told l.colours l.width l.row l.mask.bits l.layers l.hit))
 
-abbrev pub decreases-loop-from : goal.decreases-loop-from
-decreases-loop-from l = 64 - l.from
+abbrev pub decreases-loop-next : goal.decreases-loop-next
+decreases-loop-next l = 64 - l.from

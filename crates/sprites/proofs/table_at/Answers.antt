@@ -4,4 +4,4 @@ use Rattle.sprites.proofs.table_at.Goals as goal
 
 pub returns-clause-value : goal.returns-clause-value
 unfolding table_at
-returns-clause-value c = rw c.wide.ensures.value
+returns-clause-value c = rw c.from.ensures

@@ -6,5 +6,5 @@ use Rattle.stand.proofs.sprite_line_settings_effective.Goals as goal
 pub returns-clause-value : goal.returns-clause-value
 unfolding effective_stand
 returns-clause-value c =
-    let x : c.wide-x.result ≡ (c.args.h + 256 - c.args.e) % 256 = omega arith in
-    rw (x, c.wide.ensures.value)
+    let x : c.from-x.result ≡ (c.args.h + 256 - c.args.e) % 256 = omega arith in
+    rw (x, c.from.ensures)

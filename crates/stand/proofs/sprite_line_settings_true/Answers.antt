@@ -7,6 +7,6 @@ pub returns-clause-value : goal.returns-clause-value
 unfolding edge_stand
 returns-clause-value c =
     let a = c.args in
-    let x : c.wide-place.result ≡ a.h - a.left - a.e = omega arith in
-    let start : c.wide.result ≡ a.left + a.e - a.h = omega arith in
+    let x : c.from-place.result ≡ a.h - a.left - a.e = omega arith in
+    let start : c.from.result ≡ a.left + a.e - a.h = omega arith in
     rw (c.edge_end.ensures.value, start, x)

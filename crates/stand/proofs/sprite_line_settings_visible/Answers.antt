@@ -13,16 +13,16 @@ pub returns-clause-value : goal.returns-clause-value
 unfolding visible_stand visible_seen
 returns-clause-value c =
     let a = c.args in
-    let x : c.minus-x.result ≡ a.h - 48 - a.e = omega arith in
-    let start : c.minus-start.result ≡ 48 + a.e - a.h = omega arith in
-    let prio : c.wide-3.result ≡ (a.h - 48 - a.e + 256 - (48 + a.e - a.h)) % 256 = omega arith in
+    let x : c.saturating_sub-x.result ≡ a.h - 48 - a.e = omega arith in
+    let start : c.saturating_sub-start.result ≡ 48 + a.e - a.h = omega arith in
+    let prio : c.from-3.result ≡ (a.h - 48 - a.e + 256 - (48 + a.e - a.h)) % 256 = omega arith in
     rw (
       c.weight.ensures.value,
-      mark_at_lem _ c.wide.result c.wide-first.result,
+      mark_at_lem _ c.from.result c.from-first.result,
       prio,
-      c.wide-2.ensures.value,
-      c.wide.ensures.value,
-      c.wide-first.ensures.value,
+      c.from-2.ensures,
+      c.from.ensures,
+      c.from-first.ensures,
       c.visible_end.ensures.value,
       start,
       x,

@@ -3,4 +3,4 @@ use Rattle.tile.proofs.Lanes.{cut_is}
 use Rattle.tile.proofs.cut.Goals as goal
 
 pub returns : goal.returns
-returns c = rw c.wide.ensures.value (cut_is c.args.bits c.args.start c.args.n c.requires)
+returns c = rw c.from.ensures (cut_is c.args.bits c.args.start c.args.n c.requires)

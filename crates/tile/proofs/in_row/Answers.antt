@@ -21,4 +21,4 @@ returns c =
     let e = c.cut.ensures in
     let small : Fits w8 c.cut.result = search rules in
     byte_is _ _ small.fits
-    (λ j h. sym (ap (λ b. bit b j) e ∙ rw c.smaller.ensures (part_room a.width a.x j l h)))
+    (λ j h. sym (ap (λ b. bit b j) e ∙ rw c.min.ensures (part_room a.width a.x j l h)))

@@ -10,22 +10,21 @@ use Rattle.tile.proofs.overlay_some.Goals as goal
 
 pub loop-i-init : goal.loop-i-init
 unfolding overlaid
-loop-i-init c = (omega arith, refl, past_zero _, refl)
+loop-i-init c = (refl, past_zero _, refl)
 
 pub bounds-colours-c : goal.bounds-colours-c
 bounds-colours-c c =
     let l = c.requires.3 c.loop-i.i (omega arith) in omega
-    (arith, past_lane c.args.codes c.loop-i.i c.loop-i.invariant.2, l)
+    (arith, past_lane c.args.codes c.loop-i.i c.loop-i.invariant.1, l)
 
 pub loop-i-preserved : goal.loop-i-preserved
 loop-i-preserved c =
     let v = c.loop-i.invariant in
     let a = c.args in
     let i = c.loop-i.i in (
-      omega arith,
-      overlaid_step _ _ _ _ _ v.1 c.is_set.ensures
-          (ap (λ k. at a.colours.now (16 + k)) (past_lane a.codes i v.2)) c.pixel_set_if.ensures,
+      overlaid_step _ _ _ _ _ v.0 c.is_set.ensures
+          (ap (λ k. at a.colours.now (16 + k)) (past_lane a.codes i v.1)) c.pixel_set_if.ensures,
       past_step a.codes i
-          v.2,
+          v.1,
       omega arith,
     )

@@ -12,12 +12,12 @@ use Rattle.tile.proofs.paint.Goals as goal
 
 pub loop-i-init : goal.loop-i-init
 unfolding painted
-loop-i-init c = (omega arith, refl, past_zero _, refl)
+loop-i-init c = (refl, past_zero _, refl)
 
 pub bounds-some-c : goal.bounds-some-c
 bounds-some-c c =
     let a = c.args in
-    rw (half_length a.colours.now a.palette c.requires.2, past_lane a.codes c.loop-i.i c.loop-i.invariant.2)
+    rw (half_length a.colours.now a.palette c.requires.2, past_lane a.codes c.loop-i.i c.loop-i.invariant.1)
     (c.requires.3 c.loop-i.i (omega arith))
 
 pub loop-i-preserved : goal.loop-i-preserved
@@ -25,6 +25,6 @@ loop-i-preserved c =
     let v = c.loop-i.invariant in
     let a = c.args in
     let i = c.loop-i.i in
-    let e = ap (at (take (a.palette + 16 - a.palette) (drop a.palette a.colours.now))) (past_lane a.codes i v.2) ∙ half_at a.colours.now
+    let e = ap (at (take (a.palette + 16 - a.palette) (drop a.palette a.colours.now))) (past_lane a.codes i v.1) ∙ half_at a.colours.now
     a.palette _ (c.requires.3 i (omega arith)) in
-    (omega arith, painted_step _ _ _ _ v.1 e c.pixel_set_full.ensures, past_step a.codes i v.2, omega arith)
+    (painted_step _ _ _ _ v.0 e c.pixel_set_full.ensures, past_step a.codes i v.1, omega arith)

@@ -11,14 +11,13 @@ use Rattle.tile_codes.proofs.any_high.Goals as goal
 
 pub loop-i-init : goal.loop-i-init
 unfolding any
-loop-i-init c = (omega arith, refl)
+loop-i-init c = refl
 
 pub loop-i-preserved : goal.loop-i-preserved
-loop-i-preserved c =
-    (omega arith, any_step (λ k. ltb 15 (at c.args.codes.now k)) c.loop-i.i c.loop-i.invariant.1)
+loop-i-preserved c = any_step (λ k. ltb 15 (at c.args.codes.now k)) c.loop-i.i c.loop-i.invariant
 
 pub returns : goal.returns
 unfolding any_high
 returns c =
     let e : c.loop-i.i ≡ length c.args.codes.now = omega arith in
-    c.loop-i.invariant.1 ∙ ap (λ (n : _). any n (λ k. ltb 15 (at c.args.codes.now k))) e
+    c.loop-i.invariant ∙ ap (λ (n : _). any n (λ k. ltb 15 (at c.args.codes.now k))) e

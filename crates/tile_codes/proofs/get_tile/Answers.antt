@@ -15,10 +15,9 @@ loop-k-preserved c =
     let l = c.loop-k in
     let s = codes_at (at a.src.now) a.from in
     let h : l.k < length s = omega (arith, codes_long (at a.src.now) a.from) in (
-      omega arith,
       fill_step a.codes.now 0 s l.k (omega arith) h (omega arith)
-          (code_is (at a.src.now) a.from l.k (omega arith) c.code_at.ensures.0) l.invariant.1,
-      simp length-set l.invariant.2,
+          (code_is (at a.src.now) a.from l.k (omega arith) c.code_at.ensures.0) l.invariant.0,
+      simp length-set l.invariant.1,
     )
 
 pub returns : goal.returns
@@ -27,4 +26,4 @@ returns c =
     let l = c.loop-k in
     let h : length a.codes.now ≡ 64 = omega arith in
     let e : l.k ≡ 64 = omega arith in
-    l.invariant.1 ∙ filled_whole a.codes.now (codes_at (at a.src.now) a.from) 64 h (codes_long (at a.src.now) a.from) e
+    l.invariant.0 ∙ filled_whole a.codes.now (codes_at (at a.src.now) a.from) 64 h (codes_long (at a.src.now) a.from) e

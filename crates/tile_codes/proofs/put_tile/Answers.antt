@@ -15,10 +15,9 @@ loop-j-preserved c =
     let l = c.loop-j in
     let s = tile_bytes (λ k. at a.codes.now (a.from + k)) in
     let h : l.j < length s = omega (arith, tile_long (λ k. at a.codes.now (a.from + k))) in (
-      omega arith,
       fill_step a.dst.now a.to s l.j (omega arith) h refl
-          (plane_is a.codes.now a.from l.j (omega arith) c.plane_byte.ensures) l.invariant.1,
-      simp length-set l.invariant.2,
+          (plane_is a.codes.now a.from l.j (omega arith) c.plane_byte.ensures) l.invariant.0,
+      simp length-set l.invariant.1,
     )
 
 pub returns : goal.returns
@@ -27,4 +26,4 @@ returns c =
     let l = c.loop-j in
     let s = tile_bytes (λ k. at a.codes.now (a.from + k)) in
     let e : l.j ≡ length s = omega (arith, tile_long (λ k. at a.codes.now (a.from + k))) in
-    l.invariant.1 ∙ written_whole a.dst.now a.to s e
+    l.invariant.0 ∙ written_whole a.dst.now a.to s e

@@ -17,4 +17,4 @@ returns-then-codes-ne64 c =
 pub returns : goal.returns
 returns c =
     read_0 c.args.vram.now c.args.n c.args.codes.now c.if-vram-ne-VRAM_SIZE.false c.if-n-gt511.false c.if-codes-ne64.false
-    c.get_tile.ensures
+    (rw c.from.ensures at c.get_tile.ensures)

@@ -1,6 +1,6 @@
 -- `tile_codes::sheet` meets its contract: the bytes of a sheet's tiles, or the line `bad`, at the start of out, and how many they are.
-use Prim.Native.Nat.{◌/◌}
-use mathlib.Core.Path.{◌≡◌, refl, sym, ◌∙◌}
+use Prim.Native.Nat.{ℕ, ◌*◌, ◌/◌}
+use mathlib.Core.Path.{◌≡◌, refl, sym, ap, ◌∙◌}
 use mathlib.Core.Bool.{true}
 use native.Mathlib.Omega.{arith}
 use lib.ListN.{length}
@@ -10,7 +10,7 @@ use Rattle.tile_codes.proofs.sheet.Goals as goal
 
 pub loop-n-init : goal.loop-n-init
 loop-n-init c =
-    (omega arith, sheet_none c.args.out.now c.args.input.now, refl, refl)
+    (sheet_none c.args.out.now c.args.input.now, refl)
 
 pub put_tile-requires : goal.put_tile-requires
 put_tile-requires c =
@@ -24,7 +24,7 @@ loop-n-preserved c =
     let l = c.loop-n in
     let good : is_sheet a.input.now ≡ true = sym c.is_sheet.ensures ∙ c.if-not-is_sheet.false in
     let most = sheet_most a.input.now good in
-    (omega arith, sheet_step a.out.now a.input.now l.n (omega arith) l.invariant.1 c.put_tile.ensures, omega arith, l.invariant.3)
+    (sheet_step a.out.now a.input.now l.n (omega arith) l.invariant.0 c.put_tile.ensures, omega arith)
 
 pub returns-clause-sheet_leaves : goal.returns-clause-sheet_leaves
 returns-clause-sheet_leaves c =
@@ -32,7 +32,7 @@ returns-clause-sheet_leaves c =
     let l = c.loop-n in
     let good : is_sheet a.input.now ≡ true = sym c.is_sheet.ensures ∙ c.if-not-is_sheet.false in
     let all : l.n ≡ length a.input.now / 64 = omega arith in
-    is_good a.input.now a.out.now c.if-out-lt8192.false good all refl l.invariant.1
+    is_good a.input.now a.out.now c.if-out-lt8192.false good all (ap (λ (n : ℕ). 32 * n) (sym all)) l.invariant.0
 
 pub returns-clause-upper_bound : goal.returns-clause-upper_bound
 returns-clause-upper_bound c =
@@ -41,7 +41,7 @@ returns-clause-upper_bound c =
     let good : is_sheet a.input.now ≡ true = sym c.is_sheet.ensures ∙ c.if-not-is_sheet.false in
     let all : l.n ≡ length a.input.now / 64 = omega arith in
     good_counted a.input.now a.out.now
-    c.if-out-lt8192.false good all refl l.invariant.1
+    c.if-out-lt8192.false good all (ap (λ (n : ℕ). 32 * n) (sym all)) l.invariant.0
 
 pub returns-then-not-is_sheet-clause-sheet_leaves : goal.returns-then-not-is_sheet-clause-sheet_leaves
 returns-then-not-is_sheet-clause-sheet_leaves c =

@@ -1,5 +1,4 @@
 -- `tile_codes::sheet` meets its contract: the bytes of a sheet's tiles, or the line `bad`, at the start of out, and how many they are.
-use Prim.Native.Nat.{◌-◌, ◌/◌, ◌≤◌}
 use mathlib.Core.Path.{◌≡◌}
 use lib.ListN.{length}
 use Rattle.laws.specs.Lists.{written}
@@ -8,7 +7,4 @@ use Rattle.tile_codes.proofs.sheet.Given as goal
 
 abbrev pub invariant-loop-n : goal.invariant-loop-n
 invariant-loop-n l =
-    (l.n ≤ l.tiles) × (l.out ≡ written l.initial.out 0 (sheet_bytes l.n l.input)) × (length l.out ≡ length l.initial.out) × (l.tiles ≡ length l.input / 64)
-
-abbrev pub decreases-loop-n : goal.decreases-loop-n
-decreases-loop-n l = l.tiles - l.n
+    (l.out ≡ written l.initial.out 0 (sheet_bytes l.n l.input)) × (length l.out ≡ length l.initial.out)

@@ -23,4 +23,5 @@ returns-then-any_high c =
 pub returns : goal.returns
 returns c =
     write_0 c.args.vram.now c.args.n c.args.codes.now c.if-vram-ne-VRAM_SIZE.false c.if-n-gt511.false c.if-codes-ne64.false
-    (sym c.any_high.ensures ∙ c.if-any_high.false) c.put_tile.ensures
+    (sym c.any_high.ensures ∙ c.if-any_high.false)
+    (rw c.from.ensures at c.put_tile.ensures)

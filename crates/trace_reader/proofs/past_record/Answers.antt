@@ -14,4 +14,4 @@ overflow_add-result c =
 
 pub returns : goal.returns
 unfolding past
-returns c = rw (c.size_of.ensures.value, c.record_at-call.ensures)
+returns c = rw (c.from.ensures, c.size_of.ensures.value, c.record_at-call.ensures)

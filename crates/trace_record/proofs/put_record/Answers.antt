@@ -5,10 +5,10 @@ use Rattle.trace_record.proofs.put_record.Goals as goal
 pub returns-clause-record_leaves : goal.returns-clause-record_leaves
 returns-clause-record_leaves c =
     left_stored c.args.recording.now c.args.used c.args.call c.size_of-count.ensures.value
-    c.has_room.ensures c.if-not-has_room.false c.bytes_of-bytes.result
-    c.bytes_of-bytes.ensures c.put_all.ensures.out_after
+    (rw c.from-size.ensures at c.has_room.ensures) c.if-not-has_room.false c.bytes_of-bytes.result
+    c.bytes_of-bytes.ensures (rw c.from-size.ensures at c.put_all.ensures.out_after)
 
 pub returns-then-not-has_room-clause-record_leaves : goal.returns-then-not-has_room-clause-record_leaves
 returns-then-not-has_room-clause-record_leaves c =
-    left_full c.args.recording.now c.args.used c.args.call c.size_of-count.ensures.value c.has_room.ensures
+    left_full c.args.recording.now c.args.used c.args.call c.size_of-count.ensures.value (rw c.from-size.ensures at c.has_room.ensures)
     c.if-not-has_room.true

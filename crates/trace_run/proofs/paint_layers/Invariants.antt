@@ -1,7 +1,5 @@
 -- `trace_run::paint_layers` meets its contract: the layers of a row as colours, into its place in the frame.
 use mathlib.Core.Path.{◌≡◌}
-use Prim.Native.Nat.{◌-◌, ◌≤◌}
-use lib.ListN.{length}
 use Rattle.laws.specs.Lists.{at}
 use Rattle.laws.specs.Paint.{painted}
 use Rattle.trace_run.specs.Run.{layer_colour}
@@ -9,7 +7,4 @@ use Rattle.trace_run.proofs.paint_layers.Given as goal
 
 abbrev pub invariant-loop-x : goal.invariant-loop-x
 invariant-loop-x l =
-    (l.x ≤ 160) × (l.frame ≡ painted l.initial.frame l.first l.x (λ k. layer_colour (at l.layers k))) × (length l.frame ≡ length l.initial.frame)
-
-abbrev pub decreases-loop-x : goal.decreases-loop-x
-decreases-loop-x l = 160 - l.x
+    (l.frame ≡ painted l.initial.frame l.first l.x (λ k. layer_colour (at l.layers k)))

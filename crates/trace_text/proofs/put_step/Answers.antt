@@ -2,18 +2,11 @@
 use Rattle.trace_text.proofs.Lines.{put_as, step_line}
 use Rattle.trace_text.proofs.put_step.Goals as goal
 
-pub returns-clause-value : goal.returns-clause-value
-returns-clause-value c =
+pub returns : goal.returns
+returns c =
     let a = c.args in
     let whole = put_as a.out.now a.at
     (step_line a.refusal a.counter a.interrupt a.report c.hex_digit-high.ensures c.hex_digit-low.ensures
-    (c.interrupt_number-i.ensures.value, c.interrupt_number-i.ensures.upper_bound) (c.report_number-d.ensures.value, c.report_number-d.ensures.upper_bound))
-    (c.put_line.ensures.value, c.put_line.ensures.out_after) in whole.0
-
-pub returns-clause-out_after : goal.returns-clause-out_after
-returns-clause-out_after c =
-    let a = c.args in
-    let whole = put_as a.out.now a.at
-    (step_line a.refusal a.counter a.interrupt a.report c.hex_digit-high.ensures c.hex_digit-low.ensures
-    (c.interrupt_number-i.ensures.value, c.interrupt_number-i.ensures.upper_bound) (c.report_number-d.ensures.value, c.report_number-d.ensures.upper_bound))
-    (c.put_line.ensures.value, c.put_line.ensures.out_after) in whole.1
+    c.from-i.ensures c.from-d.ensures)
+    (c.put_line.ensures.value, c.put_line.ensures.out_after) in
+    record { value = whole.0; out_after = whole.1 }

@@ -5,4 +5,4 @@ use Rattle.home.proofs.HomeState.input.Goals as goal
 pub returns : goal.returns
 unfolding port_read
 returns c =
-    simp c.read-got.ensures
+    simp c.read-read.ensures

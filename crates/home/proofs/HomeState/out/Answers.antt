@@ -24,7 +24,7 @@ module _ (h : HomeState) (m : List ℕ) (p v : ℕ) {r : FrontWritten} (w : r �
   to_palette : r.palette ≡ true → palette_write (with_front h r.front) v ≡ (port_write h m p v).answer
   to_palette t = rw t at told
 
-  to_front : r.palette ≡ false → answered r.refusal (with_front h r.front) ≡ (port_write h m p v).answer
+  to_front : r.palette ≡ false → answered r.outcome (with_front h r.front) ≡ (port_write h m p v).answer
   to_front t = rw t at told
 
 pub write_palette-requires : goal.write_palette-requires

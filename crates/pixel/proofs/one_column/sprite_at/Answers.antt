@@ -1,5 +1,5 @@
 -- `pixel::one_column::sprite_at` meets its contract: the column with the sprite whose X byte stands at k, its tile behind it, and of which line d is shown.
-use Rattle.std.proofs.Common.{◌≡◌, ◌+◌, ◌-◌, ◌%◌, ◌<◌, ◌≤◌, min, refl}
+use Rattle.std.proofs.Common.{◌≡◌, ◌+◌, ◌-◌, ◌%◌, ◌≤◌, min, refl, w8, Fits, rules}
 use Rattle.laws.specs.Lists.{at}
 use Rattle.laws.proofs.Bits.{bit_number}
 use Rattle.stand.specs.Stand.{stand_of}
@@ -13,14 +13,14 @@ returns-then-far-col c =
     let a = c.args in
     let h = at a.vram.now a.k in
     let s = stand_of a.screen a.e h in
-    let low : h < 256 = rw c.wide.ensures.value at c.wide.ensures.upper_bound in
+    let fit : Fits w8 h = search rules in
     let sh = c.requires.shifts in
     let far : 15 - min a.col 7 ≤ (a.col + ahead_of a.screen a.e + 256 - h) % 256 = rw
-    (c.wide.ensures.value, sh.ahead, c.smaller-far.ensures) at c.if-far-col.true in
+    (c.from.ensures, sh.ahead, c.min-far.ensures) at c.if-far-col.true in
     let t : Tied a.shift.off (back_of a.screen s.start) s = rw sh.off (tied a.screen a.e h c.requires.k_bound.1) in
     λ f q pe w. column_far a.vram.now a.b s (sprite_line (at a.reg) (at a.vram.now (a.k + 1)) a.d) a.col a.shift.off
     (back_of a.screen s.start) (end_low a.screen a.e h)
-    (λ j l. rw sh.off (far_at a.e h a.col j c.requires.k_bound.1 low c.requires.k_bound.3 l a.screen far)) f q a.under
+    (λ j l. rw sh.off (far_at a.e h a.col j c.requires.k_bound.1 fit.fits c.requires.k_bound.3 l a.screen far)) f q a.under
     t c.requires.k_bound.3 pe w
 
 pub returns : goal.returns

@@ -2,7 +2,7 @@
 use Rattle.trace_run.proofs.Outputs.{a_picture}
 use Rattle.trace_run.proofs.output.has_room.Goals as goal
 
-pub returns : goal.returns
-returns c =
+pub returns-then-count-out : goal.returns-then-count-out
+returns-then-count-out c =
     let a = c.args in
-    a_picture a.screen a.frame a.out c.pixel_count-count.ensures.0 c.if-out-count.false
+    a_picture a.screen a.frame a.out c.pixel_count-count.ensures.0 c.if-count-out.true

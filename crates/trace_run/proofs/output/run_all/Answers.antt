@@ -12,17 +12,17 @@ pub loop-i-init : goal.loop-i-init
 unfolding after
 loop-i-init c =
     let a = c.args in
-    (omega arith, (λ j. held (record { device = a.device; at = 0; count = 0 }) a.vram.now a.row.now a.frame.now), refl, refl, refl)
+    λ j. held (record { device = a.device; at = 0; count = 0 }) a.vram.now a.row.now a.frame.now
 
-pub turn-turned-requires : goal.turn-turned-requires
-turn-turned-requires c =
+pub turn-requires : goal.turn-requires
+turn-requires c =
     let a = c.args in
     let s = a.input.now in
     let w = start a.device a.vram.now a.row.now a.frame.now in
     let t = turn_for a.shown in
     let l = c.loop-i in
-    let g = ran_small (moves_for a.shown) l.i s w l.invariant.1 refl refl in
-    (omega (arith, g.inside, c.requires.0), omega (arith, g.inside, g.counted, c.requires.0), omega (arith, c.requires.1, l.invariant.4))
+    let g = ran_small (moves_for a.shown) l._i s w l.invariant refl refl in
+    (omega (arith, g.inside, c.requires.0), omega (arith, g.inside, g.counted, c.requires.0), omega (arith, c.requires.1, l.auto.frame))
 
 pub loop-i-preserved : goal.loop-i-preserved
 loop-i-preserved c =
@@ -31,13 +31,7 @@ loop-i-preserved c =
     let w = start a.device a.vram.now a.row.now a.frame.now in
     let t = turn_for a.shown in
     let l = c.loop-i in
-    let k = c.turn-turned in (
-      omega (arith, c.loop-i-test.true),
-      world_more t s w l.i l.invariant.1 k.ensures,
-      k.auto.vram ∙ l.invariant.2,
-      k.auto.row ∙ l.invariant.3,
-      k.auto.frame ∙ l.invariant.4,
-    )
+    world_more t s w l._i l.invariant c.turn.ensures
 
 pub returns : goal.returns
 unfolding ran
@@ -47,5 +41,5 @@ returns c =
     let w = start a.device a.vram.now a.row.now a.frame.now in
     let t = turn_for a.shown in
     let l = c.loop-i in
-    let all : l.i ≡ length s = omega (arith, l.invariant.0, c.loop-i-test.false) in
-    ran_leaves {x = held l.run l.vram l.row l.frame} (l.invariant.1 ∙ ap (λ (k : ℕ). after t k s w) all)
+    let all : l._i ≡ length s = omega arith in
+    ran_leaves {x = held l.run l.vram l.row l.frame} (l.invariant ∙ ap (λ (k : ℕ). after t k s w) all)

@@ -42,9 +42,9 @@ put_picture-requires c =
     let y = roomy c.screen_for-screen.result (length a.frame.now) (length a.out.now) e in
     (y.room, omega (arith, y.whole, c.run_all-at.auto.frame))
 
-pub returns-clause-picture_leaves : goal.returns-clause-picture_leaves
+pub returns : goal.returns
 unfolding ran
-returns-clause-picture_leaves c =
+returns c =
     let a = c.args in
     let s = a.input.now in
     let o = a.out.now in
@@ -58,22 +58,7 @@ returns-clause-picture_leaves c =
     let f = c.put_picture in
     let g = rw (q, l.place, l.picture) at f.ensures in
     let x = ran t s w in
-    same_leaves l (snapshot_leaves t x (snapshot_whole t s w o h c.if-input-gt-LONGEST.false refl (g.value, g.out_after)))
-
-pub returns-clause-upper_bound : goal.returns-clause-upper_bound
-unfolding ran
-returns-clause-upper_bound c =
-    let a = c.args in
-    let s = a.input.now in
-    let o = a.out.now in
-    let w = start a.device a.vram.now a.row.now a.frame.now in
-    let t = turn_for a.shown in
-    let q = c.screen_for-screen.ensures in
-    let e = rw q at c.has_room.ensures in
-    let h = sym e ∙ c.if-not-has_room.false in
-    let y = roomy (screen_for a.device.machine) (length a.frame.now) (length o) h in
-    let l = c.run_all-at.ensures in
-    let f = c.put_picture in
-    let g = rw (q, l.place, l.picture) at f.ensures in
-    let x = ran t s w in
-    lent_in f.result f.new.out g.value (drawn_short (screen_for a.device.machine) s x.run.at x.frame) y.room f.auto.out
+    record {
+      picture_leaves = same_leaves l (snapshot_leaves t x (snapshot_whole t s w o h c.if-input-gt-LONGEST.false refl (g.value, g.out_after)));
+      upper_bound = lent_in f.result f.new.out g.value (drawn_short (screen_for a.device.machine) s x.run.at x.frame) y.room f.auto.out;
+    }

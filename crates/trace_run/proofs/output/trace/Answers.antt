@@ -39,14 +39,9 @@ loop-i-init c =
     let s = a.input.now in
     let o = a.out.now in
     let w = start a.device a.vram.now a.row.now [] in (
-      omega arith,
       (λ j. held (record { device = a.device; at = 0; count = 0 }) a.vram.now a.row.now []),
       refl,
       sym (written_nil o 0),
-      refl,
-      refl,
-      refl,
-      refl,
     )
 
 pub turn-turned-requires : goal.turn-turned-requires
@@ -58,8 +53,8 @@ turn-turned-requires c =
     let short : length s ≤ 65535 = c.if-input-gt-LONGEST.false in
     let big : 327700 ≤ length o = c.if-out-lt-TEXT_ROOM.false in
     let l = c.loop-i in
-    let e = l.invariant.1 in
-    let g = ran_small row_moves l.i s w e refl refl in
+    let e = l.invariant.0 in
+    let g = ran_small row_moves l._i s w e refl refl in
     (place_fits short g, count_fits short g, omega arith)
 
 pub put_answer-len-requires : goal.put_answer-len-requires
@@ -71,9 +66,9 @@ put_answer-len-requires c =
     let short : length s ≤ 65535 = c.if-input-gt-LONGEST.false in
     let big : 327700 ≤ length o = c.if-out-lt-TEXT_ROOM.false in
     let l = c.loop-i in
-    let e = l.invariant.1 in
-    let g = ran_small row_moves l.i s w e refl refl in
-    line_fits short g big l.invariant.2 l.invariant.6
+    let e = l.invariant.0 in
+    let g = ran_small row_moves l._i s w e refl refl in
+    line_fits short g big l.invariant.1 l.auto.out
 
 pub loop-i-preserved : goal.loop-i-preserved
 loop-i-preserved c =
@@ -84,20 +79,15 @@ loop-i-preserved c =
     let short : length s ≤ 65535 = c.if-input-gt-LONGEST.false in
     let big : 327700 ≤ length o = c.if-out-lt-TEXT_ROOM.false in
     let l = c.loop-i in
-    let e = l.invariant.1 in
-    let g = ran_small row_moves l.i s w e refl refl in
+    let e = l.invariant.0 in
+    let g = ran_small row_moves l._i s w e refl refl in
     let t = c.turn-turned in
     let p = c.put_answer-len in
     let room = text_fits short g big in
-    let m = text_more row_turn s w l.i e o t.ensures room l.invariant.2 l.invariant.3 (p.ensures.value, p.ensures.out_after) in (
-      omega (arith, c.loop-i-test.true),
-      world_more row_turn s w l.i e t.ensures,
+    let m = text_more row_turn s w l._i e o t.ensures room l.invariant.1 l.invariant.2 (p.ensures.value, p.ensures.out_after) in (
+      world_more row_turn s w l._i e t.ensures,
       m.0,
       m.1,
-      t.auto.vram ∙ l.invariant.4,
-      t.auto.row ∙ l.invariant.5,
-      p.auto.out ∙ l.invariant.6,
-      t.auto.frame ∙ l.invariant.7,
     )
 
 pub put_last-requires : goal.put_last-requires
@@ -109,12 +99,12 @@ put_last-requires c =
     let short : length s ≤ 65535 = c.if-input-gt-LONGEST.false in
     let big : 327700 ≤ length o = c.if-out-lt-TEXT_ROOM.false in
     let l = c.loop-i in
-    let e = l.invariant.1 in
-    let g = ran_small row_moves l.i s w e refl refl in
-    last_fits short g big l.invariant.2 l.invariant.6
+    let e = l.invariant.0 in
+    let g = ran_small row_moves l._i s w e refl refl in
+    last_fits short g big l.invariant.1 l.auto.out
 
-pub returns-clause-trace_leaves : goal.returns-clause-trace_leaves
-returns-clause-trace_leaves c =
+pub returns : goal.returns
+returns c =
     let a = c.args in
     let s = a.input.now in
     let o = a.out.now in
@@ -122,36 +112,18 @@ returns-clause-trace_leaves c =
     let short : length s ≤ 65535 = c.if-input-gt-LONGEST.false in
     let big : 327700 ≤ length o = c.if-out-lt-TEXT_ROOM.false in
     let l = c.loop-i in
-    let e = l.invariant.1 in
-    let g = ran_small row_moves l.i s w e refl refl in
+    let e = l.invariant.0 in
+    let g = ran_small row_moves l._i s w e refl refl in
     let f = c.put_last in
-    let all : l.i ≡ length s = omega (arith, l.invariant.0, c.loop-i-test.false) in
+    let all : l._i ≡ length s = omega arith in
     let x = held l.run l.vram l.row l.none in
     let ex : x ≡ after row_turn (length s) s w = e ∙ ap (λ (k : ℕ). after row_turn k s w) all in
     let room : length (lines row_turn (length s) s w) ≤ length o = rw all at (text_fits short g big) in
-    let en = l.invariant.2 ∙ ap (λ (k : ℕ). length (lines row_turn k s w)) all in
-    let eo = l.invariant.3 ∙ ap (λ (k : ℕ). written o 0 (lines row_turn k s w)) all in
+    let en = l.invariant.1 ∙ ap (λ (k : ℕ). length (lines row_turn k s w)) all in
+    let eo = l.invariant.2 ∙ ap (λ (k : ℕ). written o 0 (lines row_turn k s w)) all in
     let t = text_whole s w ex o room en eo (f.ensures.value, f.ensures.out_after) in
-    trace_leaves x (trace_whole s w o big short ex t)
-
-pub returns-clause-upper_bound : goal.returns-clause-upper_bound
-returns-clause-upper_bound c =
-    let a = c.args in
-    let s = a.input.now in
-    let o = a.out.now in
-    let w = start a.device a.vram.now a.row.now [] in
-    let short : length s ≤ 65535 = c.if-input-gt-LONGEST.false in
-    let big : 327700 ≤ length o = c.if-out-lt-TEXT_ROOM.false in
-    let l = c.loop-i in
-    let e = l.invariant.1 in
-    let g = ran_small row_moves l.i s w e refl refl in
-    let f = c.put_last in
-    let all : l.i ≡ length s = omega (arith, l.invariant.0, c.loop-i-test.false) in
-    let x = held l.run l.vram l.row l.none in
-    let ex : x ≡ after row_turn (length s) s w = e ∙ ap (λ (k : ℕ). after row_turn k s w) all in
-    let room : length (lines row_turn (length s) s w) ≤ length o = rw all at (text_fits short g big) in
-    let en = l.invariant.2 ∙ ap (λ (k : ℕ). length (lines row_turn k s w)) all in
-    let eo = l.invariant.3 ∙ ap (λ (k : ℕ). written o 0 (lines row_turn k s w)) all in
-    let t = text_whole s w ex o room en eo (f.ensures.value, f.ensures.out_after) in
-    lent_behind f.result f.new.out l.len f.ensures.value (last_short s l.run.at l.run.count) (last_fits short g big l.invariant.2 l.invariant.6)
-    f.auto.out
+    record {
+      trace_leaves = trace_leaves x (trace_whole s w o big short ex t);
+      upper_bound = lent_behind f.result f.new.out l.len f.ensures.value (last_short s l.run.at l.run.count) (last_fits short g big l.invariant.1 l.auto.out)
+          f.auto.out;
+    }

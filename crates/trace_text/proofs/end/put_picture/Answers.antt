@@ -8,30 +8,16 @@ use Rattle.trace_text.specs.End.{drawn}
 use native.Mathlib.Nat.{zero-add}
 use Rattle.trace_text.proofs.end.put_picture.Goals as goal
 
-pub returns-then-input-stopped-clause-value : goal.returns-then-input-stopped-clause-value
-returns-then-input-stopped-clause-value c =
+pub returns-then-input-stopped : goal.returns-then-input-stopped
+returns-then-input-stopped c =
     let a = c.args in
     let q = drawn_end a.screen a.input.now a.stopped a.frame.now c.if-input-stopped.true in
     let p = c.put_ppm.ensures in
-    p.value ∙ ap length q
+    record { value = p.value ∙ ap length q; out_after = p.out_after ∙ ap (written a.out.now 0) q }
 
-pub returns-then-input-stopped-clause-out_after : goal.returns-then-input-stopped-clause-out_after
-returns-then-input-stopped-clause-out_after c =
-    let a = c.args in
-    let q = drawn_end a.screen a.input.now a.stopped a.frame.now c.if-input-stopped.true in
-    let p = c.put_ppm.ensures in
-    p.out_after ∙ ap (written a.out.now 0) q
-
-pub returns-clause-value : goal.returns-clause-value
-returns-clause-value c =
+pub returns : goal.returns
+returns c =
     let a = c.args in
     let g = put_as a.out.now 0 (drawn_bad a.screen a.input.now a.stopped a.frame.now c.if-input-stopped.false)
     (c.put_numbered.ensures.value, c.put_numbered.ensures.out_after) in
-    g.0 ∙ zero-add (length (drawn a.screen a.input.now a.stopped a.frame.now))
-
-pub returns-clause-out_after : goal.returns-clause-out_after
-returns-clause-out_after c =
-    let a = c.args in
-    let g = put_as a.out.now 0 (drawn_bad a.screen a.input.now a.stopped a.frame.now c.if-input-stopped.false)
-    (c.put_numbered.ensures.value, c.put_numbered.ensures.out_after) in
-    g.1
+    record { value = g.0 ∙ zero-add (length (drawn a.screen a.input.now a.stopped a.frame.now)); out_after = g.1 }

@@ -1,13 +1,9 @@
 -- `trace_text::end::put_ppm` meets its contract: the picture of a frame: red, green and blue of each pixel, behind the header.
 use mathlib.Core.Path.{◌≡◌}
-use Prim.Native.Nat.{◌+◌, ◌-◌, ◌*◌, ◌≤◌}
-use lib.ListN.{length}
+use Prim.Native.Nat.{◌+◌, ◌*◌}
 use Rattle.laws.specs.Lists.{written}
 use Rattle.trace_text.specs.End.{pixels}
 use Rattle.trace_text.proofs.end.put_ppm.Given as goal
 
 abbrev pub invariant-loop-i : goal.invariant-loop-i
-invariant-loop-i l = (l.i ≤ l.count) × (l.at ≡ 15 + 3 * l.i) × (l.out ≡ written l.initial.out 15 (pixels l.i l.frame)) × (length l.out ≡ length l.initial.out)
-
-abbrev pub decreases-loop-i : goal.decreases-loop-i
-decreases-loop-i l = l.count - l.i
+invariant-loop-i l = (l.at ≡ 15 + 3 * l.i) × (l.out ≡ written l.initial.out 15 (pixels l.i l.frame))

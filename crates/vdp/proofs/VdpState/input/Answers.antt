@@ -5,4 +5,4 @@ use Rattle.vdp.proofs.VdpState.input.Goals as goal
 pub returns : goal.returns
 unfolding port_read
 returns c =
-    simp (c.with_front.ensures, c.read-got.ensures, c.front-front.ensures)
+    simp (c.with_front.ensures, c.read-read.ensures, c.front.ensures)

@@ -25,26 +25,26 @@ module _ (s : VdpState) (m : List ℕ) (p v : ℕ) {f : Front} {r : FrontWritten
   to_palette : r.palette ≡ true → palette_write (with_front s r.front) v ≡ (port_write s m p v).answer
   to_palette t = rw t at told
 
-  to_front : r.palette ≡ false → answered r.refusal (with_front s r.front) ≡ (port_write s m p v).answer
+  to_front : r.palette ≡ false → answered r.outcome (with_front s r.front) ≡ (port_write s m p v).answer
   to_front t = rw t at told
 
 pub write_palette-requires : goal.write_palette-requires
 write_palette-requires c =
-    rw c.with_front-vdp.ensures (inside 64 _ _ _ _ _ c.write-sent.ensures.answer c.if-sent.true)
+    rw c.with_front-device.ensures (inside 64 _ _ _ _ _ c.write-sent.ensures.answer c.if-sent.true)
 
 pub returns-then-sent : goal.returns-then-sent
 returns-then-sent c =
     let w = c.write-sent.ensures in
     record {
-      answer = rw (c.write_palette.ensures, c.with_front-vdp.ensures)
-          (to_palette c.args.self _ _ _ c.front-front.ensures w.answer c.if-sent.true);
-      memory = memory c.args.self _ _ _ c.front-front.ensures w.answer w.memory;
+      answer = rw (c.write_palette.ensures, c.with_front-device.ensures)
+          (to_palette c.args.self _ _ _ c.front.ensures w.answer c.if-sent.true);
+      memory = memory c.args.self _ _ _ c.front.ensures w.answer w.memory;
     }
 
 pub returns : goal.returns
 returns c =
     let w = c.write-sent.ensures in
     record {
-      answer = rw c.with_front-vdp.ensures (to_front c.args.self _ _ _ c.front-front.ensures w.answer c.if-sent.false);
-      memory = memory c.args.self _ _ _ c.front-front.ensures w.answer w.memory;
+      answer = rw c.with_front-device.ensures (to_front c.args.self _ _ _ c.front.ensures w.answer c.if-sent.false);
+      memory = memory c.args.self _ _ _ c.front.ensures w.answer w.memory;
     }

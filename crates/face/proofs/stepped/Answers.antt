@@ -1,0 +1,38 @@
+-- `face::stepped` meets its contract: a step, whose row goes to its target.
+use native.Mathlib.Omega.{arith}
+use lib.ListN.{length}
+use Rattle.face.proofs.Steps.{target_fits}
+use Rattle.face.proofs.Laws.{room, colours_room, points_room, kept}
+use Rattle.face.proofs.stepped.Goals as goal
+
+pub registers-reg-requires : goal.registers-reg-requires
+registers-reg-requires c = room c.args.state.now c.args.area c.asked-refused.ensures c.if-refused-ne0.false
+
+pub raster_in-raster-requires : goal.raster_in-raster-requires
+raster_in-raster-requires c = room c.args.state.now c.args.area c.asked-refused.ensures c.if-refused-ne0.false
+
+pub colours_of-colours-requires : goal.colours_of-colours-requires
+colours_of-colours-requires c = room c.args.state.now c.args.area c.asked-refused.ensures c.if-refused-ne0.false
+
+pub draw-bits-requires : goal.draw-bits-requires
+draw-bits-requires c =
+    let a = c.args in
+    target_fits a.target a.told c.screen_from-screen.result c.registers-reg.result c.raster_in-raster.result a.vram.now
+    (length a.pixels.now) (length a.layers.now) c.due-due.ensures
+
+pub store_colours-requires : goal.store_colours-requires
+store_colours-requires c = colours_room c.args.state.now c.args.area c.asked-refused.ensures c.if-refused-ne0.false
+
+pub left-requires : goal.left-requires
+left-requires c =
+    points_room c.args.state.now c.args.area c.asked-refused.ensures c.if-refused-ne0.false c.store_colours.new.state
+    c.store_colours.auto.state
+
+pub returns : goal.returns
+returns c =
+    let a = c.args in
+    kept a.state.now a.vram.now a.pixels.now a.area c.asked-refused.ensures c.if-refused-ne0.false
+    (λ i. omega (arith, c.slice_known-1.given i)) c.due-due.result c.screen_from-screen.ensures c.registers-reg.ensures
+    c.raster_in-raster.ensures c.colours_of-colours.ensures c.draw-bits.ensures.value c.store_colours.ensures
+    c.left.ensures.value c.left.ensures.state_after a.target a.told a.layers.now c.due-due.ensures
+    c.draw-bits.ensures.pixels_after c.draw-bits.ensures.layers_after

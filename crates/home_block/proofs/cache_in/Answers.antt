@@ -1,7 +1,0 @@
--- `home_block::cache_in` meets its contract: the palette, and the cached colours.
-use Rattle.home_block.specs.HomeBlock.{state_of}
-use Rattle.home_block.proofs.cache_in.Goals as goal
-
-pub returns : goal.returns
-unfolding state_of
-returns c = c.colours_at.ensures
