@@ -45,7 +45,7 @@ pub fn has_room(table: LineTable, len: usize) -> bool
     }
 }
 
-// Byte 219, the table; a block that has none is of table 0. (No `get`: a number beside a pointer, as an `Option<&u8>` is, lies elsewhere on 32 bits.)
+// Byte 219, the line table; a block without it has table 0. (An index, not `get`: `Option<&u8>` is laid out wrongly on 32-bit targets, docs/DECISIONS.md.)
 fn table_byte(block: &[u8]) -> u8
     ensures { result ≡ at block.now 219 }
 {

@@ -106,7 +106,7 @@ fn copied(block: &[u8]) -> [u8; 220]
     old
 }
 
-// The block mended, and the changed offsets at the start of the list; answered by how many there are.
+// Repairs the block and writes the changed offsets to the start of the list; returns how many there are.
 pub fn repair(block: &mut [u8], list: &mut [u8]) -> Result<usize, Refusal>
     ensures repair_leaves { RepairLeaves block.old list.old result block.new list.new }
     ensures count_le_block_size { (count : ℕ) → result ≡ Ok count → count ≤ block_size }

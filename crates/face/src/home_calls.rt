@@ -81,7 +81,7 @@ fn colours_of(state: &[u8], due: Due) -> [u32; 32]
     }
 }
 
-// A step, whose row goes to its target; the layers, where they are told, go to the first bytes of the layer buffer.
+// One step: its row is written to the target, and its layers, if requested, to the first bytes of the layer buffer.
 fn stepped(
     state: &mut [u8],
     vram: &[u8],

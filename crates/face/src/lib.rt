@@ -130,8 +130,8 @@ fn screen_from(area: u8) -> Screen
     picture::screen_of(picture::area_from(area))
 }
 
-// A step, whose row goes to its target; the layers, where they are told, go to the first bytes of the layer buffer.
-// (`told` beside the buffer, and no `Option<&mut [u8]>`: a clause has no plain word for what is behind one after the call.)
+// One step: its row is written to the target, and its layers, if requested, to the first bytes of the layer buffer.
+// (A flag `told`, not `Option<&mut [u8]>`: a clause cannot say simply what an optional buffer holds after the call.)
 fn stepped(
     state: &mut [u8],
     vram: &[u8],
@@ -213,7 +213,7 @@ pub fn vdp_dump_tileset(state: &[u8], vram: &[u8], pixels: &mut [u8]) -> u32
     word::number(dump::dump_tileset(block::registers(state), &colours, vram, pixels))
 }
 
-// The number of this face, of three parts (include/vdp.h).
+// The version of the C face, in three parts (include/vdp.h).
 const MAJOR: u32 = 4;
 
 const MINOR: u32 = 6;
@@ -293,7 +293,7 @@ pub fn vdp_repair(state: &mut [u8], list: &mut [u8]) -> u32
 
 // ---- records of a recording
 
-// What the writer answers as a word: from bit 8 on the bytes that the record took, or the refusal.
+// The answer word of the writer: the size of the record from bit 8 on, or the refusal.
 fn recorded_word(recorded: Result<u8, Refusal>) -> u32
     ensures { result ≡ counted_word recorded }
 {

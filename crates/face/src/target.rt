@@ -1,5 +1,5 @@
-// Where the row of a step goes, on either machine: to its place in a frame, or to the first bytes of a row buffer. The layers of its columns, where they are
-// told, go to the first bytes of a layer buffer.
+// Where a step writes its row, on either machine: to its place in a frame, or to the first bytes of a row buffer. Layers, if requested, are written to the
+// first bytes of a layer buffer.
 ghost use Rattle.std.specs.Prelude.{◌≡◌, length};
 ghost use Rattle.points.specs.Points.{bits_of};
 ghost use Rattle.points.specs.Bytes.{layers_by};
@@ -18,7 +18,7 @@ pub enum Target {
 }
 
 impl Target {
-    // What the coming step is to do on so many bytes of pixels, with so many of a layer buffer where layers are told.
+    // The plan of the next step, for this many bytes of pixels and, if layers are requested, of the layer buffer.
     pub fn due(
         self,
         told: bool,
@@ -42,7 +42,7 @@ impl Target {
         }
     }
 
-    // The row that is due drawn there, with its layers; answers the status bits that it sets.
+    // Draws the planned row there, with its layers; returns the status bits that it sets.
     pub fn draw(
         self,
         due: Due,

@@ -98,7 +98,7 @@ impl HomeState {
     }
 }
 
-// The machine, by a type of its own as the handheld is.
+// The home machine as a type that implements `Machine`, as `step::Handheld` is.
 pub struct HomeMachine;
 
 impl Machine for HomeMachine {
@@ -120,7 +120,7 @@ impl Machine for HomeMachine {
         home.front.status
     }
 
-    // Made anew from the palette where they are dirty, else the cache as it stands.
+    // Rebuilt from the palette if they are dirty, else the cache.
     fn colours(home: &HomeState) -> [u32; 32] {
         if home.cram_dirty {
             colour::home_palette_recompute(home.cram)
@@ -129,7 +129,7 @@ impl Machine for HomeMachine {
         }
     }
 
-    // Clean colours, if a row was drawn with them.
+    // If a row was drawn, the cache has its colours and is clean.
     fn after(mut home: HomeState, points: Points, colours: [u32; 32]) -> HomeState {
         if points.row.is_some() {
             home.cram_dirty = false;

@@ -1,4 +1,4 @@
-// What is asked of the record of any machine: a step on a frame with its layers.
+// A frame step with layers, for the record of any machine.
 ghost use Rattle.row.specs.Machine.{StepLeaves};
 ghost use Rattle.look.specs.Layers.{FrameLayerPointsLeave};
 

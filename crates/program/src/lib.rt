@@ -46,7 +46,7 @@ fn tell(rt: &HostRuntime, name: &[u8], what: &[u8], error: &Error) {
     say(rt, b"\n");
 }
 
-// What came of it: nothing where it failed, which is told.
+// The value, or None after the error is reported.
 fn told<T>(rt: &HostRuntime, name: &[u8], what: &[u8], came: io::Result<T>) -> Option<T>
     ensures { result ≡ result_ok came }
 {

@@ -1,5 +1,4 @@
-// The handheld's step, by the five points, into a row buffer or into a frame: that of any machine (machine.rt of crate `row`). (What else is asked of its
-// record: crate `look`.)
+// The handheld's step into a row buffer or a frame: the generic step of crate `row` (machine.rt). Other calls on the record are in crate `look`.
 #![tactic(auto)]
 
 ghost use Rattle.std.specs.Prelude.{◌≡◌};
@@ -27,7 +26,7 @@ pub fn colours_of(vdp: VdpState) -> [u32; 32]
     }
 }
 
-// The handheld, by a type of its own: its record is of crate `vdp`, and an impl of another crate's trait has to name a type of this one.
+// The handheld as a type that implements `Machine`: an impl of another crate's trait must name a type of this crate, and the record is defined in `vdp`.
 pub struct Handheld;
 
 impl Machine for Handheld {
@@ -53,7 +52,7 @@ impl Machine for Handheld {
         colours_of(*vdp)
     }
 
-    // Clean colours, if a row was drawn with them.
+    // If a row was drawn, the cache has its colours and is clean.
     fn after(mut vdp: VdpState, points: Points, colours: [u32; 32]) -> VdpState {
         if points.row.is_some() {
             vdp.cram_dirty = false;

@@ -61,7 +61,7 @@ fn get_tile(src: &[u8], from: usize, codes: &mut [u8])
     }
 }
 
-// Whether a code is above 15. (A loop and no `any`: what the toolchain makes of it answers otherwise on a processor of 32 bits.)
+// Whether a code is above 15. (A loop, not `any`: `any` gives wrong answers on 32-bit targets, docs/DECISIONS.md.)
 fn any_high(codes: &[u8]) -> bool
     ensures { result ≡ any_high codes.now }
 {

@@ -10,7 +10,7 @@ ghost use Rattle.trace_record.specs.Writer.{area_number, record_bytes, size, Rec
 use picture::RenderArea;
 use refusal::Refusal;
 
-// What stands at an offset of a recording. The bad record and the end are cases beside the calls, and no Err and no None, since `size_of` and `put_record` take any of the five.
+// The record at an offset of a recording. `Bad` and `End` are cases, not Err or None: `size_of` and `put_record` accept all five.
 #[derive(Clone, Copy)]
 pub enum Record {
     Write(u8, u8),
@@ -136,7 +136,7 @@ fn has_room(length: usize, used: usize, count: usize) -> bool
     used <= length && count <= length - used
 }
 
-// A record into the bytes from offset `used` on, answered by how many it took; without room for it nothing happens.
+// Writes a record at offset `used` and returns its size in bytes; without room for it, nothing is written.
 pub fn put_record(recording: &mut [u8], used: usize, call: Record) -> Result<u8, Refusal>
     ensures record_leaves { RecordLeaves recording.old used call result recording.new }
     ensures count_bound { (count : ℕ) → result ≡ Ok count → count ≤ 4 }

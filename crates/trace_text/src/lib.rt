@@ -1,5 +1,5 @@
 // Numbers and lines as text (R7.10, R7.11).
-// A text is put at a place of a buffer, and the place behind it given: the contracts of `Cursor` and `Write` of std over a slice do not say what the slice holds at the end.
+// Each function writes at an offset of a buffer and returns the offset after it. (Not `Cursor` or `Write`: std's contracts do not say what the slice holds then.)
 #![tactic(auto)]
 
 ghost use Rattle.std.specs.Prelude.{◌≡◌, [], ◌∷◌, ◌+◌, ◌/◌, ◌≤◌, ◌<◌, length, Some};
@@ -11,7 +11,7 @@ pub mod end;
 use points::{DisplayRefresh, VdpInt};
 use trace_record::put_all;
 
-// What a call answers, and its line says: first the number of its refusal. (No Refusal: `put_answer` takes any number.)
+// What a call answers, and its line says: first the number of its refusal. (A number, not a `Refusal`: `put_answer` accepts any number.)
 #[derive(Clone, Copy)]
 pub enum Answer {
     Wrote(u8),
@@ -131,7 +131,7 @@ fn put_step(
     )
 }
 
-// The line of an answer; without one no line.
+// The line of an answer; nothing without one.
 pub fn put_answer(out: &mut [u8], at: usize, answer: Option<Answer>) -> usize
     requires { at + 15 ≤ length out.old }
     ensures value { result ≡ at + length (line_of answer) }
