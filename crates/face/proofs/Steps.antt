@@ -1,11 +1,13 @@
 -- A step of either machine, from what its parts give: the registers, the raster and the status that are read, what is due, the colours, and the points.
 -- Assumes nothing.
-use Rattle.std.specs.Prelude.{Some}
-use mathlib.Core.Path.{◌≡◌}
+use Rattle.std.specs.Prelude.{None, Option, Some}
+use Rattle.std.proofs.lemmas.Option.{none-some}
+use mathlib.Core.Path.{◌≡◌, sym, ◌∙◌}
 use mathlib.Core.Bool.{Bool, true, false}
 use mathlib.Core.List.{List}
 use Prim.Native.Nat.{ℕ}
 use Rattle.picture.specs.declared.Screen.{Screen}
+use Rattle.picture.specs.Picture.{Row}
 use Rattle.picture.specs.Screen.{columns}
 use Rattle.raster.specs.declared.Raster.{Raster}
 use Rattle.refusal.specs.Refusals.{Line, under}
@@ -27,6 +29,24 @@ target_fits to.Frame false z reg raster m size layers e = frame_due_fits z reg r
 target_fits to.Frame true z reg raster m size layers e = frame-layers_fit z reg raster m size (columns z) layers e
 target_fits to.Row false z reg raster m size layers e = row_due_fits z reg raster m size e
 target_fits to.Row true z reg raster m size layers e = row_layers_fit z reg raster m size (columns z) layers e
+
+-- where no row is drawn, no status bit is set, and pixels and layers stay
+module _ {r : Option ℕ} (e : r ≡ None) (s : Screen) where
+  pub not_due : {A : Type 0} (y : ℕ) → r ≡ Some y → A
+  not_due y h = absurd (none-some y (sym e ∙ h))
+
+  pub undrawn_bits : (picture : ℕ → Row) → 0 ≡ bits_of r picture
+  unfolding bits_of
+  undrawn_bits picture = rw e
+
+  pub undrawn : (t : Target) (colours : List ℕ) (picture : ℕ → Row) (x : List ℕ) → x ≡ drawn t r s colours picture x
+  unfolding row_with frame_with
+  undrawn to.Frame colours picture x = rw e
+  undrawn to.Row colours picture x = rw e
+
+  pub undrawn_layers : (layer : ℕ → ℕ → ℕ) (layers : List ℕ) → layers ≡ layers_by r s layer layers
+  unfolding layers_by
+  undrawn_layers layer layers = rw e
 
 module _ (ls : List Line) (z : Screen) (m : List ℕ) (k : Reading) {reg : List ℕ} {raster : Raster} {status : ℕ} {d : Due} {colours : List ℕ} {p : Points}
     (eg : reg ≡ k.reg) (et : raster ≡ k.raster) (eu : status ≡ k.status) (ec : (y : ℕ) → d.row ≡ Some y → colours ≡ k.colours)

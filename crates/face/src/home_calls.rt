@@ -81,7 +81,8 @@ fn colours_of(state: &[u8], due: Due) -> [u32; 32]
     }
 }
 
-// One step: its row is written to the target, and its layers, if requested, to the first bytes of the layer buffer.
+// One step: its row is written to the target, and its layers, if requested, to the first bytes of the layer buffer. (Inlined, as the handheld's is.)
+#[inline(always)]
 fn stepped(
     state: &mut [u8],
     vram: &[u8],
@@ -100,6 +101,10 @@ fn stepped(
     let reg = home_block::registers(state);
     let raster = home_block::raster_in(state);
     let due = target.due(told, reg, raster, vram, pixels.len(), layers.len(), screen);
+    // Where no row is drawn, no colours are made, read or stored.
+    let Some(_) = due.row else {
+        return left(due, 0, state, home_block::VERTICAL_SCROLL);
+    };
     let colours = colours_of(state, due);
     let bits = target.draw(due, reg, &colours, vram, pixels, layers, screen);
     store_colours(state, due, &colours, home_block::DIRTY, home_block::CACHE);

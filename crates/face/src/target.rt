@@ -17,8 +17,10 @@ pub enum Target {
     Row,
 }
 
+// Both are inlined into `stepped` of either machine, and with it into the calls, where the target is a constant.
 impl Target {
     // The plan of the next step, for this many bytes of pixels and, if layers are requested, of the layer buffer.
+    #[inline(always)]
     pub fn due(
         self,
         told: bool,
@@ -43,6 +45,7 @@ impl Target {
     }
 
     // Draws the planned row there, with its layers; returns the status bits that it sets.
+    #[inline(always)]
     pub fn draw(
         self,
         due: Due,

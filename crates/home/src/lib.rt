@@ -98,8 +98,8 @@ impl HomeState {
     }
 }
 
-// The home machine as a type that implements `Machine`, as `step::Handheld` is.
-pub struct HomeMachine;
+// The home machine as a type that implements `Machine`, as `step::Handheld` is. It is private, since no call on the record tells layers (R20.8).
+struct HomeMachine;
 
 impl Machine for HomeMachine {
     type Device = HomeState;

@@ -173,7 +173,9 @@ fn read_status(block: &mut [u8]) -> Result<u8, Refusal>
     Ok(byte)
 }
 
-// A port write on a machine with this many bytes of palette, tested in the order of R2.4.
+// A port write on a machine with this many bytes of palette, tested in the order of R2.4. (Inlined into
+// `block_ports::out` and `home_block::out`: its answer is then not passed through memory.)
+#[inline(always)]
 pub fn write(block: &mut [u8], vram: &mut [u8], palette: u16, port: u16, val: u8) -> Sent
     requires front_formed { FrontFormed block.old }
     requires palette_size { PaletteSize palette }

@@ -35,8 +35,39 @@ fn frame_size(on: Kind) -> usize
     }
 }
 
+// Writes the picture of what the frame shows. Its buffers are local to this function, since a function clears all its locals at its entry.
+fn draw(
+    rt: &HostRuntime,
+    shown: Shown,
+    on: Kind,
+    name: &[u8],
+    input: &[u8],
+    vram: &mut [u8],
+    row: &mut [u8],
+) {
+    let mut frame = zeros::<HOME_FRAME_SIZE>();
+    let mut picture = zeros::<147_471>();
+    let k = trace_run::output::snapshot(
+        fresh(on),
+        shown,
+        input,
+        vram,
+        row,
+        &mut frame[..frame_size(on)],
+        &mut picture,
+    );
+    program::output(rt, name, &picture[..k]);
+}
+
+// Writes the text of the calls. Its buffer has room for the text of any recording.
+fn print(rt: &HostRuntime, on: Kind, name: &[u8], input: &[u8], vram: &mut [u8], row: &mut [u8]) {
+    let mut text = zeros::<327_700>();
+    let k = trace_run::output::trace(fresh(on), input, vram, row, &mut text);
+    program::output(rt, name, &text[..k]);
+}
+
 // One of these programs, on its device: the picture of what a frame shows, or, where it shows nothing, the text. Its video memory and its row buffer come first
-// (R11.3), then its input, with room for the longest recording and one byte more, and room for the largest frame and its picture, or for the text of any recording.
+// (R11.3), then its input, with room for the longest recording and one byte more.
 pub fn run(rt: &HostRuntime, shown: Shown, on: Kind, name: &[u8], help: &[u8]) {
     let mut vram = [0u8; 16384];
     let mut row = [0u8; 1024];
@@ -44,23 +75,8 @@ pub fn run(rt: &HostRuntime, shown: Shown, on: Kind, name: &[u8], help: &[u8]) {
     let Some(n) = program::input(rt, name, help, &mut input) else {
         return;
     };
-    let device = fresh(on);
-    let Shown::Nothing = shown else {
-        let mut frame = zeros::<HOME_FRAME_SIZE>();
-        let mut picture = zeros::<147_471>();
-        let k = trace_run::output::snapshot(
-            device,
-            shown,
-            &input[..n],
-            &mut vram,
-            &mut row,
-            &mut frame[..frame_size(on)],
-            &mut picture,
-        );
-        program::output(rt, name, &picture[..k]);
-        return;
-    };
-    let mut text = zeros::<327_700>();
-    let k = trace_run::output::trace(device, &input[..n], &mut vram, &mut row, &mut text);
-    program::output(rt, name, &text[..k]);
+    match shown {
+        Shown::Nothing => print(rt, on, name, &input[..n], &mut vram, &mut row),
+        _ => draw(rt, shown, on, name, &input[..n], &mut vram, &mut row),
+    }
 }

@@ -79,11 +79,9 @@ impl State for VdpState {
         self.raster.v_counter
     }
 
-    fn held_in(self, device: Device) -> Device {
-        Device {
-            vdp: self,
-            ..device
-        }
+    fn held_in(self, mut device: Device) -> Device {
+        device.vdp = self;
+        device
     }
 }
 
@@ -96,11 +94,9 @@ impl State for HomeState {
         self.raster.v_counter
     }
 
-    fn held_in(self, device: Device) -> Device {
-        Device {
-            home: self,
-            ..device
-        }
+    fn held_in(self, mut device: Device) -> Device {
+        device.home = self;
+        device
     }
 }
 
@@ -127,18 +123,17 @@ pub struct Turned {
     pub run: Run,
 }
 
-// A call that is made: its answer, and the run one record and some bytes on, with the device that it leaves.
-fn made(run: Run, bytes: usize, answer: Answer, device: Device) -> Turned
+// A call that is made: its answer, and the run one record and some bytes on, with the state that it leaves.
+fn made<D: State>(mut run: Run, bytes: usize, answer: Answer, state: D) -> Turned
     requires { (run.at < 4294967296) × (run.count < 4294967296) × (bytes < 16) }
-    ensures { result ≡ turned (Some answer) (on run bytes device) }
+    ensures { result ≡ turned (Some answer) (on run bytes (D.held_in run.device state)) }
 {
+    run.device = state.held_in(run.device);
+    run.at += bytes;
+    run.count += 1;
     Turned {
         answer: Some(answer),
-        run: Run {
-            device,
-            at: run.at + bytes,
-            count: run.count + 1,
-        },
+        run,
     }
 }
 
@@ -148,7 +143,7 @@ fn wrote<D: State>(run: Run, written: Written<D>) -> Turned
     ensures { result ≡ turned (Some (Answer.Wrote (refusal_number written.outcome))) (on run 4 (D.held_in run.device written.device)) }
 {
     let answer = Answer::Wrote(refusal_number(written.outcome));
-    made(run, 4, answer, written.device.held_in(run.device))
+    made(run, 4, answer, written.device)
 }
 
 // A refused read gives byte 0, as a line says it (R2.3).
@@ -160,7 +155,7 @@ fn gave<D: State>(run: Run, back: ReadBack<D>) -> Turned
         Ok(byte) => Answer::Gave(0, byte),
         Err(refusal) => Answer::Gave(u8::from(refusal), 0),
     };
-    made(run, 3, answer, back.device.held_in(run.device))
+    made(run, 3, answer, back.device)
 }
 
 // A step tells the line that the counter then reads (R7.10).
@@ -174,10 +169,13 @@ fn stepped<D: State>(run: Run, stepped: Stepped<D>) -> Turned
         stepped.interrupt,
         stepped.report,
     );
-    made(run, 3, answer, stepped.device.held_in(run.device))
+    made(run, 3, answer, stepped.device)
 }
 
+// The kinds of turn. None is inlined into `turn`, which would otherwise load the whole run for each byte of a recording, even where no call is made.
+
 // A port write.
+#[inline(never)]
 fn write_turn(run: Run, vram: &mut [u8], port: u8, value: u8) -> Turned
     requires { (run.at < 4294967296) × (run.count < 4294967296) }
     ensures value { result ≡ write_turned run (device_write run.device vram.old port value) }
@@ -191,6 +189,7 @@ fn write_turn(run: Run, vram: &mut [u8], port: u8, value: u8) -> Turned
 }
 
 // A port read.
+#[inline(never)]
 fn read_turn(run: Run, vram: &[u8], port: u8) -> Turned
     requires { (run.at < 4294967296) × (run.count < 4294967296) }
     ensures { result ≡ read_turned run (device_read run.device vram.now port) }
@@ -203,6 +202,7 @@ fn read_turn(run: Run, vram: &[u8], port: u8) -> Turned
 }
 
 // A step into the row buffer.
+#[inline(never)]
 fn row_step_turn(run: Run, vram: &[u8], row: &mut [u8], area: RenderArea) -> Turned
     requires { (run.at < 4294967296) × (run.count < 4294967296) }
     ensures { (frame : List ℕ) → TurnLeaves (row_turn area (held run vram.now row.old frame)) result vram.now row.new frame }
@@ -214,6 +214,7 @@ fn row_step_turn(run: Run, vram: &[u8], row: &mut [u8], area: RenderArea) -> Tur
 }
 
 // A step into the frame.
+#[inline(never)]
 fn frame_step_turn(run: Run, vram: &[u8], frame: &mut [u8], area: RenderArea) -> Turned
     requires { (run.at < 4294967296) × (run.count < 4294967296) }
     ensures { (row : List ℕ) → TurnLeaves (into_frame area (held run vram.now row frame.old)) result vram.now row frame.new }
@@ -254,6 +255,7 @@ fn paint_layers(frame: &mut [u8], drawn: Option<u8>, layers: &[u8; GG_VISIBLE_PI
 }
 
 // A step of an area of the visible size, whose layers the frame shows; the home machine tells none.
+#[inline(never)]
 fn layer_turn(run: Run, vram: &[u8], row: &mut [u8], frame: &mut [u8], area: RenderArea) -> Turned
     requires { (run.at < 4294967296) × (run.count < 4294967296) × (frame_size VisibleOnly ≤ length frame.old) × (columns area ≡ columns VisibleOnly) }
     ensures { TurnLeaves (layers_into area (held run vram.now row.old frame.old)) result vram.now row.new frame.new }

@@ -1,7 +1,10 @@
 -- `face::stepped` meets its contract: a step, whose row goes to its target.
 use native.Mathlib.Omega.{arith}
 use lib.ListN.{length}
-use Rattle.face.proofs.Steps.{target_fits}
+use mathlib.Core.Path.{refl, sym}
+use mathlib.Core.List.{[]}
+use Rattle.face.specs.Steps.{colours_stored}
+use Rattle.face.proofs.Steps.{target_fits, not_due, undrawn_bits, undrawn, undrawn_layers}
 use Rattle.face.proofs.Laws.{room, colours_room, points_room, kept}
 use Rattle.face.proofs.stepped.Goals as goal
 
@@ -24,7 +27,21 @@ pub store_colours-requires : goal.store_colours-requires
 store_colours-requires c = colours_room c.args.state.now c.args.area c.asked-refused.ensures c.if-refused-ne0.false
 
 pub left-requires : goal.left-requires
-left-requires c =
+left-requires c = points_room c.args.state.now c.args.area c.asked-refused.ensures c.if-refused-ne0.false c.args.state.now refl
+
+pub returns-in_default : goal.returns-in_default
+returns-in_default c =
+    let a = c.args in
+    let e = c.in_default.is in
+    kept a.state.now a.vram.now a.pixels.now a.area c.asked-refused.ensures c.if-refused-ne0.false
+    (λ i. omega (arith, c.slice_known-1.given i)) c.due-due.result c.screen_from-screen.ensures c.registers-reg.ensures
+    c.raster_in-raster.ensures (not_due e c.screen_from-screen.result) (undrawn_bits e c.screen_from-screen.result _)
+    (λ i. colours_stored 26 91 (sym e i) [] a.state.now)
+    c.left.ensures.value c.left.ensures.state_after a.target a.told a.layers.now c.due-due.ensures
+    (undrawn e c.screen_from-screen.result a.target _ _ a.pixels.now) (undrawn_layers e c.screen_from-screen.result _ a.layers.now)
+
+pub left-requires-2 : goal.left-requires-2
+left-requires-2 c =
     points_room c.args.state.now c.args.area c.asked-refused.ensures c.if-refused-ne0.false c.store_colours.new.state
     c.store_colours.auto.state
 
@@ -34,5 +51,5 @@ returns c =
     kept a.state.now a.vram.now a.pixels.now a.area c.asked-refused.ensures c.if-refused-ne0.false
     (λ i. omega (arith, c.slice_known-1.given i)) c.due-due.result c.screen_from-screen.ensures c.registers-reg.ensures
     c.raster_in-raster.ensures c.colours_of-colours.ensures c.draw-bits.ensures.value c.store_colours.ensures
-    c.left.ensures.value c.left.ensures.state_after a.target a.told a.layers.now c.due-due.ensures
+    c.left-2.ensures.value c.left-2.ensures.state_after a.target a.told a.layers.now c.due-due.ensures
     c.draw-bits.ensures.pixels_after c.draw-bits.ensures.layers_after

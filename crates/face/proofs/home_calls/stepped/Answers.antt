@@ -1,8 +1,11 @@
 -- `face::home_calls::stepped` meets its contract: a step, whose row goes to its target.
+use mathlib.Core.Path.{refl, sym}
+use mathlib.Core.List.{[]}
 use native.Mathlib.Omega.{arith}
 use lib.ListN.{length}
 use Rattle.picture.specs.declared.Screen.TheVariants.{Home}
-use Rattle.face.proofs.Steps.{target_fits}
+use Rattle.face.specs.Steps.{colours_stored}
+use Rattle.face.proofs.Steps.{target_fits, not_due, undrawn_bits, undrawn, undrawn_layers}
 use Rattle.face.proofs.HomeLaws.{room, colours_room, points_room, kept}
 use Rattle.face.proofs.home_calls.stepped.Goals as goal
 
@@ -25,7 +28,20 @@ pub store_colours-requires : goal.store_colours-requires
 store_colours-requires c = colours_room c.args.state.now c.asked-refused.ensures c.if-refused-ne0.false
 
 pub left-requires : goal.left-requires
-left-requires c =
+left-requires c = points_room c.args.state.now c.asked-refused.ensures c.if-refused-ne0.false c.args.state.now refl
+
+pub returns-in_default : goal.returns-in_default
+returns-in_default c =
+    let a = c.args in
+    let e = c.in_default.is in
+    kept a.state.now a.vram.now a.pixels.now c.asked-refused.ensures c.if-refused-ne0.false
+    (λ i. omega (arith, c.slice_known-1.given i)) c.due-due.result c.registers-reg.ensures
+    c.raster_in-raster.ensures (not_due e Home) (undrawn_bits e Home _) (λ i. colours_stored 24 58 (sym e i) [] a.state.now)
+    c.left.ensures.value c.left.ensures.state_after a.target a.told a.layers.now c.due-due.ensures
+    (undrawn e Home a.target _ _ a.pixels.now) (undrawn_layers e Home _ a.layers.now)
+
+pub left-requires-2 : goal.left-requires-2
+left-requires-2 c =
     points_room c.args.state.now c.asked-refused.ensures c.if-refused-ne0.false c.store_colours.new.state
     c.store_colours.auto.state
 
@@ -35,5 +51,5 @@ returns c =
     kept a.state.now a.vram.now a.pixels.now c.asked-refused.ensures c.if-refused-ne0.false
     (λ i. omega (arith, c.slice_known-1.given i)) c.due-due.result c.registers-reg.ensures
     c.raster_in-raster.ensures c.colours_of-colours.ensures c.draw-bits.ensures.value c.store_colours.ensures
-    c.left.ensures.value c.left.ensures.state_after a.target a.told a.layers.now c.due-due.ensures
+    c.left-2.ensures.value c.left-2.ensures.state_after a.target a.told a.layers.now c.due-due.ensures
     c.draw-bits.ensures.pixels_after c.draw-bits.ensures.layers_after
